@@ -1,0 +1,120 @@
+//! Holding a checker against the original, by 01's rules of comparison, or against the model.
+//!
+//! A checker is anything that prints reports, or `(refused NUMBER LINE)`, for a text.
+
+pub mod command;
+pub mod options;
+pub mod rules;
+pub mod run;
+pub mod shrink;
+
+use crate::{model, oracle};
+
+/// What is printed for a text; the error is one line.
+pub type Checker<'a> = dyn FnMut(&[u8]) -> Result<Vec<u8>, String> + 'a;
+
+/// What the checker is held against.
+#[derive(Clone, Copy, Debug, PartialEq, Eq)]
+pub enum Against {
+    /// The original. Refused texts are counted, not compared.
+    Oracle,
+    /// The model's refusals: number and line, and which texts are accepted.
+    Refusals,
+    /// All that the model prints, byte for byte, 01's order on ties included.
+    Model,
+}
+
+#[derive(Clone, Debug, PartialEq, Eq)]
+pub enum Verdict {
+    /// Refused with this number, and not compared or rightly so.
+    Refused(u32),
+    Exact,
+    /// In some module only loop or no loop was compared.
+    Tied,
+    Different(Difference),
+}
+
+#[derive(Clone, Debug, PartialEq, Eq)]
+pub struct Difference {
+    /// One line.
+    pub what: String,
+    pub checker: Vec<String>,
+    pub other: Vec<String>,
+}
+
+/// With ties the original runs so often: its hash order is random in each map.
+const TIED_RUNS: usize = 8;
+
+/// Runs the checker on one text and compares.
+pub fn judge(checker: &mut Checker, against: Against, text: &[u8]) -> Verdict {
+    let printed = match checker(text) {
+        Ok(printed) => printed,
+        Err(what) => return different(what, Vec::new(), Vec::new()),
+    };
+    let Some(lines) = rules::lines(&printed) else {
+        let lines = vec![String::from_utf8_lossy(&printed).into_owned()];
+        return different("the output has no final line feed".into(), lines, Vec::new());
+    };
+    match against {
+        Against::Oracle => by_oracle(lines, text),
+        Against::Refusals => by_refusals(lines, text),
+        Against::Model => by_model(lines, text),
+    }
+}
+
+fn different(what: String, checker: Vec<String>, other: Vec<String>) -> Verdict {
+    Verdict::Different(Difference {
+        what,
+        checker,
+        other,
+    })
+}
+
+fn by_oracle(lines: Vec<String>, text: &[u8]) -> Verdict {
+    if let Some((number, _)) = rules::refusal(&lines) {
+        return Verdict::Refused(number);
+    }
+    let oracle = match oracle::prepare(text) {
+        Ok(oracle) => oracle,
+        Err(e) => return different(format!("accepted, but the original: {e}"), lines, Vec::new()),
+    };
+    let ties = model::ties(text);
+    let tied = ties.contains(&true);
+    for _ in 0..if tied { TIED_RUNS } else { 1 } {
+        let other = oracle.run();
+        let checked = rules::comparable(&lines, &ties);
+        if let Some(what) = rules::first_difference(&checked, &rules::comparable(&other, &ties)) {
+            return different(what, lines, other);
+        }
+    }
+    if tied {
+        Verdict::Tied
+    } else {
+        Verdict::Exact
+    }
+}
+
+fn by_refusals(lines: Vec<String>, text: &[u8]) -> Verdict {
+    let other = model_lines(text);
+    let (ours, theirs) = (rules::refusal(&lines), rules::refusal(&other));
+    match (ours, theirs) {
+        (Some((number, _)), _) if ours == theirs => Verdict::Refused(number),
+        (None, None) => Verdict::Exact,
+        _ => different("refusals differ".into(), lines, other),
+    }
+}
+
+fn by_model(lines: Vec<String>, text: &[u8]) -> Verdict {
+    let other = model_lines(text);
+    if let Some(what) = rules::first_difference(&lines, &other) {
+        return different(what, lines, other);
+    }
+    match rules::refusal(&lines) {
+        Some((number, _)) => Verdict::Refused(number),
+        None => Verdict::Exact,
+    }
+}
+
+fn model_lines(text: &[u8]) -> Vec<String> {
+    rules::lines(&model::printed(text)).expect("the model ends its lines")
+}

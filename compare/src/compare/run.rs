@@ -1,0 +1,168 @@
+//! Many texts: counting, and showing each difference with a small text.
+
+use super::options::Options;
+use super::rules::refusal;
+use super::shrink::shrink;
+use super::{judge, Against, Checker, Difference, Verdict};
+use crate::{cases, gen, model};
+use std::collections::BTreeMap;
+use std::fmt;
+use std::io::{self, Write};
+
+/// How often the checker is run to make one text smaller.
+const SHRINK_TRIES: usize = 2_000;
+/// So many differences of a profile are made smaller and shown; the others are only named.
+const SHOWN: u64 = 10;
+
+#[derive(Clone, Debug, Default, PartialEq, Eq)]
+pub struct Counts {
+    pub texts: u64,
+    /// By number.
+    pub refused: BTreeMap<u32, u64>,
+    pub exact: u64,
+    pub tied: u64,
+    pub differences: u64,
+}
+
+impl Counts {
+    fn add(&mut self, verdict: &Verdict) {
+        self.texts += 1;
+        match verdict {
+            Verdict::Refused(number) => *self.refused.entry(*number).or_default() += 1,
+            Verdict::Exact => self.exact += 1,
+            Verdict::Tied => self.tied += 1,
+            Verdict::Different(_) => self.differences += 1,
+        }
+    }
+}
+
+impl fmt::Display for Counts {
+    fn fmt(&self, f: &mut fmt::Formatter) -> fmt::Result {
+        let refused: u64 = self.refused.values().sum();
+        write!(f, "texts {}, refused {refused}", self.texts)?;
+        if refused > 0 {
+            let by: Vec<String> = self.refused.iter().map(|(n, c)| format!("{n}: {c}")).collect();
+            write!(f, " ({})", by.join(", "))?;
+        }
+        let (exact, tied, differences) = (self.exact, self.tied, self.differences);
+        write!(f, ", compared exactly {exact}, with ties {tied}, differences {differences}")
+    }
+}
+
+/// The program: all texts that the options name. Gives the number of differences.
+pub fn run(options: &Options, out: &mut dyn Write) -> Result<u64, String> {
+    let mut in_process = |text: &[u8]| Ok(model::printed(text));
+    let mut by_command;
+    let checker: &mut Checker = match &options.checker {
+        None => &mut in_process,
+        Some(command) => {
+            command.try_start()?;
+            by_command = |text: &[u8]| command.print(text);
+            &mut by_command
+        }
+    };
+    let mut differences = 0;
+    if let Some(file) = &options.cases {
+        let bytes = std::fs::read(file).map_err(|e| format!("cannot read {file}: {e}"))?;
+        let cases = cases::read_cases(&bytes).map_err(|e| format!("{file}: {e}"))?;
+        let texts = cases.into_iter().map(|c| (c.name, c.text));
+        differences += compare_all(file, texts, checker, options.against, out)?.differences;
+    } else {
+        for profile in &options.profiles {
+            let texts = generated(options, profile);
+            differences += compare_all(profile, texts, checker, options.against, out)?.differences;
+        }
+    }
+    Ok(differences)
+}
+
+fn generated<'a>(
+    options: &'a Options,
+    profile: &'a str,
+) -> impl Iterator<Item = (String, Vec<u8>)> + 'a {
+    let (seed, from) = (options.seed, options.from);
+    (from..from.saturating_add(options.count)).map_while(move |i| {
+        let text = gen::text(profile, seed, i)?;
+        Some((format!("{profile} {seed} {i}"), text))
+    })
+}
+
+/// Compares on each text, shows the differences and, at the end, the counts under `title`.
+pub fn compare_all(
+    title: &str,
+    texts: impl Iterator<Item = (String, Vec<u8>)>,
+    checker: &mut Checker,
+    against: Against,
+    out: &mut dyn Write,
+) -> Result<Counts, String> {
+    let mut counts = Counts::default();
+    for (name, text) in texts {
+        let verdict = judge(checker, against, &text);
+        counts.add(&verdict);
+        if let Verdict::Different(found) = verdict {
+            let shown = counts.differences <= SHOWN;
+            let small = if shown { smallest(checker, against, &text, &found) } else { None };
+            show(out, &name, &found, small).map_err(cannot_write)?;
+        }
+    }
+    writeln!(out, "{title}: {counts}").map_err(cannot_write)?;
+    Ok(counts)
+}
+
+fn cannot_write(e: io::Error) -> String {
+    format!("cannot write: {e}")
+}
+
+/// A small text that still shows a difference of the same shape, and that difference.
+pub fn smallest(
+    checker: &mut Checker,
+    against: Against,
+    text: &[u8],
+    found: &Difference,
+) -> Option<(Vec<u8>, Difference)> {
+    let sought = shape(text, found);
+    let mut last = None;
+    let small = shrink(text, SHRINK_TRIES, |candidate| {
+        match judge(checker, against, candidate) {
+            Verdict::Different(found) if shape(candidate, &found) == sought => {
+                last = Some(found);
+                true
+            }
+            _ => false,
+        }
+    });
+    last.map(|found| (small, found))
+}
+
+/// The model's number and the checker's refusal: so an accepted text does not shrink to a refused
+/// one on which the checker is wrong in another way.
+fn shape(text: &[u8], found: &Difference) -> (u32, Option<u32>) {
+    let model = model::answer(text, model::PROGRAM_BUFFER).number;
+    (model, refusal(&found.checker).map(|(number, _)| number))
+}
+
+fn show(
+    out: &mut dyn Write,
+    name: &str,
+    found: &Difference,
+    small: Option<(Vec<u8>, Difference)>,
+) -> io::Result<()> {
+    writeln!(out, "difference in {name}: {}", found.what)?;
+    let Some((text, found)) = small else {
+        return Ok(());
+    };
+    writeln!(out, "  smallest text ({})", found.what)?;
+    for line in text.split_inclusive(|&b| b == b'\n') {
+        writeln!(out, "    {}", line.strip_suffix(b"\n").unwrap_or(line).escape_ascii())?;
+    }
+    show_lines(out, "checker", &found.checker)?;
+    show_lines(out, "other", &found.other)
+}
+
+fn show_lines(out: &mut dyn Write, who: &str, lines: &[String]) -> io::Result<()> {
+    writeln!(out, "  {who} prints {} lines", lines.len())?;
+    for line in lines {
+        writeln!(out, "    {line}")?;
+    }
+    Ok(())
+}

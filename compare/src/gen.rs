@@ -1,0 +1,44 @@
+//! The seeded generator of texts, and the stored vectors.
+//!
+//! Text `i` of a profile depends on the profile, the seed and `i` alone.
+
+mod damaged;
+mod expr;
+pub mod limits;
+mod loops;
+mod maker;
+mod plan;
+pub mod rng;
+mod sites;
+mod small;
+mod values;
+
+use rng::Rng;
+
+/// The profiles, in the order in which `gen --list` names them.
+pub const PROFILES: &[&str] =
+    &["small", "sites", "blocks", "loops", "ties", "values", "limits", "damaged"];
+
+/// Text `i` of a profile under a seed; none where there is no such profile.
+pub fn text(profile: &str, seed: u64, i: u64) -> Option<Vec<u8>> {
+    let r = Rng::new(profile, seed, i);
+    let text = match profile {
+        "small" => small::small(r),
+        "sites" => sites::sites(r),
+        "blocks" => small::blocks(r),
+        "loops" => loops::loops(r),
+        "ties" => loops::ties(r),
+        "values" => values::values(r),
+        "limits" => limits::limits(r, i),
+        "damaged" => return Some(damage_one(r, seed, i)),
+        _ => return None,
+    };
+    Some(text.into_bytes())
+}
+
+/// A text of another profile, damaged.
+fn damage_one(mut r: Rng, seed: u64, i: u64) -> Vec<u8> {
+    let from = r.weighted(&[40, 12, 14, 16, 6, 10, 2]);
+    let whole = text(PROFILES[from], seed, i).unwrap_or_default();
+    damaged::damage(r, whole)
+}

@@ -1,0 +1,6 @@
+pub mod Lists
+pub mod Rank
+pub mod Rest
+pub mod Search
+pub mod Sample
+pub mod Numbers

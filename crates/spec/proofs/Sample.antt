@@ -1,0 +1,105 @@
+-- Samples. 0 reads 1 and 2, 1 reads 2, 2 reads nothing: its net rests at 11, 6, 5, and three rounds of any kind reach that.
+-- 3 reads 1 and 2, 2 reads 3: the search reports the closed walk 3 2 3.
+-- Assumes nothing.
+use Prim.Native.Nat.{ℕ, zero, suc, _+_, _<_}
+use native.Mathlib.Decide.{ℕ-discrete}
+use native.Mathlib.Omega.{arith}
+use mathlib.Core.Path.{_≡_, refl}
+use mathlib.Core.Bool.{Bool, true, false}
+use mathlib.Core.List.{List, [], _∷_, List·Memᴰ·head, List·Memᴰ·tail, List·Memᴰ·not-nil}
+use Rattle.spec.specs.Graph.{Graph, _∈_, Once, Closed}
+use Rattle.spec.specs.Net.{Net, Round, State, Rests, rounds}
+use Rattle.spec.specs.Search.{in-turn, step, search}
+use Rattle.spec.proofs.Rank.{falling-no-loop}
+use Rattle.spec.proofs.Rest.{comes-to-rest}
+
+abbrev wires : ℕ → List ℕ
+wires zero = 1 ∷ 2 ∷ []
+wires (suc zero) = 2 ∷ []
+wires (suc (suc n)) = []
+
+wires-listed : (s r : ℕ) → s ∈ (0 ∷ 1 ∷ 2 ∷ []) → r ∈ wires s → r ∈ (0 ∷ 1 ∷ 2 ∷ [])
+wires-listed zero r i m = List·Memᴰ·tail m
+wires-listed (suc zero) r i m = List·Memᴰ·tail (List·Memᴰ·tail m)
+wires-listed (suc (suc n)) r i m = absurd (List·Memᴰ·not-nil m)
+
+three-once : Once {A = ℕ} (0 ∷ 1 ∷ 2 ∷ [])
+three-once = (λ m. pair-not 0 1 2 (omega arith) (omega arith) m, (λ m. one-not 1 2 (omega arith) m, (λ m. List·Memᴰ·not-nil m, tt)))
+  where
+    one-not : (a b : ℕ) → a < b → a ∈ (b ∷ []) → ⊥
+    one-not a b h (List·Memᴰ·head e) = omega arith
+    one-not a b h (List·Memᴰ·tail m) = List·Memᴰ·not-nil m
+
+    pair-not : (a b c : ℕ) → a < b → a < c → a ∈ (b ∷ c ∷ []) → ⊥
+    pair-not a b c h k (List·Memᴰ·head e) = omega arith
+    pair-not a b c h k (List·Memᴰ·tail m) = one-not a c k m
+
+abbrev sample : Graph
+sample = record { Signal = ℕ; same = ℕ-discrete; signals = 0 ∷ 1 ∷ 2 ∷ []; once = three-once; reads = wires; closed = wires-listed }
+
+-- 2, 1, 0 is a rank
+abbrev wire-rank : ℕ → ℕ
+wire-rank zero = 2
+wire-rank (suc zero) = 1
+wire-rank (suc (suc n)) = 0
+
+sample-falls : (s r : ℕ) → s ∈ (0 ∷ 1 ∷ 2 ∷ []) → r ∈ wires s → wire-rank r < wire-rank s
+sample-falls zero r i (List·Memᴰ·head e) = rw e (omega arith)
+sample-falls zero r i (List·Memᴰ·tail (List·Memᴰ·head e)) = rw e (omega arith)
+sample-falls zero r i (List·Memᴰ·tail (List·Memᴰ·tail m)) = absurd (List·Memᴰ·not-nil m)
+sample-falls (suc zero) r i (List·Memᴰ·head e) = rw e (omega arith)
+sample-falls (suc zero) r i (List·Memᴰ·tail m) = absurd (List·Memᴰ·not-nil m)
+sample-falls (suc (suc n)) r i m = absurd (List·Memᴰ·not-nil m)
+
+sample-no-loop : ¬ Closed sample
+sample-no-loop = falling-no-loop sample wire-rank sample-falls
+
+-- 0 adds what it reads, 1 adds 1 to what it reads, 2 is the constant 5
+abbrev sum : (s : ℕ) → ((r : ℕ) → r ∈ wires s → ℕ) → ℕ
+sum zero x = x 1 (List·Memᴰ·head refl) + x 2 (List·Memᴰ·tail (List·Memᴰ·head refl))
+sum (suc zero) x = suc (x 2 (List·Memᴰ·head refl))
+sum (suc (suc n)) x = 5
+
+abbrev adder : Net sample
+adder = record { Value = λ s. ℕ; new = sum }
+
+abbrev rest-value : ℕ → ℕ
+rest-value zero = 11
+rest-value (suc zero) = 6
+rest-value (suc (suc n)) = 5
+
+adder-rests : Rests adder (λ s i. rest-value s)
+adder-rests zero i = refl
+adder-rests (suc zero) i = refl
+adder-rests (suc (suc n)) i = refl
+
+after-three : (x : State adder) (a b c : Round sample) → rounds adder (a ∷ b ∷ c ∷ []) x 0 (List·Memᴰ·head refl) ≡ 11
+after-three x a b c = comes-to-rest sample sample-no-loop .reached adder x (λ s i. rest-value s) adder-rests (a ∷ b ∷ c ∷ []) (omega arith) 0 (List·Memᴰ·head refl)
+
+abbrev same-number : ℕ → ℕ → Bool
+same-number zero zero = true
+same-number zero (suc b) = false
+same-number (suc a) zero = false
+same-number (suc a) (suc b) = same-number a b
+
+abbrev looped : ℕ → List ℕ
+looped zero = []
+looped (suc zero) = []
+looped (suc (suc zero)) = 3 ∷ []
+looped (suc (suc (suc n))) = 1 ∷ 2 ∷ []
+
+loop-found : search same-number looped 4 (3 ∷ 2 ∷ []) ≡ record { left = 3 ∷ 1 ∷ 2 ∷ []; reports = (3 ∷ 2 ∷ 3 ∷ []) ∷ [] }
+unfolding search in-turn step
+loop-found = refl
+
+-- fuel must be above the number of nodes: of one node that reads itself, fuel 1 sees nothing and fuel 2 the loop
+abbrev itself : ℕ → List ℕ
+itself n = n ∷ []
+
+too-little : search same-number itself 1 (5 ∷ []) .reports ≡ []
+unfolding search in-turn step
+too-little = refl
+
+just-enough : search same-number itself 2 (5 ∷ []) .reports ≡ (5 ∷ 5 ∷ []) ∷ []
+unfolding search in-turn step
+just-enough = refl

@@ -1,0 +1,434 @@
+-- What is refused because of the text: faults 1 to 8 and their line. 01: Refused because of the text.
+-- Assumes nothing: these are definitions.
+use mathlib.Core.Bool.{Bool, true, false, _&&_, _||_, not as opposite}
+use mathlib.Core.List.{List, [], _∷_}
+use Prim.Native.Nat.{ℕ, zero, suc, max}
+use lib.ListN.{length}
+use lib.Dec.{eqb, ltb, leb}
+use lib.IntN.{ℤ, pos, negsuc}
+use Rattle.spec.specs.Bytes.{Bytes, same-bytes, onto}
+use Rattle.spec.specs.Syntax.{name-bound, module-bound, number-bound, Binary, add, sub, mul, eq, ne, lt, le, gt, ge, and, or, shl, shr, band, bor, bxor, Expr, Exprs, lit, truth, name, field, index, if-else, unary, binary, all, Width, bit, opaque, bits, signed, Index, whole, at-bit, high-low, LValue, Stmt, Stmts, set, default, loop, when, Place, single, at, Conn, Inst, Item, Items, port, wire, reg, mem, const, drive, on, inst, repeat, const-if, Header, kind, val, Module, Design, Line, module-line, header-line, item-line}
+use Rattle.spec.specs.Show.{show-line, design-lines}
+use Rattle.spec.specs.Decode.{depth-limit, decode-line}
+
+abbrev pub text-limit : ℕ
+text-limit = 32768
+
+abbrev pub module-limit : ℕ
+module-limit = 32
+
+-- the lines of a text, without their line feeds
+unfoldable pub lines : Bytes → List Bytes
+lines [] = []
+lines (c ∷ s) = elim (eqb c 10) [ true ↦ [] ∷ lines s | false ↦ onto c (lines s) ]
+
+-- 2: bytes 20 to 7E hexadecimal and line feed.
+abbrev pub in-set : ℕ → Bool
+in-set c = eqb c 10 || leb 32 c && leb c 126
+
+pub data Verdict : Type 0 where
+  well-formed : Verdict
+  refused : (number line : ℕ) → Verdict
+
+-- 2: a byte outside the set, on the line of the first one; n is the line that the bytes begin in.
+unfoldable pub byte-fault : ℕ → Bytes → Verdict
+byte-fault n [] = well-formed
+byte-fault n (c ∷ s) = elim (in-set c) [ true ↦ byte-fault (elim (eqb c 10) [ true ↦ suc n | false ↦ n ]) s | false ↦ refused 2 n ]
+
+-- 2: no final line feed; an empty text is accepted.
+unfoldable pub ends-in-feed : Bytes → Bool
+ends-in-feed [] = true
+ends-in-feed (c ∷ []) = eqb c 10
+ends-in-feed (c ∷ d ∷ s) = ends-in-feed (d ∷ s)
+
+unfoldable pub set-fault : Bytes → Verdict
+set-fault s =
+    elim (byte-fault 1 s) [
+      | refused k n ↦ refused k n
+      | well-formed ↦ elim (ends-in-feed s) [ true ↦ well-formed | false ↦ refused 2 (length (lines s)) ]
+    ]
+
+-- 3: not one closed form from first byte to last, or deeper than the limit; k brackets are open.
+unfoldable pub closes : ℕ → Bytes → Bool
+closes k [] = false
+closes k (c ∷ s) =
+    elim (eqb c 40) [
+      | true ↦ ltb k depth-limit && closes (suc k) s
+      | false ↦ elim (eqb c 41) [
+        | true ↦ elim k [ zero ↦ false | suc j ↦ elim j [ zero ↦ eqb (length s) 0 | suc i ↦ closes (suc i) s ] ]
+        | false ↦ closes k s
+      ]
+    ]
+
+unfoldable pub one-form : Bytes → Bool
+one-form [] = false
+one-form (c ∷ s) = eqb c 40 && closes 1 s
+
+-- 4: unknown head, wrong parts, a misplaced space, a badly written number: the line is not the one that shows its tree.
+unfoldable pub written : Bytes → Bool
+written s = same-bytes s (show-line (decode-line s))
+
+-- 5: number out of range.
+unfoldable mutual
+  pub expr-in-range : Expr → Bool
+  expr-in-range (lit n) = ltb n number-bound
+  expr-in-range (truth b) = true
+  expr-in-range (name n) = ltb n name-bound
+  expr-in-range (field e n) = expr-in-range e && ltb n name-bound
+  expr-in-range (index e i) = expr-in-range e && expr-in-range i
+  expr-in-range (if-else c a b) = expr-in-range c && expr-in-range a && expr-in-range b
+  expr-in-range (unary o a) = expr-in-range a
+  expr-in-range (binary o a b) = expr-in-range a && expr-in-range b
+  expr-in-range (all es) = exprs-in-range es
+
+  pub exprs-in-range : Exprs → Bool
+  exprs-in-range Exprs.none = true
+  exprs-in-range (Exprs.more e es) = expr-in-range e && exprs-in-range es
+
+unfoldable pub width-in-range : Width → Bool
+width-in-range bit = true
+width-in-range opaque = true
+width-in-range (bits e) = expr-in-range e
+width-in-range (signed e) = expr-in-range e
+
+unfoldable pub index-in-range : Index → Bool
+index-in-range whole = true
+index-in-range (at-bit e) = expr-in-range e
+index-in-range (high-low h l) = expr-in-range h && expr-in-range l
+
+unfoldable mutual
+  pub stmt-in-range : Stmt → Bool
+  stmt-in-range (set n start) = ltb n name-bound && ltb start number-bound
+  stmt-in-range (default n) = ltb n name-bound
+  stmt-in-range (loop ss) = stmts-in-range ss
+  stmt-in-range (when ss ts) = stmts-in-range ss && stmts-in-range ts
+
+  pub stmts-in-range : Stmts → Bool
+  stmts-in-range Stmts.none = true
+  stmts-in-range (Stmts.more s ss) = stmt-in-range s && stmts-in-range ss
+
+unfoldable pub place-in-range : Place → Bool
+place-in-range single = true
+place-in-range (at e) = expr-in-range e
+
+unfoldable pub conns-in-range : List Conn → Bool
+conns-in-range [] = true
+conns-in-range (c ∷ cs) = ltb (c .port) name-bound && expr-in-range (c .signal) && conns-in-range cs
+
+unfoldable pub inst-in-range : Inst → Bool
+inst-in-range i =
+    ltb (i .name) name-bound && place-in-range (i .place) && ltb (i .«module») module-bound && ltb (i .start) number-bound
+    && conns-in-range (i .conns)
+
+unfoldable mutual
+  pub item-in-range : Item → Bool
+  item-in-range (port d n w start) = ltb n name-bound && width-in-range w && ltb start number-bound
+  item-in-range (wire n e start) = ltb n name-bound && expr-in-range e && ltb start number-bound
+  item-in-range (reg n start) = ltb n name-bound && ltb start number-bound
+  item-in-range (mem n start) = ltb n name-bound && ltb start number-bound
+  item-in-range (const n e) = ltb n name-bound && expr-in-range e
+  item-in-range (drive lv e) = ltb (lv .name) name-bound && ltb (lv .start) number-bound && index-in-range (lv .index) && expr-in-range e
+  item-in-range (on start ss) = ltb start number-bound && stmts-in-range ss
+  item-in-range (inst i) = inst-in-range i
+  item-in-range (repeat n low high is) = ltb n name-bound && expr-in-range low && expr-in-range high && items-in-range is
+  item-in-range (const-if c is js) = expr-in-range c && items-in-range is && items-in-range js
+
+  pub items-in-range : Items → Bool
+  items-in-range Items.none = true
+  items-in-range (Items.more i is) = item-in-range i && items-in-range is
+
+-- INT is −2,147,483,648 to 2,147,483,647: negsuc n is −(n + 1).
+unfoldable pub in-int : ℤ → Bool
+in-int (pos n) = ltb n number-bound
+in-int (negsuc n) = ltb n number-bound
+
+unfoldable pub line-in-range : Line → Bool
+line-in-range (module-line m b) = true
+line-in-range (header-line (kind n k)) = ltb n name-bound
+line-in-range (header-line (val n i)) = ltb n name-bound && in-int i
+line-in-range (item-line i) = item-in-range i
+
+-- what was read before a line: how many modules, whether the last has an item, the names that have a kind in it
+pub record Before : Type 0 where
+  pub modules : ℕ
+  pub has-item : Bool
+  pub kinds : List ℕ
+
+abbrev pub at-start : Before
+at-start = record { modules = 0; has-item = false; kinds = [] }
+
+unfoldable pub after-line : Before → Line → Before
+after-line b (module-line m bound) = record { modules = suc (b .modules); has-item = false; kinds = [] }
+after-line b (header-line (kind n k)) = record { modules = b .modules; has-item = b .has-item; kinds = n ∷ b .kinds }
+after-line b (header-line (val n i)) = b
+after-line b (item-line i) = record { modules = b .modules; has-item = true; kinds = b .kinds }
+
+-- 6: before any module, M not the next number, `kind` or `val` after an item.
+unfoldable pub in-place : Before → Line → Bool
+in-place b (module-line m bound) = eqb m (b .modules)
+in-place b (header-line h) = ltb 0 (b .modules) && opposite (b .has-item)
+in-place b (item-line i) = ltb 0 (b .modules)
+
+unfoldable pub has-name : ℕ → List ℕ → Bool
+has-name n [] = false
+has-name n (m ∷ l) = eqb n m || has-name n l
+
+-- 7: a second kind for a name in its module, or a 33rd module.
+unfoldable pub first-kind : Before → Line → Bool
+first-kind b (module-line m bound) = ltb (b .modules) module-limit
+first-kind b (header-line (kind n k)) = opposite (has-name n (b .kinds))
+first-kind b (header-line (val n i)) = true
+first-kind b (item-line i) = true
+
+-- 8: `shl`, `shr`, `band`, `bor` or `bxor` in a constant place.
+abbrev pub is-bitwise : Binary → Bool
+is-bitwise add = false
+is-bitwise sub = false
+is-bitwise mul = false
+is-bitwise eq = false
+is-bitwise ne = false
+is-bitwise lt = false
+is-bitwise le = false
+is-bitwise gt = false
+is-bitwise ge = false
+is-bitwise and = false
+is-bitwise or = false
+is-bitwise shl = true
+is-bitwise shr = true
+is-bitwise band = true
+is-bitwise bor = true
+is-bitwise bxor = true
+
+-- none of the five anywhere in an expression: decision, 8 goes by form, whether or not a part is ever evaluated
+unfoldable mutual
+  pub constant : Expr → Bool
+  constant (lit n) = true
+  constant (truth b) = true
+  constant (name n) = true
+  constant (field e n) = constant e
+  constant (index e i) = constant e && constant i
+  constant (if-else c a b) = constant c && constant a && constant b
+  constant (unary o a) = constant a
+  constant (binary o a b) = opposite (is-bitwise o) && constant a && constant b
+  constant (all es) = constants es
+
+  pub constants : Exprs → Bool
+  constants Exprs.none = true
+  constants (Exprs.more e es) = constant e && constants es
+
+-- the constant place I of `(f (ix (n NAME) I) NAME)`, whatever kind NAME has
+unfoldable pub field-place : Expr → Bool
+field-place (lit n) = true
+field-place (truth b) = true
+field-place (name n) = true
+field-place (field e n) = true
+field-place (index (lit n) i) = true
+field-place (index (truth b) i) = true
+field-place (index (name n) i) = constant i
+field-place (index (field e n) i) = true
+field-place (index (index e j) i) = true
+field-place (index (if-else c a b) i) = true
+field-place (index (unary o a) i) = true
+field-place (index (binary o a b) i) = true
+field-place (index (all es) i) = true
+field-place (if-else c a b) = true
+field-place (unary o a) = true
+field-place (binary o a b) = true
+field-place (all es) = true
+
+-- the constant places in an expression that is read
+unfoldable mutual
+  pub read-places : Expr → Bool
+  read-places (lit n) = true
+  read-places (truth b) = true
+  read-places (name n) = true
+  read-places (field e n) = field-place e && read-places e
+  read-places (index e i) = read-places e && read-places i
+  read-places (if-else c a b) = read-places c && read-places a && read-places b
+  read-places (unary o a) = read-places a
+  read-places (binary o a b) = read-places a && read-places b
+  read-places (all es) = reads-places es
+
+  pub reads-places : Exprs → Bool
+  reads-places Exprs.none = true
+  reads-places (Exprs.more e es) = read-places e && reads-places es
+
+unfoldable pub width-places : Width → Bool
+width-places bit = true
+width-places opaque = true
+width-places (bits e) = constant e
+width-places (signed e) = constant e
+
+unfoldable pub index-places : Index → Bool
+index-places whole = true
+index-places (at-bit e) = constant e
+index-places (high-low h l) = constant h && constant l
+
+unfoldable pub place-places : Place → Bool
+place-places single = true
+place-places (at e) = constant e
+
+unfoldable pub conn-places : List Conn → Bool
+conn-places [] = true
+conn-places (c ∷ cs) = read-places (c .signal) && conn-places cs
+
+-- Constant places: E in LV, T, `const`, X, `repeat` bounds, the `constif` condition.
+unfoldable mutual
+  pub item-places : Item → Bool
+  item-places (port d n w start) = width-places w
+  item-places (wire n e start) = read-places e
+  item-places (reg n start) = true
+  item-places (mem n start) = true
+  item-places (const n e) = constant e
+  item-places (drive lv e) = index-places (lv .index) && read-places e
+  item-places (on start ss) = true
+  item-places (inst i) = place-places (i .place) && conn-places (i .conns)
+  item-places (repeat n low high is) = constant low && constant high && items-places is
+  item-places (const-if c is js) = constant c && items-places is && items-places js
+
+  pub items-places : Items → Bool
+  items-places Items.none = true
+  items-places (Items.more i is) = item-places i && items-places is
+
+unfoldable pub line-places : Line → Bool
+line-places (module-line m b) = true
+line-places (header-line h) = true
+line-places (item-line i) = item-places i
+
+-- the lowest fault, 5 to 8, of a line whose tree is l; 0 for none
+unfoldable pub tree-fault : Before → Line → ℕ
+tree-fault b l =
+    elim (line-in-range l) [
+      | false ↦ 5
+      | true ↦ elim (in-place b l) [
+        | false ↦ 6
+        | true ↦ elim (first-kind b l) [
+          | false ↦ 7
+          | true ↦ elim (line-places l) [ false ↦ 8 | true ↦ 0 ]
+        ]
+      ]
+    ]
+
+-- the lowest fault, 3 to 8, of a line; 0 for none
+unfoldable pub line-fault : Before → Bytes → ℕ
+line-fault b s =
+    elim (one-form s) [
+      | false ↦ 3
+      | true ↦ elim (written s) [ false ↦ 4 | true ↦ tree-fault b (decode-line s) ]
+    ]
+
+-- Order: line by line 3 to 8; n is the number of the first line.
+unfoldable pub lines-fault : Before → ℕ → List Bytes → Verdict
+lines-fault b n [] = well-formed
+lines-fault b n (s ∷ l) =
+    elim (line-fault b s) [ zero ↦ lines-fault (after-line b (decode-line s)) (suc n) l | suc k ↦ refused (suc k) n ]
+
+-- Order: 1, then 2 over the whole text, then line by line 3 to 8. 1 has line 0.
+unfoldable pub refusal : Bytes → Verdict
+refusal text =
+    elim (ltb text-limit (length text)) [
+      | true ↦ refused 1 0
+      | false ↦ elim (set-fault text) [
+        | refused k n ↦ refused k n
+        | well-formed ↦ lines-fault at-start 1 (lines text)
+      ]
+    ]
+
+-- the trees of a text's lines, and the design that they make: header and items go to the module before them
+unfoldable pub decode-lines : List Bytes → List Line
+decode-lines [] = []
+decode-lines (s ∷ l) = decode-line s ∷ decode-lines l
+
+pub record Gathered : Type 0 where
+  pub header : List Header
+  pub items : Items
+  pub modules : Design
+
+unfoldable pub gather : List Line → Gathered
+gather [] = record { header = []; items = Items.none; modules = [] }
+gather (module-line m b ∷ ls) =
+    let g = gather ls in
+    record { header = []; items = Items.none; modules = record { bound = b; header = g .header; items = g .items } ∷ g .modules }
+gather (header-line h ∷ ls) = let g = gather ls in record { header = h ∷ g .header; items = g .items; modules = g .modules }
+gather (item-line i ∷ ls) = let g = gather ls in record { header = g .header; items = Items.more i (g .items); modules = g .modules }
+
+-- the design that a text is
+unfoldable pub decode : Bytes → Design
+decode text = gather (decode-lines (lines text)) .modules
+
+-- how many brackets deep a tree is
+unfoldable mutual
+  pub expr-depth : Expr → ℕ
+  expr-depth (lit n) = 0
+  expr-depth (truth b) = 0
+  expr-depth (name n) = 1
+  expr-depth (field e n) = suc (expr-depth e)
+  expr-depth (index e i) = suc (max (expr-depth e) (expr-depth i))
+  expr-depth (if-else c a b) = suc (max (expr-depth c) (max (expr-depth a) (expr-depth b)))
+  expr-depth (unary o a) = suc (expr-depth a)
+  expr-depth (binary o a b) = suc (max (expr-depth a) (expr-depth b))
+  expr-depth (all es) = suc (exprs-depth es)
+
+  pub exprs-depth : Exprs → ℕ
+  exprs-depth Exprs.none = 0
+  exprs-depth (Exprs.more e es) = max (expr-depth e) (exprs-depth es)
+
+unfoldable pub width-depth : Width → ℕ
+width-depth bit = 0
+width-depth opaque = 0
+width-depth (bits e) = suc (expr-depth e)
+width-depth (signed e) = suc (expr-depth e)
+
+unfoldable pub index-depth : Index → ℕ
+index-depth whole = 0
+index-depth (at-bit e) = expr-depth e
+index-depth (high-low h l) = max (expr-depth h) (expr-depth l)
+
+unfoldable mutual
+  pub stmt-depth : Stmt → ℕ
+  stmt-depth (set n start) = 1
+  stmt-depth (default n) = 1
+  stmt-depth (loop ss) = suc (stmts-depth ss)
+  stmt-depth (when ss ts) = suc (suc (max (stmts-depth ss) (stmts-depth ts)))
+
+  pub stmts-depth : Stmts → ℕ
+  stmts-depth Stmts.none = 0
+  stmts-depth (Stmts.more s ss) = max (stmt-depth s) (stmts-depth ss)
+
+unfoldable pub place-depth : Place → ℕ
+place-depth single = 0
+place-depth (at e) = expr-depth e
+
+unfoldable pub conns-depth : List Conn → ℕ
+conns-depth [] = 0
+conns-depth (c ∷ cs) = max (suc (expr-depth (c .signal))) (conns-depth cs)
+
+unfoldable mutual
+  pub item-depth : Item → ℕ
+  item-depth (port d n w start) = suc (width-depth w)
+  item-depth (wire n e start) = suc (expr-depth e)
+  item-depth (reg n start) = 1
+  item-depth (mem n start) = 1
+  item-depth (const n e) = suc (expr-depth e)
+  item-depth (drive lv e) = suc (max (suc (index-depth (lv .index))) (expr-depth e))
+  item-depth (on start ss) = suc (stmts-depth ss)
+  item-depth (inst i) = suc (max (place-depth (i .place)) (conns-depth (i .conns)))
+  item-depth (repeat n low high is) = suc (max (expr-depth low) (max (expr-depth high) (items-depth is)))
+  item-depth (const-if c is js) = suc (max (expr-depth c) (suc (max (items-depth is) (items-depth js))))
+
+  pub items-depth : Items → ℕ
+  items-depth Items.none = 0
+  items-depth (Items.more i is) = max (item-depth i) (items-depth is)
+
+unfoldable pub line-depth : Line → ℕ
+line-depth (module-line m b) = 1
+line-depth (header-line h) = 1
+line-depth (item-line i) = item-depth i
+
+-- a design in range: each of its lines, in turn, is at most so many brackets deep and has none of the faults 5 to 8
+unfoldable pub lines-in-range : Before → List Line → Bool
+lines-in-range b [] = true
+lines-in-range b (l ∷ ls) = leb (line-depth l) depth-limit && eqb (tree-fault b l) 0 && lines-in-range (after-line b l) ls
+
+unfoldable pub in-range : Design → Bool
+in-range d = lines-in-range at-start (design-lines 0 d)

@@ -1,0 +1,146 @@
+-- The value of a constant expression, and the name table. 01: The value.
+-- Assumes nothing: these are definitions.
+use mathlib.Core.Bool.{Bool, true, false, _&&_, _||_, not as opposite}
+use mathlib.Core.List.{List, [], _∷_}
+use Prim.Native.Nat.{ℕ, zero, suc, _-_, _/_}
+use lib.Dec.{eqb, ltb}
+use lib.IntN.{ℤ, pos, negsuc, negℤ, _+ℤ_, _-ℤ_, _*ℤ_}
+use Rattle.spec.specs.Syntax.{Unary, neg, not, clog2, Binary, add, sub, mul, eq, ne, lt, le, gt, ge, and, or, shl, shr, band, bor, bxor, Expr, Exprs, lit, truth, name, field, index, if-else, unary, binary, all, Stmts, Item, Items, port, wire, reg, mem, const, drive, on, inst, repeat, const-if, Header, kind, val, Module}
+use Rattle.spec.specs.Refusal.{in-int}
+
+-- 01, The value: exact whole numbers; some expressions have none. 01, Refused because of the state: or it is outside INT.
+pub data Value : Type 0 where
+  known : ℤ → Value
+  missing outside : Value
+
+-- names with their values, the newest first
+abbrev pub Names : Type 0
+Names = List (ℕ × ℤ)
+
+unfoldable pub value-of-name : Names → ℕ → Value
+value-of-name [] n = missing
+value-of-name (e ∷ names) n = elim (eqb (e .0) n) [ true ↦ known (e .1) | false ↦ value-of-name names n ]
+
+-- a result, where it is in INT
+unfoldable pub within : ℤ → Value
+within z = elim (in-int z) [ true ↦ known z | false ↦ outside ]
+
+abbrev pub is-zero : ℤ → Bool
+is-zero (pos n) = eqb n 0
+is-zero (negsuc n) = false
+
+abbrev pub int-eq : ℤ → ℤ → Bool
+int-eq (pos m) (pos n) = eqb m n
+int-eq (pos m) (negsuc n) = false
+int-eq (negsuc m) (pos n) = false
+int-eq (negsuc m) (negsuc n) = eqb m n
+
+abbrev pub int-lt : ℤ → ℤ → Bool
+int-lt (pos m) (pos n) = ltb m n
+int-lt (pos m) (negsuc n) = false
+int-lt (negsuc m) (pos n) = true
+int-lt (negsuc m) (negsuc n) = ltb n m
+
+-- truth is 1 or 0, and anything but 0 is true
+abbrev pub truth-value : Bool → Value
+truth-value true = known (pos 1)
+truth-value false = known (pos 0)
+
+-- how many binary digits n has; `fuel` is at least that many
+unfoldable pub bit-length : ℕ → ℕ → ℕ
+bit-length zero n = 0
+bit-length (suc fuel) n = elim (eqb n 0) [ true ↦ 0 | false ↦ suc (bit-length fuel (n / 2)) ]
+
+-- 01, The value: `clog2` by counting leading zeros: 32 less those of n − 1 at 32 bits are its binary digits; 1 gives 1.
+unfoldable pub clog2-bits : ℕ → ℕ
+clog2-bits n = elim (ltb n 2) [ true ↦ 1 | false ↦ bit-length 32 (n - 1) ]
+
+-- 01, The value: no value: `clog2` below 1.
+unfoldable pub clog2-value : ℤ → Value
+clog2-value (pos zero) = missing
+clog2-value (pos (suc n)) = within (pos (clog2-bits (suc n)))
+clog2-value (negsuc n) = missing
+
+unfoldable pub unary-value : Unary → ℤ → Value
+unary-value neg x = within (negℤ x)
+unary-value not x = truth-value (is-zero x)
+unary-value clog2 x = clog2-value x
+
+-- the five operators of refusal 8 are in no constant place of an accepted text, and have no value here
+unfoldable pub binary-value : Binary → ℤ → ℤ → Value
+binary-value add x y = within (x +ℤ y)
+binary-value sub x y = within (x -ℤ y)
+binary-value mul x y = within (x *ℤ y)
+binary-value eq x y = truth-value (int-eq x y)
+binary-value ne x y = truth-value (opposite (int-eq x y))
+binary-value lt x y = truth-value (int-lt x y)
+binary-value le x y = truth-value (opposite (int-lt y x))
+binary-value gt x y = truth-value (int-lt y x)
+binary-value ge x y = truth-value (opposite (int-lt x y))
+binary-value and x y = truth-value (opposite (is-zero x) && opposite (is-zero y))
+binary-value or x y = truth-value (opposite (is-zero x) || opposite (is-zero y))
+binary-value shl x y = missing
+binary-value shr x y = missing
+binary-value band x y = missing
+binary-value bor x y = missing
+binary-value bxor x y = missing
+
+-- what follows a value that is known; a missing one ends it, and so does one outside
+abbrev pub and-then : Value → (ℤ → Value) → Value
+and-then (known x) f = f x
+and-then missing f = missing
+and-then outside f = outside
+
+-- 01, The value: operands left to right, both for `and`/`or`; `if` takes one branch; no value: `f`, `ix`, `all`, unknown name.
+unfoldable pub value : Names → Expr → Value
+value names (lit n) = within (pos n)
+value names (truth b) = truth-value b
+value names (name n) = value-of-name names n
+value names (field e n) = missing
+value names (index e i) = missing
+value names (if-else c a b) = and-then (value names c) (λ x. elim (is-zero x) [ true ↦ value names b | false ↦ value names a ])
+value names (unary o a) = and-then (value names a) (unary-value o)
+value names (binary o a b) = and-then (value names a) (λ x. and-then (value names b) (binary-value o x))
+value names (all es) = missing
+
+abbrev pub is-outside : Value → Bool
+is-outside (known x) = false
+is-outside missing = false
+is-outside outside = true
+
+-- a name table, and whether some value that it needed was outside INT
+pub record Table : Type 0 where
+  pub names : Names
+  pub out : Bool
+
+-- 01, The line: `val`, later wins.
+unfoldable pub val-names : Names → List Header → Names
+val-names names [] = names
+val-names names (kind n k ∷ hs) = val-names names hs
+val-names names (val n z ∷ hs) = val-names ((n, z) ∷ names) hs
+
+unfoldable pub with-value : ℕ → Value → Table → Table
+with-value n (known z) t = record { names = (n, z) ∷ t .names; out = t .out }
+with-value n missing t = t
+with-value n outside t = record { names = t .names; out = true }
+
+-- 01, The value: then top-level `const` lines in order, one without a value being skipped.
+unfoldable pub const-names : Table → Items → Table
+const-names t Items.none = t
+const-names t (Items.more (port d n w s) is) = const-names t is
+const-names t (Items.more (wire n e s) is) = const-names t is
+const-names t (Items.more (reg n s) is) = const-names t is
+const-names t (Items.more (mem n s) is) = const-names t is
+const-names t (Items.more (const n e) is) = const-names (with-value n (value (t .names) e) t) is
+const-names t (Items.more (drive lv e) is) = const-names t is
+const-names t (Items.more (on s ss) is) = const-names t is
+const-names t (Items.more (inst i) is) = const-names t is
+const-names t (Items.more (repeat n l h js) is) = const-names t is
+const-names t (Items.more (const-if c js ks) is) = const-names t is
+
+-- the module's own table, over the values of its `val` lines
+unfoldable pub name-table : Names → Module → Table
+name-table vals m = const-names (record { names = vals; out = false }) (m .items)
+
+unfoldable pub own-vals : Module → Names
+own-vals m = val-names [] (m .header)

@@ -1,0 +1,1 @@
+// The specification is in specs/ and proofs/; it has no code.
