@@ -8,10 +8,12 @@ pub mod limits;
 mod loops;
 mod maker;
 mod plan;
+pub mod refusals;
 pub mod rng;
 mod sites;
 mod small;
 mod values;
+pub mod vectors;
 
 use rng::Rng;
 

@@ -5,8 +5,8 @@ use compare::gen;
 use std::io::Write;
 use std::process::ExitCode;
 
-const USAGE: &str =
-    "usage: gen PROFILE SEED FROM COUNT | gen --one PROFILE SEED I | gen --list";
+const USAGE: &str = "usage: gen PROFILE SEED FROM COUNT | gen --one PROFILE SEED I | gen --list \
+                     | gen --vectors DIR";
 
 fn main() -> ExitCode {
     let args: Vec<String> = std::env::args().skip(1).collect();
@@ -27,6 +27,7 @@ fn answer(args: &[&str]) -> Result<Vec<u8>, String> {
     match args {
         ["--list"] => Ok(gen::PROFILES.iter().flat_map(|p| format!("{p}\n").into_bytes()).collect()),
         ["--one", profile, seed, i] => one(profile, number(seed)?, number(i)?),
+        ["--vectors", dir] => vectors(dir),
         [profile, seed, from, count] if !profile.starts_with("--") => {
             many(profile, number(seed)?, number(from)?, number(count)?)
         }
@@ -44,6 +45,7 @@ fn one(profile: &str, seed: u64, i: u64) -> Result<Vec<u8>, String> {
 
 fn many(profile: &str, seed: u64, from: u64, count: u64) -> Result<Vec<u8>, String> {
     let end = from.checked_add(count).ok_or("FROM and COUNT are too large")?;
+    one(profile, seed, from)?;
     let mut out = Vec::new();
     for i in from..end {
         let text = one(profile, seed, i)?;
@@ -51,4 +53,16 @@ fn many(profile: &str, seed: u64, from: u64, count: u64) -> Result<Vec<u8>, Stri
         out.extend(write_cases(&[case]));
     }
     Ok(out)
+}
+
+/// Writes the vector files into a folder, and says what each has.
+fn vectors(dir: &str) -> Result<Vec<u8>, String> {
+    let mut said = String::new();
+    for (name, cases) in gen::vectors::files()? {
+        let bytes = write_cases(&cases);
+        let path = std::path::Path::new(dir).join(name);
+        std::fs::write(&path, &bytes).map_err(|e| format!("cannot write {}: {e}", path.display()))?;
+        said += &format!("{name}: {} cases, {} bytes\n", cases.len(), bytes.len());
+    }
+    Ok(said.into_bytes())
 }

@@ -4,3 +4,4 @@ pub mod Rest
 pub mod Search
 pub mod Sample
 pub mod Numbers
+pub mod Parts

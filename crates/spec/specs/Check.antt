@@ -11,7 +11,7 @@ use Rattle.spec.specs.Syntax.{Module, Design}
 use Rattle.spec.specs.Refusal.{Verdict, well-formed, refused, refusal, decode, has-name}
 use Rattle.spec.specs.Value.{Names, Table, own-vals, name-table, is-outside}
 use Rattle.spec.specs.Collect.{Collected, Collection, collection}
-use Rattle.spec.specs.Site.{Site, sites, sites-out, sites-of, Misused, misuses, once-a-name, misused-names, Conflict, conflicts, conflict-names, Output, outputs, Coverage, coverage, deciding-width, never as never-driven, fully, gap as gap-at}
+use Rattle.spec.specs.Site.{Site, sites, lines-outside, sites-of, Misused, misuses, once-a-name, misused-names, Conflict, conflicts, conflict-names, Output, outputs, Coverage, coverage, deciding-width, never as never-driven, fully, gap as gap-at}
 use Rattle.spec.specs.Block.{Pair, pairs, block-count, Storage, regs, mems}
 use Rattle.spec.specs.Edge.{Node, Head, over-graph}
 use Rattle.spec.specs.Summary.{Kept, Headed, module-heads}
@@ -94,7 +94,8 @@ pub record Checked : Type 0 where
 unfoldable pub check-module-drivers : Design → Kept → ℕ → Module → Checked
 check-module-drivers d kept m k =
     let vals = own-vals k in
-    let names = name-table vals k .names in
+    let table = name-table vals k in
+    let names = table .names in
     let c = collection vals k in
     let lines = c .lines in
     let ss = sites (k .bound) (k .header) lines in
@@ -113,7 +114,7 @@ check-module-drivers d kept m k =
       rounds = c .taken;
       kept = h .kept;
       full =
-          c .out || sites-out (k .header) lines || ltb site-limit (length ss) || ltb pair-limit (length ps)
+          table .out || lines-outside (k .header) lines || ltb site-limit (length ss) || ltb pair-limit (length ps)
           || h .full || over-graph (h .heads) || widths-out names poisoned ss os;
     }
 

@@ -8,7 +8,7 @@ use lib.ListN.{length}
 use lib.Dec.{eqb, ltb}
 use lib.IntN.{ℤ}
 use Rattle.spec.specs.Syntax.{Kind, in-kind, out-kind, wire-kind, reg-kind, mem-kind, inst-kind, Expr, Exprs, lit, truth, name, field, index, if-else, unary, binary, all, Index, whole, at-bit, high-low, LValue, Place, single, at, Conn, Inst, Item, port, wire, reg, mem, const, drive, on, inst, repeat, const-if, Header}
-use Rattle.spec.specs.Value.{Value, known, missing, outside, Names, value, is-outside, int-eq}
+use Rattle.spec.specs.Value.{Value, known, missing, outside, Names, value, int-eq}
 use Rattle.spec.specs.Search.{among}
 use Rattle.spec.specs.Site.{kind-of, Driving, an-output, a-wire, a-reg, a-mem, nothing, driving}
 
@@ -177,12 +177,8 @@ output-heads hs names i x s (p ∷ rest) =
           record { heads = record { node = inst-out (i .name) x (p .0); start = i .start; reads = r .nodes } ∷ h .heads; out = r .out || h .out }
     ]
 
--- 01, The edge: X of every collected instance line is evaluated, whatever the summary.
 unfoldable pub inst-edges : List Header → Names → Inst → Summary → Heads
-inst-edges hs names i s =
-    let x = place-value names (i .place) in
-    let h = output-heads hs names i (index-of x) s s in
-    record { heads = h .heads; out = is-outside x || h .out }
+inst-edges hs names i s = output-heads hs names i (index-of (place-value names (i .place))) s s
 
 -- what a collected line heads; s is the summary of its module where it is an instance line
 unfoldable pub line-heads : List Header → Names → Summary → Item → Heads

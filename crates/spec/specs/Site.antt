@@ -6,7 +6,7 @@ use mathlib.Core.Option.{Option, some, none}
 use Prim.Native.Nat.{ℕ, zero, suc, min}
 use lib.Dec.{eqb, ltb, leb}
 use lib.IntN.{ℤ, pos, negsuc}
-use Rattle.spec.specs.Syntax.{Kind, in-kind, out-kind, wire-kind, reg-kind, mem-kind, inst-kind, Width, bit, opaque, bits, signed, Index, whole, at-bit, high-low, LValue, Stmt, Stmts, set, default, loop, when, Dir, input, output, Item, port, wire, reg, mem, const, drive, on, inst, repeat, const-if, Header, kind, val}
+use Rattle.spec.specs.Syntax.{Expr, Kind, in-kind, out-kind, wire-kind, reg-kind, mem-kind, inst-kind, Width, bit, opaque, bits, signed, Index, whole, at-bit, high-low, LValue, Stmt, Stmts, set, default, loop, when, Dir, input, output, Place, single, at, Inst, Item, port, wire, reg, mem, const, drive, on, inst, repeat, const-if, Header, kind, val}
 use Rattle.spec.specs.Refusal.{has-name}
 use Rattle.spec.specs.Value.{Value, known, missing, outside, Names, value, is-outside}
 use Rattle.spec.specs.Collect.{Collected}
@@ -54,12 +54,6 @@ lvalue-extent bound names whole = Whole
 lvalue-extent bound names (at-bit e) = bit-extent bound (value names e)
 lvalue-extent bound names (high-low h l) = range-extent bound (value names h) (value names l)
 
--- 01, The value: both indexes of an output's LV always are evaluated.
-unfoldable pub index-out : Names → Index → Bool
-index-out names whole = false
-index-out names (at-bit e) = is-outside (value names e)
-index-out names (high-low h l) = is-outside (value names h) || is-outside (value names l)
-
 -- what driving a name does, by its kind: a site for an output, a report for a wire, a register or a memory, else nothing
 pub data Driving : Type 0 where
   an-output a-wire a-reg a-mem nothing : Driving
@@ -97,28 +91,44 @@ unfoldable pub sites : Bool → List Header → List Collected → List Site
 sites bound hs [] = []
 sites bound hs (c ∷ cs) = line-sites bound hs (c .names) (c .item) ++ sites bound hs cs
 
-abbrev pub drive-out : Driving → Names → LValue → Bool
-drive-out an-output names lv = index-out names (lv .index)
-drive-out a-wire names lv = false
-drive-out a-reg names lv = false
-drive-out a-mem names lv = false
-drive-out nothing names lv = false
+-- 01, The value: an expression is evaluated only where a rule uses its value. Both indexes of an output's LV always are.
+unfoldable pub index-constants : Index → List Expr
+index-constants whole = []
+index-constants (at-bit e) = e ∷ []
+index-constants (high-low h l) = h ∷ l ∷ []
 
-unfoldable pub line-out : List Header → Names → Item → Bool
-line-out hs names (drive lv e) = drive-out (driving (kind-of hs (lv .name))) names lv
-line-out hs names (port d n w s) = false
-line-out hs names (wire n e s) = false
-line-out hs names (reg n s) = false
-line-out hs names (mem n s) = false
-line-out hs names (const n e) = false
-line-out hs names (on s ss) = false
-line-out hs names (inst i) = false
-line-out hs names (repeat n l h is) = false
-line-out hs names (const-if c is js) = false
+abbrev pub drive-constants : Driving → Index → List Expr
+drive-constants an-output x = index-constants x
+drive-constants a-wire x = []
+drive-constants a-reg x = []
+drive-constants a-mem x = []
+drive-constants nothing x = []
 
-unfoldable pub sites-out : List Header → List Collected → Bool
-sites-out hs [] = false
-sites-out hs (c ∷ cs) = line-out hs (c .names) (c .item) || sites-out hs cs
+unfoldable pub place-constants : Place → List Expr
+place-constants single = []
+place-constants (at e) = e ∷ []
+
+-- the constants that are evaluated as a line is collected, those of its reads aside: both bounds of a `repeat` always are, and X of
+-- every instance line
+unfoldable pub line-constants : List Header → Item → List Expr
+line-constants hs (drive lv e) = drive-constants (driving (kind-of hs (lv .name))) (lv .index)
+line-constants hs (inst i) = place-constants (i .place)
+line-constants hs (repeat n low high is) = low ∷ high ∷ []
+line-constants hs (const-if c is js) = c ∷ []
+line-constants hs (port d n w s) = []
+line-constants hs (wire n e s) = []
+line-constants hs (reg n s) = []
+line-constants hs (mem n s) = []
+line-constants hs (const n e) = []
+line-constants hs (on s ss) = []
+
+unfoldable pub any-outside : Names → List Expr → Bool
+any-outside names [] = false
+any-outside names (e ∷ es) = is-outside (value names e) || any-outside names es
+
+unfoldable pub lines-outside : List Header → List Collected → Bool
+lines-outside hs [] = false
+lines-outside hs (c ∷ cs) = any-outside (c .names) (line-constants hs (c .item)) || lines-outside hs cs
 
 -- 01, The site: Unknown meets nothing; else Whole or Dynamic meets all; ranges meet when they share a bit.
 abbrev pub meets : Extent → Extent → Bool

@@ -102,7 +102,7 @@ make-summary ask kept m k =
     let h = lines-heads ask (k .header) kept (c .lines) in
     let s = module-summary k (h .heads) in
     let kept′ : Kept = (m, s) ∷ h .kept in
-    record { summary = s; kept = kept′; full = c .out || h .full || over-graph (h .heads) || ltb triple-limit (triples kept′) }
+    record { summary = s; kept = kept′; full = h .full || over-graph (h .heads) || ltb triple-limit (triples kept′) }
 
 -- 01, The edge: taken under the module's default values, made when first needed and then kept; missing module or one already being
 -- summarised: empty, and that is not kept. `busy` are the modules being summarised; `fuel` is above the number of the others.

@@ -1,0 +1,165 @@
+//! The stored vectors: stated cases, a sample of generated texts, refusals.
+
+use super::refusals;
+use crate::cases::Case;
+use crate::{model, oracle};
+
+/// Small cases with their answers, worked out by hand.
+const STATED: &str = include_str!("stated.txt");
+const SEED: u64 = 1;
+/// Texts of each profile in the sample.
+const SAMPLE: usize = 36;
+const SAMPLED: [&str; 5] = ["small", "sites", "blocks", "loops", "values"];
+/// How often the Rust is asked before an answer counts as free of its hash order.
+const ASKED: usize = 12;
+
+/// A stated case; `hand` where the Rust leaves the order to its hash tables.
+pub struct Stated {
+    pub case: Case,
+    pub hand: bool,
+}
+
+/// The vector files by name. The error lists everything that does not agree.
+pub fn files() -> Result<Vec<(&'static str, Vec<Case>)>, String> {
+    Ok(vec![
+        ("cases.cases", stated_cases()?),
+        ("generated.cases", generated_cases()?),
+        ("refusals.cases", refusal_cases()?),
+    ])
+}
+
+/// The stated cases, each held against the Rust.
+fn stated_cases() -> Result<Vec<Case>, String> {
+    let stated = stated()?;
+    let wrong: Vec<String> = stated.iter().filter_map(disagreement).collect();
+    if !wrong.is_empty() {
+        return Err(format!("the Rust disagrees with stated answers\n{}", wrong.join("\n")));
+    }
+    Ok(stated.into_iter().map(|s| s.case).collect())
+}
+
+fn disagreement(s: &Stated) -> Option<String> {
+    let Case { name, text, answer } = &s.case;
+    let rust = match rust_answer(text) {
+        Ok(rust) => rust,
+        Err(why) => return Some(format!("{name}: {why}")),
+    };
+    let same = if s.hand { agree_but_for_ties(answer, &rust) } else { *answer == rust };
+    (!same).then(|| format!("{name}\nstated:\n{}Rust:\n{}", show(answer), show(&rust)))
+}
+
+fn show(bytes: &[u8]) -> String {
+    String::from_utf8_lossy(bytes).into_owned()
+}
+
+/// The report lines of the Rust, each with its line feed.
+pub fn rust_answer(text: &[u8]) -> Result<Vec<u8>, String> {
+    let lines = oracle::check(text)?;
+    Ok(lines.iter().flat_map(|l| format!("{l}\n").into_bytes()).collect())
+}
+
+/// Equal as sets, loops by module only: loop or no loop.
+pub fn agree_but_for_ties(a: &[u8], b: &[u8]) -> bool {
+    loose(a) == loose(b)
+}
+
+fn loose(answer: &[u8]) -> Vec<String> {
+    let mut lines: Vec<String> = show(answer).lines().map(loop_by_module).collect();
+    lines.sort();
+    lines.dedup();
+    lines
+}
+
+fn loop_by_module(line: &str) -> String {
+    match line.strip_prefix("(E0504 ") {
+        Some(rest) => format!("loop {}", rest.split(' ').next().unwrap_or("")),
+        None => line.to_string(),
+    }
+}
+
+/// Reads the list of stated cases.
+pub fn stated() -> Result<Vec<Stated>, String> {
+    let mut out: Vec<Stated> = Vec::new();
+    for line in STATED.lines() {
+        if let Some(header) = line.strip_prefix("== ") {
+            out.push(opened(header));
+        } else if line.is_empty() || line.starts_with(';') {
+            continue;
+        } else {
+            let last = out.last_mut().ok_or("a line before the first case")?;
+            add_line(&mut last.case, line);
+        }
+    }
+    Ok(out)
+}
+
+fn opened(header: &str) -> Stated {
+    let (name, hand) = match header.strip_suffix(" hand") {
+        Some(name) => (name, true),
+        None => (header, false),
+    };
+    let case = Case { name: name.to_string(), text: Vec::new(), answer: Vec::new() };
+    Stated { case, hand }
+}
+
+fn add_line(case: &mut Case, line: &str) {
+    let (part, line) = match line.strip_prefix("> ") {
+        Some(line) => (&mut case.answer, line),
+        None => (&mut case.text, line),
+    };
+    part.extend_from_slice(line.as_bytes());
+    part.push(b'\n');
+}
+
+/// Texts of the profiles with the answers of the Rust. The model only says which of them the
+/// rules accept; where both have an answer they must agree.
+fn generated_cases() -> Result<Vec<Case>, String> {
+    let mut out = Vec::new();
+    for profile in SAMPLED {
+        let mut taken = 0;
+        for i in 0.. {
+            if taken == SAMPLE {
+                break;
+            }
+            if let Some(case) = sample(profile, i, taken)? {
+                out.push(case);
+                taken += 1;
+            }
+        }
+    }
+    Ok(out)
+}
+
+/// Text `i` where it is accepted and the Rust always gives it one answer. One in six may be
+/// without reports.
+fn sample(profile: &str, i: u64, taken: usize) -> Result<Option<Case>, String> {
+    let text = super::text(profile, SEED, i).unwrap_or_default();
+    let model = model::answer(&text, model::PROGRAM_BUFFER);
+    if model.number != 0 || (model.reports == 0 && taken % 6 != 5) || text.len() > 2500 {
+        return Ok(None);
+    }
+    let answer = rust_answer(&text)?;
+    for _ in 1..ASKED {
+        if rust_answer(&text)? != answer {
+            return Ok(None);
+        }
+    }
+    let name = format!("{profile}-{SEED}-{i}");
+    if answer != model.text {
+        return Err(format!("{name}\nmodel:\n{}Rust:\n{}", show(&model.text), show(&answer)));
+    }
+    Ok(Some(Case { name, text, answer }))
+}
+
+/// The refusals as they are stated, and their accepted neighbours with the answers of the Rust.
+fn refusal_cases() -> Result<Vec<Case>, String> {
+    refusals::all().into_iter().map(refusal_case).collect()
+}
+
+fn refusal_case(e: refusals::Entry) -> Result<Case, String> {
+    let answer = match e.answer {
+        Some(stated) => format!("{stated}\n").into_bytes(),
+        None => rust_answer(&e.text).map_err(|why| format!("{}: {why}", e.name))?,
+    };
+    Ok(Case { name: e.name, text: e.text, answer })
+}
