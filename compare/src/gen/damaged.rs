@@ -3,7 +3,8 @@
 use super::expr::RUN_TIME;
 use super::rng::Rng;
 
-const NUMBERS: [&str; 18] = [
+const NUMBERS: [&str; 22] = [
+    "(shl 1 2)", "(bor 1 (n 1))", "(add 1 (bxor 2 3))", "1000",
     "00", "01", "-0", "-1", "--1", "-", "+1", "1-", "", "256", "255", "2147483647", "2147483648",
     "4294967296", "18446744073709551617", "99999999999999999999999999", "-2147483649", "x",
 ];
@@ -120,8 +121,9 @@ fn the_lines(r: &mut Rng, text: Vec<u8>) -> Vec<u8> {
     let mut lines: Vec<Vec<u8>> = text.split_inclusive(|&b| b == b'\n').map(<[u8]>::to_vec).collect();
     let n = lines.len() as u64;
     let (a, b) = (r.below(n) as usize, r.below(n) as usize);
-    match r.below(5) {
+    match r.below(6) {
         _ if n == 0 => lines.push(new_line(r)),
+        5 => second_kind(r, &mut lines),
         0 => lines.swap(a, b),
         1 => lines.insert(a, lines[b].clone()),
         2 => drop(lines.remove(a)),
@@ -132,6 +134,19 @@ fn the_lines(r: &mut Rng, text: Vec<u8>) -> Vec<u8> {
         }
     }
     lines.concat()
+}
+
+/// A kind line once more, with the same kind or another.
+fn second_kind(r: &mut Rng, lines: &mut Vec<Vec<u8>>) {
+    let kinds: Vec<usize> = (0..lines.len()).filter(|&k| lines[k].starts_with(b"(kind ")).collect();
+    if kinds.is_empty() {
+        return;
+    }
+    let k = r.pick(&kinds);
+    let text = String::from_utf8_lossy(&lines[k]).into_owned();
+    let name = text.split(' ').nth(1).unwrap_or("1");
+    let kind = r.pick(&["in", "out", "wire", "reg", "mem", "inst"]);
+    lines.insert(k + 1, format!("(kind {name} {kind})\n").into_bytes());
 }
 
 fn new_line(r: &mut Rng) -> Vec<u8> {

@@ -7,10 +7,30 @@ pub const REPORT_BYTES: usize = 65_536;
 
 /// `limits`: text `i` takes the limits in turn; the rest varies a little.
 pub fn limits(mut r: Rng, i: u64) -> String {
+    let text = at_limit(&mut r, i);
+    if i / 2 % 20 == 0 {
+        return text;
+    }
+    with_vals(&mut r, &text)
+}
+
+/// A few val lines after the first line, for names that no other line has.
+fn with_vals(r: &mut Rng, text: &str) -> String {
+    let mut out = String::new();
+    for (k, line) in text.split_inclusive('\n').enumerate() {
+        out.push_str(line);
+        for _ in 0..if k == 0 { r.below(5) } else { 0 } {
+            out.push_str(&format!("(val {} {})\n", r.range(240, 249), r.range(-99, 99)));
+        }
+    }
+    out
+}
+
+fn at_limit(r: &mut Rng, i: u64) -> String {
     let past = (i % 2) as usize;
     let v = r.below(4) as usize;
     match i / 2 % 20 {
-        0 => bytes(TEXT_BYTES + past, &mut r),
+        0 => bytes(TEXT_BYTES + past, r),
         1 => deep(32 + past, v),
         2 => modules(32 + past),
         3 => name(255 + past, r.below(NAME_LINES.len() as u64) as usize),

@@ -14,6 +14,15 @@ struct Shape {
     arrays: Vec<(u32, usize, u64)>,
 }
 
+/// What a line of an ordered design may read: wires from one on, instances before one.
+#[derive(Clone, Copy)]
+struct Reach {
+    wires_from: usize,
+    insts_to: usize,
+}
+
+const ALL: Reach = Reach { wires_from: 0, insts_to: usize::MAX };
+
 struct Writer<'a> {
     r: Rng,
     starts: Starts,
@@ -43,7 +52,7 @@ fn design(mut r: Rng, starts: Starts) -> String {
     let plain = r.chance(65);
     let order = r.below(4);
     let shapes: Vec<Shape> = (0..count).map(|k| shape(&mut r, k, count, plain, order)).collect();
-    let ordered = r.chance(45);
+    let ordered = r.chance(35);
     let mut w = Writer { r, starts, shapes: &shapes, ordered };
     (0..count).map(|k| w.module(k)).collect()
 }
@@ -60,7 +69,7 @@ fn shape(r: &mut Rng, me: usize, count: usize, plain: bool, order: u64) -> Shape
         insts: Vec::new(),
         arrays: Vec::new(),
     };
-    for k in 0..r.below(4) as u32 {
+    for k in 0..r.weighted(&[12, 38, 30, 20]) as u32 {
         let module = target(r, me, count, order);
         s.insts.push((base + 20 + k % 3, index(r), module));
     }
@@ -114,18 +123,19 @@ impl Writer<'_> {
     fn items(&mut self, s: &Shape) -> Vec<String> {
         let mut items = Vec::new();
         for (k, w) in s.wires.iter().enumerate() {
-            let line = format!("(wire {w} {} {})", self.reads(s, k + 1), self.start());
+            let reach = Reach { wires_from: k + 1, ..ALL };
+            let line = format!("(wire {w} {} {})", self.reads(s, reach), self.start());
             items.push(self.wrap(line));
         }
-        for (k, o) in s.outs.iter().enumerate() {
+        for o in &s.outs {
             let start = self.start();
             items.push(format!("(port out {o} bit {start})"));
-            let line = format!("(drive (lv {o} {}) {})", self.start(), self.reads(s, k));
+            let line = format!("(drive (lv {o} {}) {})", self.start(), self.reads(s, ALL));
             items.push(self.wrap(line));
         }
-        for (name, index, module) in &s.insts {
-            let start = self.start();
-            items.push(format!("(inst {name} {index} {module} {start}{})", self.conns(s, *module)));
+        for (k, (name, index, module)) in s.insts.iter().enumerate() {
+            let (start, conns) = (self.start(), self.conns(s, *module, k));
+            items.push(format!("(inst {name} {index} {module} {start}{conns})"));
         }
         for (name, module, rounds) in &s.arrays {
             items.push(self.array(s, *name, *module, *rounds));
@@ -143,25 +153,25 @@ impl Writer<'_> {
         }
     }
 
-    /// What one line reads. Wires stand in line: `from` is the first that an ordered design reads.
-    fn reads(&mut self, s: &Shape, from: usize) -> String {
+    /// What one line reads, within its reach in an ordered design.
+    fn reads(&mut self, s: &Shape, reach: Reach) -> String {
         let mut out = "(all".to_string();
         for _ in 0..self.r.weighted(&[6, 50, 30, 14]) {
             out.push(' ');
-            out.push_str(&self.one_read(s, from));
+            out.push_str(&self.one_read(s, reach));
         }
         out + ")"
     }
 
-    fn one_read(&mut self, s: &Shape, from: usize) -> String {
-        let free = !self.ordered || self.r.chance(6);
-        match self.r.weighted(&[45, 15, 10, 26, 4]) {
-            0 => self.wire(s, if free { 0 } else { from }),
+    fn one_read(&mut self, s: &Shape, reach: Reach) -> String {
+        let free = !self.ordered || self.r.chance(3);
+        let reach = if free { ALL } else { reach };
+        match self.r.weighted(&[30, 20, 8, 38, 4]) {
             1 => format!("(n {})", self.r.pick(&s.ins)),
             2 if free => format!("(n {})", self.r.pick(&s.outs)),
-            3 => self.inst_output(s, "-"),
+            3 => self.inst_output(s, reach),
             4 => format!("(n {})", self.r.pick(&[REG, MISSING, VAL])),
-            _ => self.wire(s, if free { 0 } else { from }),
+            _ => self.wire(s, reach.wires_from),
         }
     }
 
@@ -171,30 +181,35 @@ impl Writer<'_> {
         format!("(n {name})")
     }
 
-    /// A read of an instance output; `var` is the index for arrays, `-` outside.
-    fn inst_output(&mut self, s: &Shape, var: &str) -> String {
-        let arrays = s.arrays.len() as u64;
-        let pick = self.r.below(s.insts.len() as u64 + arrays) as usize;
-        if let Some((name, index, module)) = s.insts.get(pick) {
-            let field = self.field(*module);
-            return match index.as_str() {
-                "-" => format!("(f (n {name}) {field})"),
-                _ if self.r.chance(6) => format!("(f (n {name}) {field})"),
-                index => format!("(f (ix (n {name}) {index}) {field})"),
-            };
+    fn inst_output(&mut self, s: &Shape, reach: Reach) -> String {
+        let insts = s.insts.len().min(reach.insts_to);
+        let arrays = if reach.insts_to == usize::MAX { s.arrays.len() } else { 0 };
+        let pick = self.r.below((insts + arrays) as u64) as usize;
+        if pick < insts {
+            let (name, index, module) = &s.insts[pick];
+            return self.one_output(*name, index, *module);
         }
-        match s.arrays.get(pick.wrapping_sub(s.insts.len())) {
+        match s.arrays[..arrays].get(pick - insts) {
             Some((name, module, rounds)) => {
-                let at = self.array_index(var, *rounds);
+                let at = self.array_index(false, *rounds);
                 format!("(f (ix (n {name}) {at}) {})", self.field(*module))
             }
-            None => self.wire(s, 0),
+            None => self.wire(s, reach.wires_from),
         }
     }
 
-    fn array_index(&mut self, var: &str, rounds: u64) -> String {
-        if var != "-" && self.r.chance(80) {
-            return match self.r.below(3) {
+    fn one_output(&mut self, name: u32, index: &str, module: usize) -> String {
+        let field = self.field(module);
+        if index == "-" || self.r.chance(6) {
+            return format!("(f (n {name}) {field})");
+        }
+        format!("(f (ix (n {name}) {index}) {field})")
+    }
+
+    /// An index into an array: by the variable inside its repeat, else a number.
+    fn array_index(&mut self, inside: bool, rounds: u64) -> String {
+        if inside && self.r.chance(80) {
+            return match self.r.weighted(&[60, 25, 15]) {
                 0 => format!("(sub (n {VAR}) 1)"),
                 1 => format!("(add (n {VAR}) 1)"),
                 _ => format!("(n {VAR})"),
@@ -210,12 +225,13 @@ impl Writer<'_> {
         }
     }
 
-    fn conns(&mut self, s: &Shape, module: usize) -> String {
+    fn conns(&mut self, s: &Shape, module: usize, place: usize) -> String {
+        let reach = Reach { wires_from: usize::MAX, insts_to: place };
         let ins = self.shapes.get(module).map(|m| m.ins.clone()).unwrap_or(vec![0]);
         let mut out = String::new();
         for name in ins {
-            if self.r.chance(85) {
-                out.push_str(&format!(" (conn {name} {})", self.reads(s, 0)));
+            if self.r.chance(92) {
+                out.push_str(&format!(" (conn {name} {})", self.reads(s, reach)));
             }
         }
         out
@@ -228,10 +244,10 @@ impl Writer<'_> {
         let mut conns = String::new();
         for port in ins {
             let read = if self.r.chance(70) {
-                let at = self.array_index("v", rounds);
+                let at = self.array_index(true, rounds);
                 format!("(f (ix (n {name}) {at}) {})", self.field(module))
             } else {
-                self.reads(s, 0)
+                self.reads(s, Reach { wires_from: usize::MAX, insts_to: 0 })
             };
             conns.push_str(&format!(" (conn {port} {read})"));
         }

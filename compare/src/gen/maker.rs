@@ -203,7 +203,11 @@ impl<'a> Maker<'a> {
         let index = if self.r.chance(50) { "-".to_string() } else { self.constant(1) };
         let name = self.name(Kind::Inst);
         let start = self.start();
-        format!("(inst {name} {index} {module} {start}{})", self.conns(module, 3))
+        let own = match index.as_str() {
+            "-" => format!("(n {name})"),
+            index => format!("(ix (n {name}) {index})"),
+        };
+        format!("(inst {name} {index} {module} {start}{})", self.conns(module, &own))
     }
 
     fn module_number(&mut self) -> usize {
@@ -213,13 +217,19 @@ impl<'a> Maker<'a> {
         self.r.below(self.mods.len() as u64) as usize
     }
 
-    /// Connections, mostly to inputs of the module.
-    pub fn conns(&mut self, module: usize, most: u64) -> String {
-        let ins = self.mods.get(module).map(|m| m.names(Kind::In)).unwrap_or_default();
+    /// Connections, mostly to inputs of the module, some from its own outputs.
+    fn conns(&mut self, module: usize, own: &str) -> String {
+        let of = |m: &Mod| (m.names(Kind::In), m.names(Kind::Out));
+        let (ins, outs) = self.mods.get(module).map(of).unwrap_or_default();
         let mut out = String::new();
-        for _ in 0..self.r.below(most + 1) {
+        for _ in 0..self.r.below(4) {
             let port = if ins.is_empty() || self.r.chance(12) { self.any() } else { self.r.pick(&ins) };
-            out.push_str(&format!(" (conn {port} {})", self.read(2)));
+            let e = if !outs.is_empty() && self.r.chance(35) {
+                format!("(f {own} {})", self.r.pick(&outs))
+            } else {
+                self.read(2)
+            };
+            out.push_str(&format!(" (conn {port} {e})"));
         }
         out
     }

@@ -9,10 +9,12 @@ use super::rng::Rng;
 const WEIGHTS: Weights = [14, 4, 16, 8, 5, 7, 20, 9, 8, 7, 6];
 /// `blocks` has mostly regs, mems and blocks.
 const BLOCK_WEIGHTS: Weights = [2, 1, 2, 16, 12, 2, 6, 46, 1, 9, 5];
+/// Names 0 to 9 get a kind, most of them.
+const NAMES: u32 = 10;
 const LITERALS: [u64; 14] = [0, 0, 1, 1, 2, 3, 3, 4, 5, 7, 8, 9, 15, 4096];
 
 pub fn small(r: Rng) -> String {
-    design(r, &WEIGHTS, 8)
+    design(r, &WEIGHTS)
 }
 
 pub fn blocks(mut r: Rng) -> String {
@@ -24,7 +26,8 @@ pub fn blocks(mut r: Rng) -> String {
     write(r, starts, &mods, &BLOCK_WEIGHTS, 9)
 }
 
-fn design(mut r: Rng, weights: &Weights, most: i64) -> String {
+fn design(mut r: Rng, weights: &Weights) -> String {
+    let most = r.pick(&[5, 9, 14]);
     let mods = plan(&mut r);
     let starts = match r.weighted(&[70, 22, 8]) {
         0 => Starts::fresh(&mut r),
@@ -52,9 +55,9 @@ fn write(r: Rng, starts: Starts, mods: &[Mod], weights: &Weights, most: i64) -> 
 
 /// The names in play: few, so that they meet, and now and then the last.
 fn any_names(r: &mut Rng) -> Vec<u32> {
-    let mut names: Vec<u32> = (0..12).collect();
+    let mut names: Vec<u32> = (0..NAMES).collect();
     names.extend([20, 21, 22, 255]);
-    names.truncate(6 + r.below(11) as usize);
+    names.truncate(6 + r.below(9) as usize);
     names
 }
 
@@ -66,8 +69,8 @@ fn plan(r: &mut Rng) -> Vec<Mod> {
 fn plan_module(r: &mut Rng) -> Mod {
     let mut kinds = Vec::new();
     let mut vals = Vec::new();
-    for name in 0..12 {
-        if r.chance(75) {
+    for name in 0..NAMES {
+        if r.chance(80) {
             kinds.push((name, some_kind(r)));
         }
         if r.chance(10) {
@@ -106,7 +109,8 @@ fn some_value(r: &mut Rng) -> i64 {
 /// Turns most names into regs and mems.
 fn more_state(r: &mut Rng, m: &mut Mod) {
     for (_, kind) in &mut m.kinds {
-        if r.chance(60) {
+        let keep = if matches!(kind, Kind::Out | Kind::Wire) { 15 } else { 50 };
+        if !r.chance(keep) {
             *kind = if r.chance(60) { Kind::Reg } else { Kind::Mem };
         }
     }

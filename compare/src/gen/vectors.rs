@@ -135,7 +135,8 @@ fn generated_cases() -> Result<Vec<Case>, String> {
 fn sample(profile: &str, i: u64, taken: usize) -> Result<Option<Case>, String> {
     let text = super::text(profile, SEED, i).unwrap_or_default();
     let model = model::answer(&text, model::PROGRAM_BUFFER);
-    if model.number != 0 || (model.reports == 0 && taken % 6 != 5) || text.len() > 2500 {
+    let quiet = model.reports == 0 && taken % 6 != 5;
+    if model.number != 0 || quiet || text.len() > 2500 || model::ties(&text).contains(&true) {
         return Ok(None);
     }
     let answer = rust_answer(&text)?;

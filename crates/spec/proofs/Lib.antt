@@ -5,3 +5,5 @@ pub mod Search
 pub mod Sample
 pub mod Numbers
 pub mod Parts
+pub mod Shown
+pub mod Reading

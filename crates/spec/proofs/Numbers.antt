@@ -2,10 +2,10 @@
 -- Assumes nothing.
 use mathlib.Core.Path.{_≡_, refl, ap, _∙_}
 use mathlib.Core.Bool.{Bool, true, false}
-use mathlib.Core.List.{List, [], _∷_, _++_}
+use mathlib.Core.List.{[], _∷_, _++_}
 use Prim.Native.Nat.{ℕ, zero, suc, _+_, _*_, _-_, _/_, _%_, _≤_, _<_}
 use native.Mathlib.Omega.{arith}
-use lib.Dec.{eqb, ltb}
+use lib.Dec.{ltb}
 use lib.IntN.{ℤ, pos, negsuc}
 use borrow.Author.Tests.{ne-eqb, ltb-true, ltb-false}
 use Rattle.spec.specs.Bytes.{Bytes, same-bytes, digits, show-number, show-int, number-after, number, negated, integer, is-form}
@@ -50,9 +50,10 @@ digits-read (suc f) n h =
     if-case (λ s. Digits s × (number-after 0 s ≡ n)) (ltb n 10) _ _
     (λ e. let l = ltb-true n 10 e in ((omega arith, omega arith, tt), omega arith))
     (λ e. let l = ltb-false n 10 e in
-    let i = digits-read f (n / 10) (omega arith) in
-    (digits-snoc (digits f (n / 10)) (48 + n % 10) (i .0) (omega arith) (omega arith),
-    number-snoc 0 (digits f (n / 10)) (48 + n % 10) ∙ omega (arith, i .1)))
+    let i = digits-read f (n / 10) (omega arith) in (
+      digits-snoc (digits f (n / 10)) (48 + n % 10) (i .0) (omega arith) (omega arith),
+      number-snoc 0 (digits f (n / 10)) (48 + n % 10) ∙ omega (arith, i .1),
+    ))
 
 pub number-digits : (n : ℕ) → Digits (show-number n)
 unfolding show-number

@@ -9,7 +9,7 @@ use lib.Dec.{eqb, ltb}
 use lib.IntN.{ℤ}
 use Rattle.spec.specs.Syntax.{Kind, in-kind, out-kind, wire-kind, reg-kind, mem-kind, inst-kind, Expr, Exprs, lit, truth, name, field, index, if-else, unary, binary, all, Index, whole, at-bit, high-low, LValue, Place, single, at, Conn, Inst, Item, port, wire, reg, mem, const, drive, on, inst, repeat, const-if, Header}
 use Rattle.spec.specs.Value.{Value, known, missing, outside, Names, value, int-eq}
-use Rattle.spec.specs.Search.{among}
+use Rattle.spec.specs.Search.{each-once}
 use Rattle.spec.specs.Site.{kind-of, Driving, an-output, a-wire, a-reg, a-mem, nothing, driving}
 
 -- 01, The edge: a signal; an instance output (name, index or none, output).
@@ -210,10 +210,6 @@ unfoldable pub all-nodes : List Head → List Node
 all-nodes [] = []
 all-nodes (h ∷ hs) = h .node ∷ h .reads ++ all-nodes hs
 
-unfoldable pub different : List Node → List Node
-different [] = []
-different (n ∷ ns) = elim (among same-node n ns) [ true ↦ different ns | false ↦ n ∷ different ns ]
-
 unfoldable pub head-nodes : List Head → List Node
 head-nodes [] = []
 head-nodes (h ∷ hs) = h .node ∷ head-nodes hs
@@ -224,14 +220,14 @@ all-reads (h ∷ hs) n = elim (same-node n (h .node)) [ true ↦ h .reads ++ all
 
 -- what a node reads, each once
 unfoldable pub reads-of : List Head → Node → List Node
-reads-of hs n = different (all-reads hs n)
+reads-of hs n = each-once same-node (all-reads hs n)
 
 unfoldable pub edges-from : List Head → List Node → ℕ
 edges-from hs [] = 0
 edges-from hs (n ∷ ns) = length (reads-of hs n) + edges-from hs ns
 
 unfoldable pub edge-count : List Head → ℕ
-edge-count hs = edges-from hs (different (head-nodes hs))
+edge-count hs = edges-from hs (each-once same-node (head-nodes hs))
 
 abbrev pub node-limit : ℕ
 node-limit = 512
@@ -241,4 +237,4 @@ edge-limit = 4096
 
 -- 01, Refused because of the state: in one module 512 nodes, 4,096 different edges.
 unfoldable pub over-graph : List Head → Bool
-over-graph hs = ltb node-limit (length (different (all-nodes hs))) || ltb edge-limit (edge-count hs)
+over-graph hs = ltb node-limit (length (each-once same-node (all-nodes hs))) || ltb edge-limit (edge-count hs)

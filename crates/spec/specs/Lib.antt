@@ -3,6 +3,7 @@ pub mod Syntax
 pub mod Show
 pub mod Decode
 pub mod Refusal
+pub mod Reading
 pub mod Value
 pub mod Collect
 pub mod Site
@@ -16,3 +17,6 @@ pub mod Check
 pub mod Graph
 pub mod Net
 pub mod Walks
+pub mod Opened
+pub mod Refusals
+pub mod Rest

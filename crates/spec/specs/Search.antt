@@ -22,6 +22,11 @@ module _ {A : Type 0} (same : A → A → Bool) where
   among a [] = false
   among a (b ∷ l) = elim (same a b) [ true ↦ true | false ↦ among a l ]
 
+  -- the members of a list, each once
+  unfoldable pub each-once : List A → List A
+  each-once [] = []
+  each-once (a ∷ l) = elim (among a l) [ true ↦ each-once l | false ↦ a ∷ each-once l ]
+
   -- the open path from n on, which was entered in the order n .. last: `path` has the last entered first
   unfoldable pub back-to : A → List A → List A → List A
   back-to n [] walk = walk

@@ -1,0 +1,268 @@
+//! What `compare` must notice, and what it must let pass.
+
+use compare::compare::command::CheckerCommand;
+use compare::compare::run::{compare_all, smallest, Counts};
+use compare::compare::{judge, options, rules, shrink, Against, Checker, Verdict};
+use compare::{gen, model};
+use std::process::Command;
+
+fn texts(profile: &'static str, count: u64) -> impl Iterator<Item = (String, Vec<u8>)> {
+    (0..count).map(move |i| (i.to_string(), gen::text(profile, 3, i).unwrap()))
+}
+
+fn counts(checker: &mut Checker, against: Against, profile: &'static str) -> Counts {
+    compare_all(profile, texts(profile, 100), checker, against, &mut std::io::sink()).unwrap()
+}
+
+fn differences(mut checker: impl FnMut(&[u8]) -> Vec<u8>, against: Against) -> u64 {
+    let mut checker = |text: &[u8]| Ok(checker(text));
+    counts(&mut checker, against, "small").differences
+}
+
+fn lines(printed: &[u8]) -> Vec<&[u8]> {
+    printed.split_inclusive(|&b| b == b'\n').collect()
+}
+
+#[test]
+fn the_model_is_the_same() {
+    for profile in gen::PROFILES {
+        let mut model = |text: &[u8]| Ok(model::printed(text));
+        let counts = counts(&mut model, Against::Oracle, profile);
+        assert_eq!(counts.differences, 0, "{profile}");
+        let refused: u64 = counts.refused.values().sum();
+        assert_eq!(counts.texts, 100);
+        assert_eq!(refused + counts.exact + counts.tied, 100);
+    }
+}
+
+#[test]
+fn notices_a_checker_that_prints_nothing() {
+    assert!(differences(|_| Vec::new(), Against::Oracle) > 50);
+    assert!(differences(|_| Vec::new(), Against::Model) > 50);
+}
+
+#[test]
+fn notices_a_checker_that_drops_the_last_line() {
+    let drops = |text: &[u8]| {
+        let mut printed = model::printed(text);
+        let kept = printed.len() - lines(&printed).last().map_or(0, |l| l.len());
+        printed.truncate(kept);
+        printed
+    };
+    assert!(differences(drops, Against::Oracle) > 50);
+}
+
+#[test]
+fn notices_a_checker_that_checks_only_module_0() {
+    let only_first = |text: &[u8]| {
+        let printed = model::printed(text);
+        let of_first = |l: &&&[u8]| l.split(|&b| b == b' ').nth(1) == Some(b"0");
+        lines(&printed).iter().filter(of_first).copied().collect::<Vec<_>>().concat()
+    };
+    assert!(differences(only_first, Against::Oracle) > 10);
+}
+
+#[test]
+fn notices_a_checker_that_adds_or_changes_a_report() {
+    let adds = |text: &[u8]| [model::printed(text), b"(E0503 9 9 9 none)\n".to_vec()].concat();
+    assert_eq!(differences(adds, Against::Oracle), 100);
+    let swaps = |text: &[u8]| {
+        let printed = model::printed(text);
+        lines(&printed).iter().rev().copied().collect::<Vec<_>>().concat()
+    };
+    assert!(differences(swaps, Against::Oracle) > 10);
+    let unended = |text: &[u8]| {
+        let mut printed = model::printed(text);
+        printed.pop();
+        printed
+    };
+    assert!(differences(unended, Against::Oracle) > 50);
+}
+
+#[test]
+fn counts_refusals_but_compares_them_only_when_asked() {
+    let refuses = |_: &[u8]| b"(refused 20 0)\n".to_vec();
+    assert_eq!(differences(refuses, Against::Oracle), 0);
+    assert!(differences(refuses, Against::Refusals) > 90);
+    let mut refuses = |_: &[u8]| Ok(b"(refused 20 0)\n".to_vec());
+    let counted = counts(&mut refuses, Against::Oracle, "small").refused;
+    assert_eq!(counted.into_iter().collect::<Vec<_>>(), [(20, 100)]);
+}
+
+#[test]
+fn refusals_are_compared_by_number_and_line() {
+    let text = b"(module 0 bound)\n(reg 256 1)\n";
+    let verdict = |printed: &'static [u8]| {
+        let mut checker = |_: &[u8]| Ok(printed.to_vec());
+        judge(&mut checker, Against::Refusals, text)
+    };
+    assert_eq!(verdict(b"(refused 5 2)\n"), Verdict::Refused(5));
+    for wrong in [&b"(refused 5 1)\n"[..], b"(refused 4 2)\n", b"", b"(E0503 0 1 256 none)\n"] {
+        assert!(matches!(verdict(wrong), Verdict::Different(_)));
+    }
+    let mut accepts = |_: &[u8]| Ok(b"(E0503 0 1 4 none)\n".to_vec());
+    let accepted = b"(module 0 bound)\n";
+    assert_eq!(judge(&mut accepts, Against::Refusals, accepted), Verdict::Exact);
+    assert!(matches!(judge(&mut accepts, Against::Model, accepted), Verdict::Different(_)));
+}
+
+const TIED: &[u8] = b"(module 0 bound)\n(kind 1 wire)\n(kind 2 wire)\n(kind 4 out)\n(kind 5 out)\n\
+    (wire 1 (n 2) 5)\n(wire 2 (n 1) 5)\n\
+    (drive (lv 4 1) 0)\n(drive (lv 5 1) 0)\n(drive (lv 4 2) 0)\n(drive (lv 5 2) 0)\n";
+
+fn tied_verdict(printed: &'static str) -> Verdict {
+    let mut checker = |_: &[u8]| Ok(printed.as_bytes().to_vec());
+    judge(&mut checker, Against::Oracle, TIED)
+}
+
+#[test]
+fn on_ties_only_loop_or_no_loop() {
+    let conflicts = "(E0501 0 2 4 many)\n(E0501 0 2 5 many)\n";
+    for walk in ["(walk 1 2 1)", "(walk 2 1 2)"] {
+        let printed = format!("{conflicts}(E0504 0 5 {walk})\n").leak();
+        assert_eq!(tied_verdict(printed), Verdict::Tied);
+    }
+    assert!(matches!(tied_verdict(conflicts), Verdict::Different(_)));
+    let other_module = "(E0501 0 2 4 many)\n(E0501 0 2 5 many)\n(E0504 1 5 (walk 1 2 1))\n";
+    assert!(matches!(tied_verdict(other_module), Verdict::Different(_)));
+}
+
+#[test]
+fn conflicts_at_one_start_are_a_set() {
+    let swapped = "(E0501 0 2 5 many)\n(E0501 0 2 4 many)\n(E0504 0 5 (walk 1 2 1))\n";
+    assert_eq!(tied_verdict(swapped), Verdict::Tied);
+    let doubled = "(E0501 0 2 5 many)\n(E0501 0 2 5 many)\n(E0504 0 5 (walk 1 2 1))\n";
+    assert!(matches!(tied_verdict(doubled), Verdict::Different(_)));
+    // at different STARTs the order counts, and only `many` is a set
+    for (a, b) in [
+        ("(E0501 0 2 5 many)", "(E0501 0 3 4 many)"),
+        ("(E0501 0 2 5 wire)", "(E0501 0 2 4 wire)"),
+        ("(E0502 0 2 5 never)", "(E0502 0 2 4 never)"),
+        ("(E0501 0 2 5 many)", "(E0501 1 2 4 many)"),
+    ] {
+        let (a, b) = (a.to_string(), b.to_string());
+        let one = rules::comparable(&[a.clone(), b.clone()], &[]);
+        assert_ne!(one, rules::comparable(&[b, a], &[]));
+    }
+}
+
+#[test]
+fn loops_of_other_modules_stay_exact() {
+    let looped = |m: u32, walk: &str| format!("(E0504 {m} 5 (walk {walk}))");
+    let one = [looped(0, "1 2 1"), looped(0, "3 3"), looped(1, "1 1")];
+    let two = [looped(0, "2 1 2"), looped(1, "1 1")];
+    let three = [looped(0, "2 1 2"), looped(1, "2 2")];
+    let ties = [true, false];
+    assert_eq!(rules::comparable(&one, &ties), rules::comparable(&two, &ties));
+    assert_ne!(rules::comparable(&two, &ties), rules::comparable(&three, &ties));
+    assert_ne!(rules::comparable(&one, &[]), rules::comparable(&two, &[]));
+}
+
+#[test]
+fn a_difference_is_made_small() {
+    let mut no_regs = |text: &[u8]| {
+        let printed = model::printed(text);
+        let kept = |l: &&&[u8]| !l.starts_with(b"(E0503 ");
+        Ok(lines(&printed).iter().filter(kept).copied().collect::<Vec<_>>().concat())
+    };
+    let mut made_small = 0;
+    for (_, text) in texts("small", 40) {
+        let Verdict::Different(found) = judge(&mut no_regs, Against::Oracle, &text) else {
+            continue;
+        };
+        let Some((small, found)) = smallest(&mut no_regs, Against::Oracle, &text, &found) else {
+            continue;
+        };
+        assert!(matches!(judge(&mut no_regs, Against::Oracle, &small), Verdict::Different(_)));
+        assert_eq!(model::answer(&small, usize::MAX).number, 0);
+        assert!(found.other.iter().any(|l| l.starts_with("(E0503 ")));
+        assert!(small.len() < text.len() && small.len() < 200);
+        made_small += 1;
+    }
+    assert!(made_small > 5);
+}
+
+#[test]
+fn shrinking_keeps_what_matters_and_stops() {
+    let has_x = |text: &[u8]| text.contains(&b'x');
+    assert_eq!(shrink::shrink(b"(a 1)\n(b (c 2 x) (d 3))\n(e)\n", 500, has_x), b"(b x)\n");
+    assert_eq!(shrink::shrink(b"(a 1)\n(x)\n", 0, has_x), b"(a 1)\n(x)\n");
+    assert_eq!(shrink::shrink(b"", 10, |_| true), b"");
+}
+
+#[test]
+fn a_command_is_run_for_each_text() {
+    let model = CheckerCommand { program: env!("CARGO_BIN_EXE_model").into(), args: vec![] };
+    model.try_start().unwrap();
+    for (_, text) in texts("damaged", 20) {
+        assert_eq!(model.print(&text).unwrap(), model::printed(&text));
+    }
+    let none = CheckerCommand { program: "no such checker".into(), args: vec![] };
+    assert!(none.try_start().is_err());
+    assert!(none.print(b"").is_err());
+    // a program that fails and prints nothing is different, even where nothing is to be printed
+    let fails = CheckerCommand {
+        program: env!("CARGO_BIN_EXE_compare").into(),
+        args: vec!["--no-such-option".into()],
+    };
+    let mut checker = |text: &[u8]| fails.print(text);
+    assert!(matches!(judge(&mut checker, Against::Oracle, b""), Verdict::Different(_)));
+}
+
+fn parse(args: &[&str]) -> Result<options::Options, String> {
+    let args: Vec<String> = args.iter().map(|a| a.to_string()).collect();
+    options::parse(&args, gen::PROFILES)
+}
+
+#[test]
+fn arguments() {
+    let options = parse(&["--seed", "7", "--from", "5", "--count", "9", "check", "--seed", "x"]);
+    let options = options.unwrap();
+    assert_eq!((options.seed, options.from, options.count), (7, 5, 9));
+    assert_eq!(options.profiles, gen::PROFILES);
+    let checker = CheckerCommand { program: "check".into(), args: vec!["--seed".into(), "x".into()] };
+    assert_eq!(options.checker, Some(checker));
+    assert_eq!(options.against, Against::Oracle);
+    let options = parse(&["--model", "--refusals", "--profile", gen::PROFILES[0]]).unwrap();
+    assert_eq!((options.profiles.len(), options.checker), (1, None));
+    for bad in [
+        &[][..],
+        &["--model", "check"],
+        &["--what", "check"],
+        &["--count", "check"],
+        &["--count", "-1", "check"],
+        &["--profile"],
+        &["--profile", "none", "check"],
+        &["--cases", "x", "--profile", gen::PROFILES[0], "check"],
+        &["--refusals", "--against-model", "check"],
+    ] {
+        let error = parse(bad).unwrap_err();
+        assert_eq!(error.lines().count(), 1, "{error}");
+    }
+}
+
+fn program(args: &[&str]) -> (Option<i32>, String, String) {
+    let out = Command::new(env!("CARGO_BIN_EXE_compare")).args(args).output().unwrap();
+    let text = |bytes| String::from_utf8(bytes).unwrap();
+    (out.status.code(), text(out.stdout), text(out.stderr))
+}
+
+#[test]
+fn the_program_and_its_exit_status() {
+    let model = env!("CARGO_BIN_EXE_model");
+    let (status, out, _) = program(&["--count", "5", model]);
+    assert_eq!(status, Some(0));
+    assert_eq!(out.lines().count(), gen::PROFILES.len());
+    let (status, _, _) = program(&["--refusals", "--profile", "damaged", "--count", "20", model]);
+    assert_eq!(status, Some(0));
+    // the model refuses the arguments' text only, so as a checker it takes any argument; `compare`
+    // itself, without arguments, fails on every text
+    let (status, out, _) = program(&["--count", "3", env!("CARGO_BIN_EXE_compare")]);
+    assert_eq!(status, Some(1));
+    assert!(out.contains("differences 3"));
+    for bad in [&["no such checker"][..], &["--cases", "no such file", "--model"], &["--bad"]] {
+        let (status, out, error) = program(bad);
+        assert_eq!((status, out.as_str()), (Some(2), ""));
+        assert_eq!(error.lines().count(), 1);
+    }
+}

@@ -1,0 +1,142 @@
+//! The generator and the stored vectors.
+
+use compare::cases::{read_cases, Case};
+use compare::gen::{text, vectors, PROFILES};
+use compare::model;
+use std::collections::HashSet;
+use std::path::Path;
+
+/// The text of case P1 as the scope page has it.
+const P1: &str = "\
+(module 0 bound)
+(kind 1 in)
+(kind 2 out)
+(kind 3 wire)
+(kind 4 reg)
+(port out 2 (bits 8) 10)
+(reg 4 20)
+(wire 3 (all (n 1) (n 2)) 30)
+(drive (lv 2 40 7 4) (n 3))
+(drive (lv 2 50 2 0) (n 4))
+";
+const P1_ANSWER: &str = "\
+(E0502 0 10 2 gap 3)
+(E0503 0 20 4 none)
+(E0504 0 30 (walk 3 2 3))
+";
+
+const FILES: [&str; 3] = ["cases.cases", "generated.cases", "refusals.cases"];
+
+fn stored(file: &str) -> Vec<Case> {
+    let path = Path::new(env!("CARGO_MANIFEST_DIR")).join("vectors").join(file);
+    read_cases(&std::fs::read(path).unwrap()).unwrap()
+}
+
+fn is_refusal(answer: &[u8]) -> bool {
+    answer.starts_with(b"(refused ")
+}
+
+#[test]
+fn the_same_three_give_the_same_bytes() {
+    for profile in PROFILES {
+        for i in [0, 1, 77, u64::MAX] {
+            assert_eq!(text(profile, 5, i), text(profile, 5, i), "{profile} {i}");
+        }
+    }
+}
+
+#[test]
+fn other_indexes_and_seeds_give_other_bytes() {
+    for profile in PROFILES {
+        let many: HashSet<Vec<u8>> = (0..200).filter_map(|i| text(profile, 5, i)).collect();
+        assert!(many.len() > 100, "{profile}: {} of 200 differ", many.len());
+        let differ = (0..200).filter(|&i| text(profile, 5, i) != text(profile, 6, i)).count();
+        assert!(differ > 50, "{profile}: {differ} of 200 differ by seed");
+    }
+}
+
+#[test]
+fn an_unknown_profile_gives_nothing() {
+    assert_eq!(text("", 1, 1), None);
+    assert_eq!(text("unknown", 1, 1), None);
+}
+
+/// All but `damaged` and the texts past a limit are well formed.
+#[test]
+fn texts_are_well_formed() {
+    for profile in PROFILES.iter().filter(|p| !["limits", "damaged"].contains(p)) {
+        for i in 0..3000 {
+            let text = text(profile, 11, i).unwrap();
+            let number = model::answer(&text, model::PROGRAM_BUFFER).number;
+            assert!([0, 20, 21].contains(&number), "{profile} 11 {i}: refused {number}");
+        }
+    }
+}
+
+#[test]
+fn limits_at_the_limit_are_accepted_and_past_it_not() {
+    let passed_only = [15, 16, 18];
+    for i in 0..400 {
+        let text = text("limits", 3, i).unwrap();
+        let number = model::answer(&text, model::PROGRAM_BUFFER).number;
+        let limit = i / 2 % 20;
+        let refused = limit == 19 || (i % 2 == 1 && !passed_only.contains(&limit));
+        assert_eq!(number != 0, refused, "limits 3 {i}: {number}");
+    }
+}
+
+#[test]
+fn most_texts_are_small() {
+    for profile in PROFILES.iter().filter(|p| **p != "limits") {
+        let small = (0..1000).filter(|&i| text(profile, 2, i).unwrap().len() <= 2048).count();
+        assert!(small > 750, "{profile}: {small} of 1000");
+    }
+}
+
+#[test]
+fn the_first_case_is_the_scope_pages() {
+    let cases = stored("cases.cases");
+    assert_eq!(cases[0].name, "P1");
+    assert_eq!(cases[0].text, P1.as_bytes());
+    assert_eq!(cases[0].answer, P1_ANSWER.as_bytes());
+    for k in 1..=10 {
+        assert!(cases.iter().any(|c| c.name == format!("P{k}")), "P{k}");
+    }
+}
+
+#[test]
+fn stored_vectors_are_what_the_program_writes() {
+    for (file, cases) in vectors::files().unwrap() {
+        assert!(stored(file) == cases, "{file} is not what gen --vectors writes");
+    }
+}
+
+#[test]
+fn names_are_given_once() {
+    let names: Vec<String> = FILES.iter().flat_map(|f| stored(f)).map(|c| c.name).collect();
+    let different: HashSet<&String> = names.iter().collect();
+    assert_eq!(names.len(), different.len());
+    assert!(names.len() >= 300);
+}
+
+#[test]
+fn the_model_gives_the_stored_answers() {
+    for case in FILES.iter().flat_map(|f| stored(f)) {
+        let printed = model::printed(&case.text);
+        let shown = String::from_utf8_lossy(&printed);
+        assert!(printed == case.answer, "{}: the model prints\n{shown}", case.name);
+    }
+}
+
+#[test]
+fn every_refusal_number_is_there() {
+    let refusals = stored("refusals.cases");
+    for number in [1, 2, 3, 4, 5, 6, 7, 8, 20, 21] {
+        let head = format!("(refused {number} ");
+        let count = refusals.iter().filter(|c| c.answer.starts_with(head.as_bytes())).count();
+        assert!(count >= 2, "refusal {number}: {count}");
+    }
+    for file in ["cases.cases", "generated.cases"] {
+        assert!(stored(file).iter().all(|c| !is_refusal(&c.answer)), "{file}");
+    }
+}

@@ -1,0 +1,150 @@
+-- What is refused because of the state, and what a refusal leaves. 01: Refused because of the state.
+-- Assumes nothing: these are definitions.
+use mathlib.Core.Path.{_≡_}
+use mathlib.Core.Logic.{_↔_, _⊎_}
+use mathlib.Core.Bool.{Bool, true, false, _||_}
+use mathlib.Core.List.{List, [], _∷_, _++_}
+use mathlib.Core.Option.{Option, some, none}
+use Prim.Native.Nat.{ℕ, suc, _≤_, _<_}
+use lib.ListN.{length, getElem?}
+use lib.Dec.{eqb}
+use Rattle.spec.specs.Bytes.{Bytes}
+use Rattle.spec.specs.Syntax.{Expr, Exprs, lit, truth, name, field, index, if-else, unary, binary, all, Index, Conn, Inst, Item, Items, port, wire, reg, mem, const, drive, on, inst, repeat, const-if, Header, Module, Design}
+use Rattle.spec.specs.Refusal.{well-formed, refused, refusal, decode, has-name}
+use Rattle.spec.specs.Value.{outside, Names, value, Table, own-vals, name-table, const-names}
+use Rattle.spec.specs.Collect.{Collected, collection}
+use Rattle.spec.specs.Site.{kind-of, Driving, an-output, a-wire, a-reg, a-mem, nothing, driving, index-constants, line-constants, sites, sites-of, misuses, once-a-name, misused-names, conflicts, conflict-names, Output, outputs, deciding-width}
+use Rattle.spec.specs.Block.{pairs}
+use Rattle.spec.specs.Search.{each-once}
+use Rattle.spec.specs.Edge.{same-node, is-inst, Head, Summary, all-nodes, edge-count, node-limit, edge-limit, inst-of}
+use Rattle.spec.specs.Summary.{Kept, kept-summary, triples, triple-limit, Asked, ask-for, comb-summary, make-summary, lines-heads, module-heads}
+use Rattle.spec.specs.Report.{show-reports}
+use Rattle.spec.specs.Check.{site-limit, pair-limit, Checked, check-modules, check-design, refuse, accept, Lent, too-short, check-drivers}
+use Rattle.spec.specs.Graph.{_∈_}
+
+-- 01, The edge: the indexes that are evaluated where an expression is read: of `(f (ix (n I) E) P)`, I an inst.
+unfoldable pub field-index : List Header → Expr → List Expr
+field-index hs (index (name i) e) = elim (is-inst (kind-of hs i)) [ true ↦ e ∷ [] | false ↦ [] ]
+field-index hs (index (lit n) e) = []
+field-index hs (index (truth b) e) = []
+field-index hs (index (field a n) e) = []
+field-index hs (index (index a b) e) = []
+field-index hs (index (if-else c a b) e) = []
+field-index hs (index (unary o a) e) = []
+field-index hs (index (binary o a b) e) = []
+field-index hs (index (all es) e) = []
+field-index hs (lit n) = []
+field-index hs (truth b) = []
+field-index hs (name n) = []
+field-index hs (field e n) = []
+field-index hs (if-else c a b) = []
+field-index hs (unary o a) = []
+field-index hs (binary o a b) = []
+field-index hs (all es) = []
+
+unfoldable mutual
+  pub read-constants : Expr → List Header → List Expr
+  read-constants (lit n) hs = []
+  read-constants (truth b) hs = []
+  read-constants (name n) hs = []
+  read-constants (field e n) hs = field-index hs e
+  read-constants (index e i) hs = read-constants e hs ++ read-constants i hs
+  read-constants (if-else c a b) hs = read-constants c hs ++ read-constants a hs ++ read-constants b hs
+  read-constants (unary o a) hs = read-constants a hs
+  read-constants (binary o a b) hs = read-constants a hs ++ read-constants b hs
+  read-constants (all es) hs = reads-constants es hs
+
+  pub reads-constants : Exprs → List Header → List Expr
+  reads-constants Exprs.none hs = []
+  reads-constants (Exprs.more e es) hs = read-constants e hs ++ reads-constants es hs
+
+-- 01, The edge: what a line reads: of an instance line the connections to inputs that some output reaches
+unfoldable pub is-reached : ℕ → Summary → Bool
+is-reached i [] = false
+is-reached i (p ∷ s) = eqb i (p .1) || is-reached i s
+
+unfoldable pub conns-read : Summary → List Conn → List Expr
+conns-read s [] = []
+conns-read s (c ∷ cs) = elim (is-reached (c .port) s) [ true ↦ c .signal ∷ conns-read s cs | false ↦ conns-read s cs ]
+
+abbrev pub drive-read : Driving → Index → Expr → List Expr
+drive-read an-output x e = e ∷ index-constants x
+drive-read a-wire x e = e ∷ index-constants x
+drive-read a-reg x e = []
+drive-read a-mem x e = []
+drive-read nothing x e = []
+
+unfoldable pub line-read : List Header → Summary → Item → List Expr
+line-read hs s (wire n e start) = e ∷ []
+line-read hs s (drive lv e) = drive-read (driving (kind-of hs (lv .name))) (lv .index) e
+line-read hs s (inst i) = conns-read s (i .conns)
+line-read hs s (port d n w start) = []
+line-read hs s (reg n start) = []
+line-read hs s (mem n start) = []
+line-read hs s (const n e) = []
+line-read hs s (on start ss) = []
+line-read hs s (repeat n l h is) = []
+line-read hs s (const-if c is js) = []
+
+-- 01, Refused because of the state: in one module 512 nodes (headed or read), 4,096 different edges.
+pub data GraphPasses (hs : List Head) : Type 0 where
+  many-nodes : node-limit < length (each-once same-node (all-nodes hs)) → GraphPasses hs
+  many-edges : edge-limit < edge-count hs → GraphPasses hs
+
+-- A walk over collected lines passes a limit or evaluates an index outside INT: where a line is reached, with the summaries kept then.
+-- `ask` is how its instance lines ask for summaries, and `Asks` whether that passes.
+pub data LinesPass (ask : Kept → ℕ → Asked) (Asks : Kept → ℕ → Type 0) (hs : List Header) (kept : Kept) (lines : List Collected) : Type 0 where
+  line-asks : (before after : List Collected) (c : Collected) (i : Inst) → lines ≡ before ++ c ∷ after → inst-of (c .item) ≡ some i → Asks (lines-heads ask hs kept before .kept) (i .«module») → LinesPass ask Asks hs kept lines
+  line-reads : (before after : List Collected) (c : Collected) (e f : Expr) → lines ≡ before ++ c ∷ after → e ∈ line-read hs (ask-for ask (lines-heads ask hs kept before .kept) (inst-of (c .item)) .summary) (c .item) → f ∈ read-constants e hs → value (c .names) f ≡ outside → LinesPass ask Asks hs kept lines
+
+-- the making of a summary passes: its own walk, its graph, or 1,024 summary triples in all
+pub data MakingPasses (ask : Kept → ℕ → Asked) (Asks : Kept → ℕ → Type 0) (kept : Kept) (m : ℕ) (k : Module) : Type 0 where
+  summary-walk : LinesPass ask Asks (k .header) kept (collection (own-vals k) k .lines) → MakingPasses ask Asks kept m k
+  summary-graph : GraphPasses (lines-heads ask (k .header) kept (collection (own-vals k) k .lines) .heads) → MakingPasses ask Asks kept m k
+  many-triples : triple-limit < triples (make-summary ask kept m k .kept) → MakingPasses ask Asks kept m k
+
+-- asking for a summary passes: it is made now, and that passes
+unfoldable pub AskPasses : ℕ → Design → List ℕ → Kept → ℕ → Type 0
+AskPasses ℕ.zero d busy kept m = ⊥
+AskPasses (suc fuel) d busy kept m =
+    (k : Module) × (getElem? d m ≡ some k) × (kept-summary kept m ≡ none) × (has-name m busy ≡ false)
+    × MakingPasses (comb-summary fuel d (m ∷ busy)) (λ kept′ m′. AskPasses fuel d (m ∷ busy) kept′ m′) kept m k
+
+-- 01, The value: the top-level `const` lines are evaluated in order, each under the names before it
+unfoldable pub const-table : Table → List Item → Table
+const-table t [] = t
+const-table t (i ∷ is) = const-table (const-names t (Items.more i Items.none)) is
+
+unfoldable pub item-list : Items → List Item
+item-list Items.none = []
+item-list (Items.more i is) = i ∷ item-list is
+
+-- the names that get no further report once collection and conflicts are reported
+abbrev pub poisoned-names : Module → List ℕ
+poisoned-names k =
+    let lines = collection (own-vals k) k .lines in
+    let ss = sites (k .bound) (k .header) lines in
+    let ms = misused-names (once-a-name [] (misuses (k .header) lines)) in
+    conflict-names (conflicts ms ss ss) ++ ms
+
+-- 01, Refused because of the state: what makes the own check of a module pass a limit, or evaluate a constant outside INT
+pub data ModulePasses (d : Design) (kept : Kept) (k : Module) : Type 0 where
+  const-outside : (before after : List Item) (n : ℕ) (e : Expr) → item-list (k .items) ≡ before ++ Item.const n e ∷ after → value (const-table (record { names = own-vals k; out = false }) before .names) e ≡ outside → ModulePasses d kept k
+  line-outside : (c : Collected) (e : Expr) → c ∈ collection (own-vals k) k .lines → e ∈ line-constants (k .header) (c .item) → value (c .names) e ≡ outside → ModulePasses d kept k
+  width-outside : (o : Output) → o ∈ outputs (collection (own-vals k) k .lines) → has-name (o .name) (poisoned-names k) ≡ false → deciding-width (name-table (own-vals k) k .names) (sites-of (o .name) (sites (k .bound) (k .header) (collection (own-vals k) k .lines))) (o .width) ≡ outside → ModulePasses d kept k
+  many-sites : site-limit < length (sites (k .bound) (k .header) (collection (own-vals k) k .lines)) → ModulePasses d kept k
+  many-pairs : pair-limit < length (pairs (k .header) (collection (own-vals k) k .lines)) → ModulePasses d kept k
+  own-walk : LinesPass (comb-summary (suc (length d)) d []) (λ kept′ m. AskPasses (suc (length d)) d [] kept′ m) (k .header) kept (collection (own-vals k) k .lines) → ModulePasses d kept k
+  own-graph : GraphPasses (module-heads d kept k (collection (own-vals k) k .lines) .heads) → ModulePasses d kept k
+
+-- some module's own check, with the summaries that those before it kept
+pub data Passes (d : Design) : Type 0 where
+  own-check : (before after : List Module) (k : Module) → d ≡ before ++ k ∷ after → ModulePasses d (check-modules d [] 0 before .kept) k → Passes d
+
+-- the answer's cases: 20 exactly when a slice is too short, or the text has no fault and a listed limit is passed or an evaluated
+-- constant leaves INT; 21 exactly when not 20 and the report text is longer than the buffer; a refusal gives zeros and keeps the buffer
+pub record Refusals : Type 0 where
+  pub twenty : (working : List Lent) (text buffer : Bytes) → check-drivers working text buffer ≡ refuse 20 0 buffer ↔ ((too-short working ≡ true) ⊎ ((refusal text ≡ well-formed) × Passes (decode text)))
+  pub twenty-one : (working : List Lent) (text buffer : Bytes) → check-drivers working text buffer ≡ refuse 21 0 buffer ↔ ((too-short working ≡ false) × (refusal text ≡ well-formed) × ¬ Passes (decode text) × (length buffer < length (show-reports (check-design (decode text) .reports))))
+  pub by-text : (working : List Lent) (text buffer : Bytes) (k n : ℕ) → too-short working ≡ false → refusal text ≡ refused k n → check-drivers working text buffer ≡ refuse k n buffer
+  pub otherwise : (working : List Lent) (text buffer : Bytes) → too-short working ≡ false → refusal text ≡ well-formed → ¬ Passes (decode text) → length (show-reports (check-design (decode text) .reports)) ≤ length buffer → check-drivers working text buffer ≡ accept (show-reports (check-design (decode text) .reports)) (check-design (decode text)) buffer

@@ -1,0 +1,41 @@
+-- Demand 3 as one statement. 01: The edge, Rest; DESIGN of the claim: loops reported, walks shown, one resting state.
+-- Assumes nothing: these are definitions.
+use mathlib.Core.Path.{_≡_}
+use mathlib.Core.Logic.{_↔_}
+use mathlib.Core.List.{List, [], _∷_}
+use Prim.Native.Nat.{ℕ}
+use Rattle.spec.specs.Bytes.{Bytes}
+use Rattle.spec.specs.Syntax.{Design}
+use Rattle.spec.specs.Refusal.{decode}
+use Rattle.spec.specs.Edge.{Node}
+use Rattle.spec.specs.Report.{Report, loop-report}
+use Rattle.spec.specs.Check.{Lent, Checked, check-design, check-drivers}
+use Rattle.spec.specs.Graph.{_∈_, Once, ClosedWalk, Graph}
+use Rattle.spec.specs.Net.{ComesToRest}
+use Rattle.spec.specs.Opened.{Signal, signal-reads, opened-signals, OnClosedWalk, Premises}
+
+-- signals of an opened design, listed once each, with all that they read
+pub record Listing (d : Design) (m : ℕ) (signals : List Signal) : Type 0 where
+  pub same : (s t : Signal) → Dec (s ≡ t)
+  pub once : Once signals
+  pub closed : (s r : Signal) → s ∈ signals → r ∈ signal-reads d m s → r ∈ signals
+
+abbrev pub opened-graph : (d : Design) (m : ℕ) (signals : List Signal) → Listing d m signals → Graph
+opened-graph d m signals l =
+    record { Signal = Signal; same = l .same; signals = signals; once = l .once; reads = signal-reads d m; closed = l .closed }
+
+abbrev pub NoLoopReport : Design → Type 0
+NoLoopReport d = (m start : ℕ) (w : List Node) → ¬ (loop-report m start w ∈ check-design d .reports)
+
+-- 01, demand 3: no loop is reported exactly when no module opens into a design with a closed walk; each loop report shows such a walk;
+-- where no loop is reported every opened design has exactly one resting state, reached from every start after as many rounds as
+-- there are signals, for every list of rounds. It holds of every listing of signals, and the opened design's own is one.
+pub record LoopsAndRest (d : Design) : Type 1 where
+  pub none-exactly : NoLoopReport d ↔ ((m : ℕ) (w : List Signal) → ¬ ClosedWalk (signal-reads d m) w)
+  pub each-shows : (m start : ℕ) (w : List Node) → loop-report m start w ∈ check-design d .reports → OnClosedWalk d m w
+  pub listing : (m : ℕ) → Listing d m (opened-signals d m)
+  pub rests : NoLoopReport d → (m : ℕ) (signals : List Signal) (l : Listing d m signals) → ComesToRest (opened-graph d m signals l)
+
+-- of every accepted text that meets the premises
+abbrev pub Rest : Type 1
+Rest = (working : List Lent) (text buffer : Bytes) → check-drivers working text buffer .number ≡ 0 → Premises (decode text) → LoopsAndRest (decode text)
