@@ -53,7 +53,11 @@ pub fn judge(checker: &mut Checker, against: Against, text: &[u8]) -> Verdict {
     };
     let Some(lines) = rules::lines(&printed) else {
         let lines = vec![String::from_utf8_lossy(&printed).into_owned()];
-        return different("the output has no final line feed".into(), lines, Vec::new());
+        return different(
+            "the output has no final line feed".into(),
+            lines,
+            Vec::new(),
+        );
     };
     match against {
         Against::Oracle => by_oracle(lines, text),
@@ -76,9 +80,22 @@ fn by_oracle(lines: Vec<String>, text: &[u8]) -> Verdict {
     }
     let oracle = match oracle::prepare(text) {
         Ok(oracle) => oracle,
-        Err(e) => return different(format!("accepted, but the original: {e}"), lines, Vec::new()),
+        Err(e) => {
+            return different(
+                format!("accepted, but the original: {e}"),
+                lines,
+                Vec::new(),
+            )
+        }
     };
     let ties = model::ties(text);
+    if ties.is_empty() && !text.is_empty() {
+        return different(
+            "accepted, but to be refused".into(),
+            lines,
+            model_lines(text),
+        );
+    }
     let tied = ties.contains(&true);
     for _ in 0..if tied { TIED_RUNS } else { 1 } {
         let other = oracle.run();

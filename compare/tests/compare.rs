@@ -11,7 +11,14 @@ fn texts(profile: &'static str, count: u64) -> impl Iterator<Item = (String, Vec
 }
 
 fn counts(checker: &mut Checker, against: Against, profile: &'static str) -> Counts {
-    compare_all(profile, texts(profile, 100), checker, against, &mut std::io::sink()).unwrap()
+    compare_all(
+        profile,
+        texts(profile, 100),
+        checker,
+        against,
+        &mut std::io::sink(),
+    )
+    .unwrap()
 }
 
 fn differences(mut checker: impl FnMut(&[u8]) -> Vec<u8>, against: Against) -> u64 {
@@ -57,7 +64,12 @@ fn notices_a_checker_that_checks_only_module_0() {
     let only_first = |text: &[u8]| {
         let printed = model::printed(text);
         let of_first = |l: &&&[u8]| l.split(|&b| b == b' ').nth(1) == Some(b"0");
-        lines(&printed).iter().filter(of_first).copied().collect::<Vec<_>>().concat()
+        lines(&printed)
+            .iter()
+            .filter(of_first)
+            .copied()
+            .collect::<Vec<_>>()
+            .concat()
     };
     assert!(differences(only_first, Against::Oracle) > 10);
 }
@@ -68,7 +80,12 @@ fn notices_a_checker_that_adds_or_changes_a_report() {
     assert_eq!(differences(adds, Against::Oracle), 100);
     let swaps = |text: &[u8]| {
         let printed = model::printed(text);
-        lines(&printed).iter().rev().copied().collect::<Vec<_>>().concat()
+        lines(&printed)
+            .iter()
+            .rev()
+            .copied()
+            .collect::<Vec<_>>()
+            .concat()
     };
     assert!(differences(swaps, Against::Oracle) > 10);
     let unended = |text: &[u8]| {
@@ -90,6 +107,19 @@ fn counts_refusals_but_compares_them_only_when_asked() {
 }
 
 #[test]
+fn notices_a_checker_that_passes_over_limits() {
+    let mut no_limits = |text: &[u8]| {
+        let printed = model::printed(text);
+        Ok(if printed.starts_with(b"(refused 20 ") {
+            Vec::new()
+        } else {
+            printed
+        })
+    };
+    assert!(counts(&mut no_limits, Against::Oracle, "limits").differences > 5);
+}
+
+#[test]
 fn refusals_are_compared_by_number_and_line() {
     let text = b"(module 0 bound)\n(reg 256 1)\n";
     let verdict = |printed: &'static [u8]| {
@@ -97,13 +127,24 @@ fn refusals_are_compared_by_number_and_line() {
         judge(&mut checker, Against::Refusals, text)
     };
     assert_eq!(verdict(b"(refused 5 2)\n"), Verdict::Refused(5));
-    for wrong in [&b"(refused 5 1)\n"[..], b"(refused 4 2)\n", b"", b"(E0503 0 1 256 none)\n"] {
+    for wrong in [
+        &b"(refused 5 1)\n"[..],
+        b"(refused 4 2)\n",
+        b"",
+        b"(E0503 0 1 256 none)\n",
+    ] {
         assert!(matches!(verdict(wrong), Verdict::Different(_)));
     }
     let mut accepts = |_: &[u8]| Ok(b"(E0503 0 1 4 none)\n".to_vec());
     let accepted = b"(module 0 bound)\n";
-    assert_eq!(judge(&mut accepts, Against::Refusals, accepted), Verdict::Exact);
-    assert!(matches!(judge(&mut accepts, Against::Model, accepted), Verdict::Different(_)));
+    assert_eq!(
+        judge(&mut accepts, Against::Refusals, accepted),
+        Verdict::Exact
+    );
+    assert!(matches!(
+        judge(&mut accepts, Against::Model, accepted),
+        Verdict::Different(_)
+    ));
 }
 
 const TIED: &[u8] = b"(module 0 bound)\n(kind 1 wire)\n(kind 2 wire)\n(kind 4 out)\n(kind 5 out)\n\
@@ -153,8 +194,14 @@ fn loops_of_other_modules_stay_exact() {
     let two = [looped(0, "2 1 2"), looped(1, "1 1")];
     let three = [looped(0, "2 1 2"), looped(1, "2 2")];
     let ties = [true, false];
-    assert_eq!(rules::comparable(&one, &ties), rules::comparable(&two, &ties));
-    assert_ne!(rules::comparable(&two, &ties), rules::comparable(&three, &ties));
+    assert_eq!(
+        rules::comparable(&one, &ties),
+        rules::comparable(&two, &ties)
+    );
+    assert_ne!(
+        rules::comparable(&two, &ties),
+        rules::comparable(&three, &ties)
+    );
     assert_ne!(rules::comparable(&one, &[]), rules::comparable(&two, &[]));
 }
 
@@ -163,41 +210,58 @@ fn a_difference_is_made_small() {
     let mut no_regs = |text: &[u8]| {
         let printed = model::printed(text);
         let kept = |l: &&&[u8]| !l.starts_with(b"(E0503 ");
-        Ok(lines(&printed).iter().filter(kept).copied().collect::<Vec<_>>().concat())
+        Ok(lines(&printed)
+            .iter()
+            .filter(kept)
+            .copied()
+            .collect::<Vec<_>>()
+            .concat())
     };
     let mut made_small = 0;
-    for (_, text) in texts("small", 40) {
+    for (_, text) in texts("small", 12) {
         let Verdict::Different(found) = judge(&mut no_regs, Against::Oracle, &text) else {
             continue;
         };
         let Some((small, found)) = smallest(&mut no_regs, Against::Oracle, &text, &found) else {
             continue;
         };
-        assert!(matches!(judge(&mut no_regs, Against::Oracle, &small), Verdict::Different(_)));
+        assert!(matches!(
+            judge(&mut no_regs, Against::Oracle, &small),
+            Verdict::Different(_)
+        ));
         assert_eq!(model::answer(&small, usize::MAX).number, 0);
         assert!(found.other.iter().any(|l| l.starts_with("(E0503 ")));
         assert!(small.len() < text.len() && small.len() < 200);
         made_small += 1;
     }
-    assert!(made_small > 5);
+    assert!(made_small > 2);
 }
 
 #[test]
 fn shrinking_keeps_what_matters_and_stops() {
     let has_x = |text: &[u8]| text.contains(&b'x');
-    assert_eq!(shrink::shrink(b"(a 1)\n(b (c 2 x) (d 3))\n(e)\n", 500, has_x), b"(b x)\n");
+    assert_eq!(
+        shrink::shrink(b"(a 1)\n(b (c 2 x) (d 3))\n(e)\n", 500, has_x),
+        b"(b x)\n"
+    );
     assert_eq!(shrink::shrink(b"(a 1)\n(x)\n", 0, has_x), b"(a 1)\n(x)\n");
     assert_eq!(shrink::shrink(b"", 10, |_| true), b"");
 }
 
 #[test]
 fn a_command_is_run_for_each_text() {
-    let model = CheckerCommand { program: env!("CARGO_BIN_EXE_model").into(), args: vec![] };
+    let model = CheckerCommand {
+        program: env!("CARGO_BIN_EXE_model").into(),
+        args: vec![],
+    };
     model.try_start().unwrap();
     for (_, text) in texts("damaged", 20) {
         assert_eq!(model.print(&text).unwrap(), model::printed(&text));
     }
-    let none = CheckerCommand { program: "no such checker".into(), args: vec![] };
+    let none = CheckerCommand {
+        program: "no such checker".into(),
+        args: vec![],
+    };
     assert!(none.try_start().is_err());
     assert!(none.print(b"").is_err());
     // a program that fails and prints nothing is different, even where nothing is to be printed
@@ -206,7 +270,10 @@ fn a_command_is_run_for_each_text() {
         args: vec!["--no-such-option".into()],
     };
     let mut checker = |text: &[u8]| fails.print(text);
-    assert!(matches!(judge(&mut checker, Against::Oracle, b""), Verdict::Different(_)));
+    assert!(matches!(
+        judge(&mut checker, Against::Oracle, b""),
+        Verdict::Different(_)
+    ));
 }
 
 fn parse(args: &[&str]) -> Result<options::Options, String> {
@@ -216,11 +283,16 @@ fn parse(args: &[&str]) -> Result<options::Options, String> {
 
 #[test]
 fn arguments() {
-    let options = parse(&["--seed", "7", "--from", "5", "--count", "9", "check", "--seed", "x"]);
+    let options = parse(&[
+        "--seed", "7", "--from", "5", "--count", "9", "check", "--seed", "x",
+    ]);
     let options = options.unwrap();
     assert_eq!((options.seed, options.from, options.count), (7, 5, 9));
     assert_eq!(options.profiles, gen::PROFILES);
-    let checker = CheckerCommand { program: "check".into(), args: vec!["--seed".into(), "x".into()] };
+    let checker = CheckerCommand {
+        program: "check".into(),
+        args: vec!["--seed".into(), "x".into()],
+    };
     assert_eq!(options.checker, Some(checker));
     assert_eq!(options.against, Against::Oracle);
     let options = parse(&["--model", "--refusals", "--profile", gen::PROFILES[0]]).unwrap();
@@ -242,7 +314,10 @@ fn arguments() {
 }
 
 fn program(args: &[&str]) -> (Option<i32>, String, String) {
-    let out = Command::new(env!("CARGO_BIN_EXE_compare")).args(args).output().unwrap();
+    let out = Command::new(env!("CARGO_BIN_EXE_compare"))
+        .args(args)
+        .output()
+        .unwrap();
     let text = |bytes| String::from_utf8(bytes).unwrap();
     (out.status.code(), text(out.stdout), text(out.stderr))
 }
@@ -255,12 +330,15 @@ fn the_program_and_its_exit_status() {
     assert_eq!(out.lines().count(), gen::PROFILES.len());
     let (status, _, _) = program(&["--refusals", "--profile", "damaged", "--count", "20", model]);
     assert_eq!(status, Some(0));
-    // the model refuses the arguments' text only, so as a checker it takes any argument; `compare`
-    // itself, without arguments, fails on every text
+    // `compare` without arguments is a checker that fails on every text
     let (status, out, _) = program(&["--count", "3", env!("CARGO_BIN_EXE_compare")]);
     assert_eq!(status, Some(1));
     assert!(out.contains("differences 3"));
-    for bad in [&["no such checker"][..], &["--cases", "no such file", "--model"], &["--bad"]] {
+    for bad in [
+        &["no such checker"][..],
+        &["--cases", "no such file", "--model"],
+        &["--bad"],
+    ] {
         let (status, out, error) = program(bad);
         assert_eq!((status, out.as_str()), (Some(2), ""));
         assert_eq!(error.lines().count(), 1);

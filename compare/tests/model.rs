@@ -4,19 +4,32 @@
 use compare::model::{answer, printed, ties, Answer, PROGRAM_BUFFER};
 
 fn text_of(lines: &[&str]) -> Vec<u8> {
-    lines.iter().flat_map(|l| [l.as_bytes(), b"\n"].concat()).collect()
+    lines
+        .iter()
+        .flat_map(|l| [l.as_bytes(), b"\n"].concat())
+        .collect()
 }
 
 #[track_caller]
 fn prints(lines: &[&str], reports: &[&str]) {
     let printed = printed(&text_of(lines));
     let expected = text_of(reports);
-    assert_eq!(String::from_utf8_lossy(&printed), String::from_utf8_lossy(&expected));
+    assert_eq!(
+        String::from_utf8_lossy(&printed),
+        String::from_utf8_lossy(&expected)
+    );
 }
 
 #[track_caller]
 fn refuses_bytes(text: &[u8], number: u32, line: u32) {
-    let refused = Answer { number, line, bytes: 0, reports: 0, rounds: 0, text: vec![] };
+    let refused = Answer {
+        number,
+        line,
+        bytes: 0,
+        reports: 0,
+        rounds: 0,
+        text: vec![],
+    };
     assert_eq!(answer(text, PROGRAM_BUFFER), refused);
 }
 
@@ -30,7 +43,10 @@ fn accepts(lines: &[&str]) -> Answer {
     let a = answer(&text_of(lines), PROGRAM_BUFFER);
     assert_eq!((a.number, a.line), (0, 0));
     assert_eq!(a.bytes, a.text.len());
-    assert_eq!(a.reports as usize, a.text.iter().filter(|&&b| b == b'\n').count());
+    assert_eq!(
+        a.reports as usize,
+        a.text.iter().filter(|&&b| b == b'\n').count()
+    );
     a
 }
 
@@ -100,13 +116,24 @@ mod ten_cases {
                 "(drive (lv 2 40 7 4) (n 3))",
                 "(drive (lv 2 50 2 0) (n 4))",
             ],
-            &["(E0502 0 10 2 gap 3)", "(E0503 0 20 4 none)", "(E0504 0 30 (walk 3 2 3))"],
+            &[
+                "(E0502 0 10 2 gap 3)",
+                "(E0503 0 20 4 none)",
+                "(E0504 0 30 (walk 3 2 3))",
+            ],
         );
     }
 
     #[test]
     fn p2_empty_text() {
-        let nothing = Answer { number: 0, line: 0, bytes: 0, reports: 0, rounds: 0, text: vec![] };
+        let nothing = Answer {
+            number: 0,
+            line: 0,
+            bytes: 0,
+            reports: 0,
+            rounds: 0,
+            text: vec![],
+        };
         assert_eq!(answer(b"", 0), nothing);
     }
 
@@ -138,19 +165,27 @@ mod ten_cases {
 
     #[test]
     fn p7_no_gap_above_the_bits_looked_at() {
-        bound_prints(&["(port out 2 (bits 5000) 10)", "(drive (lv 2 40 4095 0) 0)"], &[]);
+        bound_prints(
+            &["(port out 2 (bits 5000) 10)", "(drive (lv 2 40 4095 0) 0)"],
+            &[],
+        );
     }
 
     #[test]
     fn p8_repeat_to_4096_unrolls() {
-        let lines = bound(&["(repeat 9 0 4096 (constif (eq (n 9) 4095) (then (port out 2 bit 5)) (else)))"]);
+        let lines = bound(&[
+            "(repeat 9 0 4096 (constif (eq (n 9) 4095) (then (port out 2 bit 5)) (else)))",
+        ]);
         prints(&lines, &["(E0502 0 5 2 never)"]);
         assert_eq!(accepts(&lines).rounds, 4096);
     }
 
     #[test]
     fn p9_repeat_to_4097_runs_once() {
-        let lines = bound(&["(repeat 9 0 4097 (drive (lv 2 40 (n 9)) 0))", "(drive (lv 2 50 9) 0)"]);
+        let lines = bound(&[
+            "(repeat 9 0 4097 (drive (lv 2 40 (n 9)) 0))",
+            "(drive (lv 2 50 9) 0)",
+        ]);
         prints(&lines, &["(E0501 0 50 2 many)"]); // Dynamic meets all
         assert_eq!(accepts(&lines).rounds, 0);
     }
@@ -174,7 +209,11 @@ mod text {
         }
         text.truncate(text.iter().rposition(|&b| b == b'\n').unwrap() + 1);
         text.resize(32_768, b' ');
-        refuses_bytes(&text, 2, text.iter().filter(|&&b| b == b'\n').count() as u32 + 1);
+        refuses_bytes(
+            &text,
+            2,
+            text.iter().filter(|&&b| b == b'\n').count() as u32 + 1,
+        );
         text.push(b'\n');
         refuses_bytes(&text, 1, 0);
         refuses_bytes(&[0xff; 32_769], 1, 0);
@@ -208,10 +247,26 @@ mod text {
 
     #[test]
     fn three_not_one_closed_form() {
-        for line in ["", " ", "module", ")", "(", ")(", "()()", "(reg 1 2", "(reg 1 2))"] {
+        for line in [
+            "",
+            " ",
+            "module",
+            ")",
+            "(",
+            ")(",
+            "()()",
+            "(reg 1 2",
+            "(reg 1 2))",
+        ] {
             item_refused(line, 3);
         }
-        for line in [" (reg 1 2)", "(reg 1 2) ", "x(reg 1 2)", "(reg 1 2)x", "(reg 1 2)(reg 1 3)"] {
+        for line in [
+            " (reg 1 2)",
+            "(reg 1 2) ",
+            "x(reg 1 2)",
+            "(reg 1 2)x",
+            "(reg 1 2)(reg 1 3)",
+        ] {
             item_refused(line, 3);
         }
     }
@@ -228,81 +283,192 @@ mod text {
 
     #[test]
     fn four_heads_and_parts() {
-        for line in ["()", "( )", "(())", "(foo)", "(foo 1)", "(reg)", "(reg 1)", "(reg 1 2 3)"] {
+        for line in [
+            "()",
+            "( )",
+            "(())",
+            "(foo)",
+            "(foo 1)",
+            "(reg)",
+            "(reg 1)",
+            "(reg 1 2 3)",
+        ] {
             item_refused(line, 4);
         }
-        for line in ["(REG 1 2)", "(reg (n 1) 2)", "(reg x 2)", "((reg) 1 2)", "(then)", "(lv 1 2)"] {
+        for line in [
+            "(REG 1 2)",
+            "(reg (n 1) 2)",
+            "(reg x 2)",
+            "((reg) 1 2)",
+            "(then)",
+            "(lv 1 2)",
+        ] {
             item_refused(line, 4);
         }
-        for line in ["(port inout 1 bit 5)", "(port in 1 bits 5)", "(port in 1 (bit) 5)"] {
+        for line in [
+            "(port inout 1 bit 5)",
+            "(port in 1 bits 5)",
+            "(port in 1 (bit) 5)",
+        ] {
             item_refused(line, 4);
         }
-        for line in ["(port in 1 (bits) 5)", "(port in 1 (bits 1 2) 5)", "(port in 1 (opaque) 5)"] {
+        for line in [
+            "(port in 1 (bits) 5)",
+            "(port in 1 (bits 1 2) 5)",
+            "(port in 1 (opaque) 5)",
+        ] {
             item_refused(line, 4);
         }
-        for line in ["(port in 1 bit)", "(port in 1 5)", "(wire 3 5)", "(wire 3 - 5)", "(const 3)"] {
+        for line in [
+            "(port in 1 bit)",
+            "(port in 1 5)",
+            "(wire 3 5)",
+            "(wire 3 - 5)",
+            "(const 3)",
+        ] {
             item_refused(line, 4);
         }
-        for line in ["(drive (n 2) 0)", "(drive 2 0)", "(drive (lv 2) 0)", "(drive (lv 2 3))"] {
+        for line in [
+            "(drive (n 2) 0)",
+            "(drive 2 0)",
+            "(drive (lv 2) 0)",
+            "(drive (lv 2 3))",
+        ] {
             item_refused(line, 4);
         }
-        for line in ["(drive (lv 2 3 4 5 6) 0)", "(on)", "(on 5 6)", "(on 5 (reg 1 2))"] {
+        for line in [
+            "(drive (lv 2 3 4 5 6) 0)",
+            "(on)",
+            "(on 5 6)",
+            "(on 5 (reg 1 2))",
+        ] {
             item_refused(line, 4);
         }
-        for line in ["(on 5 (set 1))", "(on 5 (default))", "(on 5 (when (then)))", "(on 5 (then))"] {
+        for line in [
+            "(on 5 (set 1))",
+            "(on 5 (default))",
+            "(on 5 (when (then)))",
+            "(on 5 (then))",
+        ] {
             item_refused(line, 4);
         }
-        for line in ["(on 5 (when (else) (then)))", "(on 5 (when (then) (else) (else)))"] {
+        for line in [
+            "(on 5 (when (else) (then)))",
+            "(on 5 (when (then) (else) (else)))",
+        ] {
             item_refused(line, 4);
         }
-        for line in ["(inst 6 - 0)", "(inst 6 0 5)", "(inst 6 (-) 0 5)", "(inst 6 - 0 5 (n 1))"] {
+        for line in [
+            "(inst 6 - 0)",
+            "(inst 6 0 5)",
+            "(inst 6 (-) 0 5)",
+            "(inst 6 - 0 5 (n 1))",
+        ] {
             item_refused(line, 4);
         }
-        for line in ["(inst 6 - 0 5 (conn 1))", "(inst 6 - 0 5 (conn 1 2 3))", "(inst 6 - - 5)"] {
+        for line in [
+            "(inst 6 - 0 5 (conn 1))",
+            "(inst 6 - 0 5 (conn 1 2 3))",
+            "(inst 6 - - 5)",
+        ] {
             item_refused(line, 4);
         }
-        for line in ["(repeat 9 0)", "(repeat 9 0 2 (set 1 2))", "(repeat 9 0 2 (kind 1 in))"] {
+        for line in [
+            "(repeat 9 0)",
+            "(repeat 9 0 2 (set 1 2))",
+            "(repeat 9 0 2 (kind 1 in))",
+        ] {
             item_refused(line, 4);
         }
-        for line in ["(repeat 9 0 2 (module 1 bound))", "(constif 1 (then))", "(constif (then) (else))"] {
+        for line in [
+            "(repeat 9 0 2 (module 1 bound))",
+            "(constif 1 (then))",
+            "(constif (then) (else))",
+        ] {
             item_refused(line, 4);
         }
-        for line in ["(constif 1 (else) (then))", "(repeat 9 0 2 3)", "(constif 1 (then 2) (else))"] {
+        for line in [
+            "(constif 1 (else) (then))",
+            "(repeat 9 0 2 3)",
+            "(constif 1 (then 2) (else))",
+        ] {
             item_refused(line, 4);
         }
-        for e in ["(n)", "(n 1 2)", "(f 1)", "(f (n 1) (n 2))", "(ix 1)", "(if 1 2)", "(neg)"] {
+        for e in [
+            "(n)",
+            "(n 1 2)",
+            "(f 1)",
+            "(f (n 1) (n 2))",
+            "(ix 1)",
+            "(if 1 2)",
+            "(neg)",
+        ] {
             item_refused(&format!("(wire 3 {e} 5)"), 4);
         }
-        for e in ["(neg 1 2)", "(add 1)", "(add 1 2 3)", "(foo 1)", "(foo 1 2)", "TRUE", "(true)"] {
+        for e in [
+            "(neg 1 2)",
+            "(add 1)",
+            "(add 1 2 3)",
+            "(foo 1)",
+            "(foo 1 2)",
+            "TRUE",
+            "(true)",
+        ] {
             item_refused(&format!("(wire 3 {e} 5)"), 4);
         }
-        for line in ["(module 1)", "(module 1 bound 2)", "(module bound)", "(module 1 Bound)"] {
+        for line in [
+            "(module 1)",
+            "(module 1 bound 2)",
+            "(module bound)",
+            "(module 1 Bound)",
+        ] {
             item_refused(line, 4);
         }
-        for line in ["(module (n 1) bound)", "(kind 1)", "(kind 1 input)", "(kind 1 (in))", "(val 1)"] {
+        for line in [
+            "(module (n 1) bound)",
+            "(kind 1)",
+            "(kind 1 input)",
+            "(kind 1 (in))",
+            "(val 1)",
+        ] {
             item_refused(line, 4);
         }
     }
 
     #[test]
     fn four_spaces() {
-        for line in ["( reg 1 2)", "(reg  1 2)", "(reg 1 2 )", "(reg 1  2)", "(wire 3(n 1) 5)"] {
+        for line in [
+            "( reg 1 2)",
+            "(reg  1 2)",
+            "(reg 1 2 )",
+            "(reg 1  2)",
+            "(wire 3(n 1) 5)",
+        ] {
             item_refused(line, 4);
         }
-        for line in ["(wire 3 (n 1)5)", "(wire 3 ( n 1) 5)", "(wire 3 (n 1 ) 5)", "(on 5 )"] {
+        for line in [
+            "(wire 3 (n 1)5)",
+            "(wire 3 ( n 1) 5)",
+            "(wire 3 (n 1 ) 5)",
+            "(on 5 )",
+        ] {
             item_refused(line, 4);
         }
     }
 
     #[test]
     fn four_numbers() {
-        for number in ["-1", "-0", "00", "01", "+1", "1a", "0x1", "1.0", "-", "--1", "1-", "~"] {
+        for number in [
+            "-1", "-0", "00", "01", "+1", "1a", "0x1", "1.0", "-", "--1", "1-", "~",
+        ] {
             item_refused(&format!("(reg 1 {number})"), 4);
             item_refused(&format!("(wire 3 {number} 1)"), 4);
             item_refused(&format!("(reg {number} 1)"), 4);
             item_refused(&format!("(module {number} bound)"), 4);
         }
-        for number in ["-0", "-00", "-01", "00", "01", "+1", "-", "--1", "1-", "-1a", "true"] {
+        for number in [
+            "-0", "-00", "-01", "00", "01", "+1", "-", "--1", "1-", "-1a", "true",
+        ] {
             refuses(&["(module 0 bound)", &format!("(val 1 {number})")], 4, 2);
         }
     }
@@ -346,16 +512,33 @@ mod text {
         for item in ["(const 1 2)", "(port in 1 bit 5)", "(repeat 9 0 0)"] {
             refuses(&["(module 0 bound)", item, "(kind 1 in)"], 6, 3);
             refuses(&["(module 0 bound)", item, "(val 1 2)"], 6, 3);
-            accepts(&["(module 0 bound)", item, "(module 1 bound)", "(kind 1 in)", "(val 1 2)"]);
+            accepts(&[
+                "(module 0 bound)",
+                item,
+                "(module 1 bound)",
+                "(kind 1 in)",
+                "(val 1 2)",
+            ]);
         }
-        accepts(&["(module 0 bound)", "(val 1 2)", "(kind 1 in)", "(val 1 3)", "(kind 2 in)"]);
+        accepts(&[
+            "(module 0 bound)",
+            "(val 1 2)",
+            "(kind 1 in)",
+            "(val 1 3)",
+            "(kind 2 in)",
+        ]);
     }
 
     #[test]
     fn seven_second_kind_and_33rd_module() {
         refuses(&["(module 0 bound)", "(kind 1 in)", "(kind 1 out)"], 7, 3);
         refuses(&["(module 0 bound)", "(kind 1 in)", "(kind 1 in)"], 7, 3);
-        accepts(&["(module 0 bound)", "(kind 1 in)", "(module 1 bound)", "(kind 1 in)"]);
+        accepts(&[
+            "(module 0 bound)",
+            "(kind 1 in)",
+            "(module 1 bound)",
+            "(kind 1 in)",
+        ]);
         let modules: Vec<String> = (0..34).map(|m| format!("(module {m} bound)")).collect();
         let modules: Vec<&str> = modules.iter().map(String::as_str).collect();
         accepts(&modules[..32]);
@@ -408,7 +591,16 @@ mod text {
         item_refused("(const 7 (shl 1 2147483648))", 5);
         refuses(&["(reg 256 5)"], 5, 1);
         refuses(&["(const 1 (shl 1 1))"], 6, 1);
-        refuses(&["(module 0 bound)", "(kind 1 in)", "(reg 1 2)", "(kind 1 in)"], 6, 4);
+        refuses(
+            &[
+                "(module 0 bound)",
+                "(kind 1 in)",
+                "(reg 1 2)",
+                "(kind 1 in)",
+            ],
+            6,
+            4,
+        );
         refuses(&["(module 0 bound)", "(const 1 (shl 1 1))", "x"], 8, 2);
         refuses(&["(module 0 bound)", "(kind 256 in)", "(", "()"], 5, 2);
     }
@@ -437,7 +629,8 @@ mod values {
         let lines = [
             "(port out 2 (bits 64) 5)".to_string(),
             format!("(const 8 {e})"),
-            "(repeat 9 0 64 (constif (ne (n 9) (n 8)) (then (drive (lv 2 6 (n 9)) 0)) (else)))".into(),
+            "(repeat 9 0 64 (constif (ne (n 9) (n 8)) (then (drive (lv 2 6 (n 9)) 0)) (else)))"
+                .into(),
         ];
         let lines: Vec<&str> = lines.iter().map(String::as_str).collect();
         bound_prints(&lines, &[&format!("(E0502 0 5 2 gap {expected})")]);
@@ -450,7 +643,8 @@ mod values {
             "(const 8 33)".to_string(),
             format!("(const 8 {e})"),
             "(port out 2 (bits 64) 5)".into(),
-            "(repeat 9 0 64 (constif (ne (n 9) (n 8)) (then (drive (lv 2 6 (n 9)) 0)) (else)))".into(),
+            "(repeat 9 0 64 (constif (ne (n 9) (n 8)) (then (drive (lv 2 6 (n 9)) 0)) (else)))"
+                .into(),
         ];
         let lines: Vec<&str> = lines.iter().map(String::as_str).collect();
         bound_prints(&lines, &["(E0502 0 5 2 gap 33)"]);
@@ -506,7 +700,15 @@ mod values {
 
     #[test]
     fn clog2() {
-        for (n, bits) in [("1", 1), ("2", 1), ("3", 2), ("4", 2), ("5", 3), ("8", 3), ("9", 4)] {
+        for (n, bits) in [
+            ("1", 1),
+            ("2", 1),
+            ("3", 2),
+            ("4", 2),
+            ("5", 3),
+            ("8", 3),
+            ("9", 4),
+        ] {
             value(&format!("(clog2 {n})"), bits);
         }
         value("(clog2 2147483647)", 31);
@@ -518,10 +720,23 @@ mod values {
 
     #[test]
     fn missing() {
-        for e in ["(f 1 2)", "(ix 1 2)", "(all 1)", "(n 7)", "(add (n 7) 1)", "(add 1 (n 7))"] {
+        for e in [
+            "(f 1 2)",
+            "(ix 1 2)",
+            "(all 1)",
+            "(n 7)",
+            "(add (n 7) 1)",
+            "(add 1 (n 7))",
+        ] {
             no_value(e);
         }
-        for e in ["(and 0 (n 7))", "(or 1 (n 7))", "(if (n 7) 1 2)", "(not (n 7))", "(neg (all))"] {
+        for e in [
+            "(and 0 (n 7))",
+            "(or 1 (n 7))",
+            "(if (n 7) 1 2)",
+            "(not (n 7))",
+            "(neg (all))",
+        ] {
             no_value(e);
         }
         value("(if 1 5 (n 7))", 5);
@@ -566,7 +781,12 @@ mod values {
             &["(E0502 0 5 2 gap 13)"],
         );
         prints(
-            &[&head[..], &["(val 8 9)", "(const 8 (n 7))", "(const 7 20)"], &tail].concat(),
+            &[
+                &head[..],
+                &["(val 8 9)", "(const 8 (n 7))", "(const 7 20)"],
+                &tail,
+            ]
+            .concat(),
             &["(E0502 0 5 2 gap 10)"],
         );
         // later constants too, since the table stands before collection
@@ -589,8 +809,14 @@ mod evaluated {
 
     #[test]
     fn connection_only_where_its_name_is_in_a_summary() {
-        let inner = ["(module 1 bound)", "(kind 1 in)", "(kind 2 out)", "(kind 3 in)",
-            "(port out 2 bit 5)", "(drive (lv 2 6) (n 1))"];
+        let inner = [
+            "(module 1 bound)",
+            "(kind 1 in)",
+            "(kind 2 out)",
+            "(kind 3 in)",
+            "(port out 2 bit 5)",
+            "(drive (lv 2 6) (n 1))",
+        ];
         let read = format!("(f (ix (n 6) {OUTSIDE}) 1)");
         let used = format!("(inst 6 - 1 5 (conn 1 {read}))");
         let unused = format!("(inst 6 - 1 5 (conn 3 {read}) (conn 9 {read}))");
@@ -605,12 +831,30 @@ mod evaluated {
         items_full(&[port, "(drive (lv 2 6 0) 0)"]);
         item_accepted(port); // no sites
         accepts(&bound(&[port, "(drive (lv 2 6) 0)"])); // not ranges only
-        accepts(&bound(&[port, "(drive (lv 2 6 0) 0)", "(drive (lv 2 6 (n 7)) 0)"]));
-        accepts(&bound(&[port, "(drive (lv 2 6 0) 0)", "(drive (lv 2 6 0) 0)"])); // poisoned
+        accepts(&bound(&[
+            port,
+            "(drive (lv 2 6 0) 0)",
+            "(drive (lv 2 6 (n 7)) 0)",
+        ]));
+        accepts(&bound(&[
+            port,
+            "(drive (lv 2 6 0) 0)",
+            "(drive (lv 2 6 0) 0)",
+        ])); // poisoned
         accepts(&bound(&[port, "(on 5 (set 2 6))", "(drive (lv 2 6 0) 0)"]));
-        accepts(&bound(&["(port out 2 bit 4)", port, "(drive (lv 2 6 0) 0)"])); // not the first
-        accepts(&bound(&[&format!("(repeat 9 0 0 {port})"), "(drive (lv 2 6 0) 0)"]));
-        accepts(&bound(&[&format!("(port in 2 (bits {OUTSIDE}) 5)"), "(drive (lv 2 6 0) 0)"]));
+        accepts(&bound(&[
+            "(port out 2 bit 4)",
+            port,
+            "(drive (lv 2 6 0) 0)",
+        ])); // not the first
+        accepts(&bound(&[
+            &format!("(repeat 9 0 0 {port})"),
+            "(drive (lv 2 6 0) 0)",
+        ]));
+        accepts(&bound(&[
+            &format!("(port in 2 (bits {OUTSIDE}) 5)"),
+            "(drive (lv 2 6 0) 0)",
+        ]));
     }
 
     #[test]
@@ -618,18 +862,29 @@ mod evaluated {
         item_accepted(&format!("(repeat 9 0 2 (const 8 {OUTSIDE}))"));
         item_accepted(&format!("(constif 1 (then (const 8 {OUTSIDE})) (else))"));
         bound_prints(
-            &["(port out 2 (bits 8) 5)", "(constif 1 (then (const 8 3)) (else))", "(drive (lv 2 6 (n 8)) 0)"],
+            &[
+                "(port out 2 (bits 8) 5)",
+                "(constif 1 (then (const 8 3)) (else))",
+                "(drive (lv 2 6 (n 8)) 0)",
+            ],
             &[], // Dynamic
         );
     }
 
     #[test]
     fn lv_indexes() {
-        for lv in [format!("(lv 2 5 {OUTSIDE})"), format!("(lv 2 5 {OUTSIDE} 0)"), format!("(lv 2 5 (n 7) {OUTSIDE})")] {
+        for lv in [
+            format!("(lv 2 5 {OUTSIDE})"),
+            format!("(lv 2 5 {OUTSIDE} 0)"),
+            format!("(lv 2 5 (n 7) {OUTSIDE})"),
+        ] {
             item_refused(&format!("(drive {lv} 0)"), 20);
             item_accepted(&format!("(drive {} 0)", lv.replace("lv 2", "lv 3")));
             for name in ["1", "4", "5", "6", "7"] {
-                item_accepted(&format!("(drive {} 0)", lv.replace("lv 2", &format!("lv {name}"))));
+                item_accepted(&format!(
+                    "(drive {} 0)",
+                    lv.replace("lv 2", &format!("lv {name}"))
+                ));
             }
         }
     }
@@ -663,9 +918,17 @@ mod evaluated {
 
     #[test]
     fn in_a_summary_too_and_before_21() {
-        let full = ["(module 0 bound)", "(module 1 bound)", "(const 8 (neg (sub (neg 2147483647) 1)))"];
+        let full = [
+            "(module 0 bound)",
+            "(module 1 bound)",
+            "(const 8 (neg (sub (neg 2147483647) 1)))",
+        ];
         refuses(&full, 20, 0);
-        let text = text_of(&["(module 0 bound)", "(reg 4 5)", "(const 8 (mul 2147483647 2))"]);
+        let text = text_of(&[
+            "(module 0 bound)",
+            "(reg 4 5)",
+            "(const 8 (mul 2147483647 2))",
+        ]);
         assert_eq!(answer(&text, 0).number, 20);
     }
 }
@@ -675,10 +938,18 @@ mod collection {
 
     #[test]
     fn repeat_rounds_are_shared_by_the_module() {
-        let lines = bound(&["(repeat 9 0 4000)", "(repeat 9 0 97 (drive (lv 2 5 (n 9)) 0))", "(repeat 9 5 101)"]);
+        let lines = bound(&[
+            "(repeat 9 0 4000)",
+            "(repeat 9 0 97 (drive (lv 2 5 (n 9)) 0))",
+            "(repeat 9 5 101)",
+        ]);
         prints(&lines, &[]);
         assert_eq!(accepts(&lines).rounds, 4096);
-        let lines = bound(&["(repeat 9 0 4096)", "(repeat 9 0 1 (drive (lv 2 5 (n 9)) 0))", "(drive (lv 2 6 9) 0)"]);
+        let lines = bound(&[
+            "(repeat 9 0 4096)",
+            "(repeat 9 0 1 (drive (lv 2 5 (n 9)) 0))",
+            "(drive (lv 2 6 9) 0)",
+        ]);
         prints(&lines, &["(E0501 0 6 2 many)"]);
         assert_eq!(accepts(&lines).rounds, 4096);
     }
@@ -686,61 +957,109 @@ mod collection {
     #[test]
     fn rounds_are_spent_before_the_body() {
         // 64 + 64 * 63 = 4096: the last inner repeat still unrolls; with 64 inner rounds it would not
-        let inner = |n| format!("(repeat 9 0 64 (repeat 8 0 {n} (drive (lv 2 5 (add (mul (n 9) 64) (n 8))) 0)))");
+        let inner = |n| {
+            format!(
+                "(repeat 9 0 64 (repeat 8 0 {n} (drive (lv 2 5 (add (mul (n 9) 64) (n 8))) 0)))"
+            )
+        };
         let full = accepts(&with_kinds("(module 0 bound)", &[&inner(15)]));
         assert_eq!(full.rounds, 64 + 64 * 15);
-        let over = accepts(&with_kinds("(module 0 unbound)", &[&format!("(repeat 9 0 {} (repeat 8 0 2000))", 3)]));
+        let over = accepts(&with_kinds(
+            "(module 0 unbound)",
+            &[&format!("(repeat 9 0 {} (repeat 8 0 2000))", 3)],
+        ));
         assert_eq!(over.rounds, 3 + 2 * 2000);
     }
 
     #[test]
     fn rounds_are_summed_over_modules_own_checks_only() {
         let lines = [
-            "(module 0 bound)", "(inst 6 - 1 5)", "(repeat 9 0 10)",
-            "(module 1 bound)", "(repeat 9 0 100)", "(repeat 9 5 5)", "(repeat 9 9 5)", "(repeat 9 0 (n 1))",
+            "(module 0 bound)",
+            "(inst 6 - 1 5)",
+            "(repeat 9 0 10)",
+            "(module 1 bound)",
+            "(repeat 9 0 100)",
+            "(repeat 9 5 5)",
+            "(repeat 9 9 5)",
+            "(repeat 9 0 (n 1))",
         ];
         assert_eq!(accepts(&lines).rounds, 110);
     }
 
     #[test]
     fn high_not_above_low_runs_no_round() {
-        bound_prints(&["(repeat 9 3 3 (reg 4 5))", "(repeat 9 4 3 (reg 4 6))"], &[]);
+        bound_prints(
+            &["(repeat 9 3 3 (reg 4 5))", "(repeat 9 4 3 (reg 4 6))"],
+            &[],
+        );
     }
 
     #[test]
     fn body_once_leaves_an_older_value() {
-        let lines = ["(module 0 bound)", "(kind 2 out)", "(val 9 3)",
-            "(repeat 9 0 (n 7) (drive (lv 2 5 (n 9)) 0))", "(drive (lv 2 6 2) 0)", "(drive (lv 2 7 3) 0)"];
+        let lines = [
+            "(module 0 bound)",
+            "(kind 2 out)",
+            "(val 9 3)",
+            "(repeat 9 0 (n 7) (drive (lv 2 5 (n 9)) 0))",
+            "(drive (lv 2 6 2) 0)",
+            "(drive (lv 2 7 3) 0)",
+        ];
         prints(&lines, &["(E0501 0 7 2 many)"]);
         assert_eq!(accepts(&lines).rounds, 0);
     }
 
     #[test]
     fn variable_is_set_and_returns() {
-        let lines = ["(module 0 bound)", "(kind 2 out)", "(val 9 3)",
-            "(repeat 9 0 2 (drive (lv 2 5 (n 9)) 0))", "(drive (lv 2 6 (n 9)) 0)", "(drive (lv 2 7 3) 0)"];
+        let lines = [
+            "(module 0 bound)",
+            "(kind 2 out)",
+            "(val 9 3)",
+            "(repeat 9 0 2 (drive (lv 2 5 (n 9)) 0))",
+            "(drive (lv 2 6 (n 9)) 0)",
+            "(drive (lv 2 7 3) 0)",
+        ];
         prints(&lines, &["(E0501 0 7 2 many)"]);
         bound_prints(
-            &["(repeat 9 0 2 (repeat 9 5 6) (drive (lv 2 5 (n 9)) 0))", "(drive (lv 2 6 2) 0)"],
+            &[
+                "(repeat 9 0 2 (repeat 9 5 6) (drive (lv 2 5 (n 9)) 0))",
+                "(drive (lv 2 6 2) 0)",
+            ],
             &[],
         );
         bound_prints(
-            &["(repeat 9 0 2)", "(drive (lv 2 6 (n 9)) 0)", "(drive (lv 2 7 3) 0)"],
+            &[
+                "(repeat 9 0 2)",
+                "(drive (lv 2 6 (n 9)) 0)",
+                "(drive (lv 2 7 3) 0)",
+            ],
             &["(E0501 0 7 2 many)"], // no value again: Dynamic
         );
     }
 
     #[test]
     fn constif_without_a_value_takes_else() {
-        bound_prints(&["(constif (n 7) (then (reg 4 5)) (else (reg 4 6)))"], &["(E0503 0 6 4 none)"]);
-        bound_prints(&["(constif 0 (then (reg 4 5)) (else (reg 4 6)))"], &["(E0503 0 6 4 none)"]);
-        bound_prints(&["(constif 2 (then (reg 4 5)) (else (reg 4 6)))"], &["(E0503 0 5 4 none)"]);
+        bound_prints(
+            &["(constif (n 7) (then (reg 4 5)) (else (reg 4 6)))"],
+            &["(E0503 0 6 4 none)"],
+        );
+        bound_prints(
+            &["(constif 0 (then (reg 4 5)) (else (reg 4 6)))"],
+            &["(E0503 0 6 4 none)"],
+        );
+        bound_prints(
+            &["(constif 2 (then (reg 4 5)) (else (reg 4 6)))"],
+            &["(E0503 0 5 4 none)"],
+        );
     }
 
     #[test]
     fn width_is_taken_in_the_modules_own_table() {
-        let lines = ["(module 0 bound)", "(kind 2 out)", "(val 9 8)",
-            "(repeat 9 0 3 (port out 2 (bits (n 9)) 5) (drive (lv 2 6 (n 9)) 0))"];
+        let lines = [
+            "(module 0 bound)",
+            "(kind 2 out)",
+            "(val 9 8)",
+            "(repeat 9 0 3 (port out 2 (bits (n 9)) 5) (drive (lv 2 6 (n 9)) 0))",
+        ];
         prints(&lines, &["(E0502 0 5 2 gap 3)"]);
     }
 }
@@ -750,40 +1069,86 @@ mod sites {
 
     #[test]
     fn extents() {
-        for (lv, meets_9) in [("", true), (" 9", true), (" 8", false), (" 9 8", true), (" 8 9", true),
-            (" (neg 1)", true), (" 9 (neg 1)", true), (" (n 7)", true), (" (n 7) 0", true), (" 0 (n 7)", true), (" 8 0", false)] {
+        for (lv, meets_9) in [
+            ("", true),
+            (" 9", true),
+            (" 8", false),
+            (" 9 8", true),
+            (" 8 9", true),
+            (" (neg 1)", true),
+            (" 9 (neg 1)", true),
+            (" (n 7)", true),
+            (" (n 7) 0", true),
+            (" 0 (n 7)", true),
+            (" 8 0", false),
+        ] {
             let first = format!("(drive (lv 2 5{lv}) 0)");
-            let report: &[&str] = if meets_9 { &["(E0501 0 6 2 many)"] } else { &[] };
+            let report: &[&str] = if meets_9 {
+                &["(E0501 0 6 2 many)"]
+            } else {
+                &[]
+            };
             bound_prints(&[&first, "(drive (lv 2 6 9) 0)"], report);
             // unbound: what was Dynamic is Unknown
             let known = [" 9", " 9 8", ""].contains(&lv);
             let report: &[&str] = if known { &["(E0501 0 6 2 many)"] } else { &[] };
             unbound_prints(&[&first, "(drive (lv 2 6 9) 0)"], report);
         }
-        bound_prints(&["(drive (lv 2 5 (n 7)) 0)", "(drive (lv 2 6 (n 7)) 0)"], &["(E0501 0 6 2 many)"]);
-        unbound_prints(&["(drive (lv 2 5 (n 7)) 0)", "(drive (lv 2 6 (n 7)) 0)"], &[]);
+        bound_prints(
+            &["(drive (lv 2 5 (n 7)) 0)", "(drive (lv 2 6 (n 7)) 0)"],
+            &["(E0501 0 6 2 many)"],
+        );
+        unbound_prints(
+            &["(drive (lv 2 5 (n 7)) 0)", "(drive (lv 2 6 (n 7)) 0)"],
+            &[],
+        );
     }
 
     #[test]
     fn first_later_site_that_meets_an_earlier_one() {
         bound_prints(
-            &["(drive (lv 2 9 0) 0)", "(drive (lv 2 8 1) 0)", "(drive (lv 2 7 1) 0)", "(drive (lv 2 6) 0)"],
+            &[
+                "(drive (lv 2 9 0) 0)",
+                "(drive (lv 2 8 1) 0)",
+                "(drive (lv 2 7 1) 0)",
+                "(drive (lv 2 6) 0)",
+            ],
             &["(E0501 0 7 2 many)"],
         );
     }
 
     #[test]
     fn conflicts_by_start_then_name() {
-        let lines = ["(module 0 bound)", "(kind 1 out)", "(kind 2 out)", "(kind 3 out)",
-            "(drive (lv 3 5) 0)", "(drive (lv 3 6) 0)", "(drive (lv 1 5) 0)", "(drive (lv 1 7) 0)",
-            "(drive (lv 2 5) 0)", "(drive (lv 2 6) 0)"];
-        prints(&lines, &["(E0501 0 6 2 many)", "(E0501 0 6 3 many)", "(E0501 0 7 1 many)"]);
+        let lines = [
+            "(module 0 bound)",
+            "(kind 1 out)",
+            "(kind 2 out)",
+            "(kind 3 out)",
+            "(drive (lv 3 5) 0)",
+            "(drive (lv 3 6) 0)",
+            "(drive (lv 1 5) 0)",
+            "(drive (lv 1 7) 0)",
+            "(drive (lv 2 5) 0)",
+            "(drive (lv 2 6) 0)",
+        ];
+        prints(
+            &lines,
+            &[
+                "(E0501 0 6 2 many)",
+                "(E0501 0 6 3 many)",
+                "(E0501 0 7 1 many)",
+            ],
+        );
     }
 
     #[test]
     fn driving_a_wire() {
         bound_prints(
-            &["(drive (lv 3 5) (n 3))", "(drive (lv 3 6) 0)", "(wire 3 0 7)"],
+            &[
+                "(drive (lv 3 5) (n 3))",
+                "(drive (lv 3 6) 0)",
+                "(wire 3 0 7)",
+            ],
             &["(E0501 0 5 3 wire)", "(E0504 0 5 (walk 3 3))"],
         );
         // both drives' reads count, and LV indexes are read
@@ -796,8 +1161,14 @@ mod sites {
     #[test]
     fn driving_reg_or_mem_reads_nothing() {
         bound_prints(
-            &["(wire 3 (n 2) 4)", "(drive (lv 4 5) (n 3))", "(drive (lv 5 6) (n 3))", "(drive (lv 4 7) 0)",
-                "(reg 4 8)", "(mem 5 9)"],
+            &[
+                "(wire 3 (n 2) 4)",
+                "(drive (lv 4 5) (n 3))",
+                "(drive (lv 5 6) (n 3))",
+                "(drive (lv 4 7) 0)",
+                "(reg 4 8)",
+                "(mem 5 9)",
+            ],
             &["(E0505 0 5 4 reg)", "(E0505 0 6 5 mem)"],
         );
     }
@@ -805,22 +1176,36 @@ mod sites {
     #[test]
     fn set_on_wire_or_out() {
         bound_prints(
-            &["(on 10 (loop (set 3 5)) (when (then (set 2 6)) (else (set 3 7))))", "(port out 2 bit 8)", "(drive (lv 2 9) 0)", "(drive (lv 2 9) 0)"],
+            &[
+                "(on 10 (loop (set 3 5)) (when (then (set 2 6)) (else (set 3 7))))",
+                "(port out 2 bit 8)",
+                "(drive (lv 2 9) 0)",
+                "(drive (lv 2 9) 0)",
+            ],
             &["(E0505 0 5 3 arrow)", "(E0505 0 6 2 arrow)"],
         );
     }
 
     #[test]
     fn first_collected_of_wire_and_arrow_wins() {
-        bound_prints(&["(drive (lv 3 5) 0)", "(on 6 (set 3 7))"], &["(E0501 0 5 3 wire)"]);
-        bound_prints(&["(on 6 (set 3 7))", "(drive (lv 3 5) 0)"], &["(E0505 0 7 3 arrow)"]);
+        bound_prints(
+            &["(drive (lv 3 5) 0)", "(on 6 (set 3 7))"],
+            &["(E0501 0 5 3 wire)"],
+        );
+        bound_prints(
+            &["(on 6 (set 3 7))", "(drive (lv 3 5) 0)"],
+            &["(E0505 0 7 3 arrow)"],
+        );
     }
 
     #[test]
     fn others_do_nothing() {
         for name in ["1", "6", "7"] {
             bound_prints(
-                &[&format!("(drive (lv {name} 5) (n {name}))"), &format!("(on 6 (set {name} 7) (default {name}))")],
+                &[
+                    &format!("(drive (lv {name} 5) (n {name}))"),
+                    &format!("(on 6 (set {name} 7) (default {name}))"),
+                ],
                 &[],
             );
         }
@@ -829,11 +1214,22 @@ mod sites {
     #[test]
     fn a_poisoned_name_gets_no_other_report_but_loops() {
         bound_prints(
-            &["(on 5 (set 3 6))", "(reg 3 7)", "(mem 3 8)", "(port out 3 bit 9)", "(wire 3 (n 3) 10)"],
+            &[
+                "(on 5 (set 3 6))",
+                "(reg 3 7)",
+                "(mem 3 8)",
+                "(port out 3 bit 9)",
+                "(wire 3 (n 3) 10)",
+            ],
             &["(E0505 0 6 3 arrow)", "(E0504 0 10 (walk 3 3))"],
         );
         bound_prints(
-            &["(drive (lv 2 5) (n 2))", "(drive (lv 2 6) 0)", "(port out 2 bit 7)", "(reg 2 8)"],
+            &[
+                "(drive (lv 2 5) (n 2))",
+                "(drive (lv 2 6) 0)",
+                "(port out 2 bit 7)",
+                "(reg 2 8)",
+            ],
             &["(E0501 0 6 2 many)", "(E0504 0 5 (walk 2 2))"],
         );
     }
@@ -857,18 +1253,38 @@ mod sites {
         gap("(bits (n 7))", " 5", &[]);
         gap("opaque", " 5", &[]);
         gap("(bits 2147483647)", " 2147483647 0", &[]);
-        gap("(bits 2147483647)", " 2147483647 1", &["(E0502 0 5 2 gap 0)"]);
+        gap(
+            "(bits 2147483647)",
+            " 2147483647 1",
+            &["(E0502 0 5 2 gap 0)"],
+        );
     }
 
     #[test]
     fn first_port_out_line_and_order_of_first_lines() {
         bound_prints(
-            &["(port in 2 bit 4)", "(port out 2 (bits 2) 5)", "(port out 2 bit 6)", "(drive (lv 2 7 0) 0)"],
+            &[
+                "(port in 2 bit 4)",
+                "(port out 2 (bits 2) 5)",
+                "(port out 2 bit 6)",
+                "(drive (lv 2 7 0) 0)",
+            ],
             &["(E0502 0 5 2 gap 1)"],
         );
         bound_prints(
-            &["(port out 9 bit 9)", "(reg 4 8)", "(port out 2 bit 7)", "(reg 3 6)", "(port out 9 bit 5)"],
-            &["(E0502 0 9 9 never)", "(E0502 0 7 2 never)", "(E0503 0 8 4 none)", "(E0503 0 6 3 none)"],
+            &[
+                "(port out 9 bit 9)",
+                "(reg 4 8)",
+                "(port out 2 bit 7)",
+                "(reg 3 6)",
+                "(port out 9 bit 5)",
+            ],
+            &[
+                "(E0502 0 9 9 never)",
+                "(E0502 0 7 2 never)",
+                "(E0503 0 8 4 none)",
+                "(E0503 0 6 3 none)",
+            ],
         );
     }
 }
@@ -879,22 +1295,40 @@ mod blocks {
     #[test]
     fn regs_and_mems() {
         bound_prints(&["(reg 4 5)", "(mem 5 6)"], &["(E0503 0 5 4 none)"]);
-        bound_prints(&["(reg 4 5)", "(mem 5 6)", "(on 7 (set 4 8) (set 5 9))"], &[]);
         bound_prints(
-            &["(mem 5 6)", "(reg 4 5)", "(on 7 (set 4 8) (set 5 9))", "(on 8 (default 4) (set 5 8))"],
+            &["(reg 4 5)", "(mem 5 6)", "(on 7 (set 4 8) (set 5 9))"],
+            &[],
+        );
+        bound_prints(
+            &[
+                "(mem 5 6)",
+                "(reg 4 5)",
+                "(on 7 (set 4 8) (set 5 9))",
+                "(on 8 (default 4) (set 5 8))",
+            ],
             &["(E0503 0 5 4 blocks)", "(E0503 0 6 5 memblocks)"],
         );
     }
 
     #[test]
     fn a_block_is_its_start() {
-        bound_prints(&["(reg 4 5)", "(repeat 9 0 3 (on 7 (set 4 8)))", "(on 7 (set 4 9))"], &[]);
+        bound_prints(
+            &[
+                "(reg 4 5)",
+                "(repeat 9 0 3 (on 7 (set 4 8)))",
+                "(on 7 (set 4 9))",
+            ],
+            &[],
+        );
     }
 
     #[test]
     fn default_counts_on_a_reg_only() {
         bound_prints(&["(reg 4 5)", "(on 7 (default 4))"], &[]);
-        bound_prints(&["(mem 5 6)", "(on 7 (set 5 8))", "(on 8 (default 5))"], &[]);
+        bound_prints(
+            &["(mem 5 6)", "(on 7 (set 5 8))", "(on 8 (default 5))"],
+            &[],
+        );
         bound_prints(&["(on 8 (default 3) (default 2))"], &[]);
     }
 
@@ -907,14 +1341,20 @@ mod blocks {
             &["(mem 4 5)", "(on 7 (set 4 8))", "(on 8 (set 4 8))"],
             &["(E0503 0 5 4 memblocks)"],
         );
-        bound_prints(&["(port out 3 bit 5)", "(wire 3 0 6)"], &["(E0502 0 5 3 never)"]);
+        bound_prints(
+            &["(port out 3 bit 5)", "(wire 3 0 6)"],
+            &["(E0502 0 5 3 never)"],
+        );
         bound_prints(&["(wire 2 (n 2) 6)"], &["(E0504 0 6 (walk 2 2))"]);
         bound_prints(&["(wire 4 (n 4) 6)"], &[]);
     }
 
     #[test]
     fn first_collected_line() {
-        bound_prints(&["(repeat 9 1 3 (reg 4 5))", "(reg 4 6)"], &["(E0503 0 5 4 none)"]);
+        bound_prints(
+            &["(repeat 9 1 3 (reg 4 5))", "(reg 4 6)"],
+            &["(E0503 0 5 4 none)"],
+        );
     }
 }
 
@@ -922,8 +1362,15 @@ mod edges {
     use super::*;
 
     /// A module whose output 2 reads its input 1, and whose output 4 reads nothing.
-    const THROUGH: [&str; 7] = ["(module 1 bound)", "(kind 1 in)", "(kind 2 out)", "(kind 4 out)",
-        "(port out 2 opaque 5)", "(drive (lv 2 6) (n 1))", "(drive (lv 4 7) 1)"];
+    const THROUGH: [&str; 7] = [
+        "(module 1 bound)",
+        "(kind 1 in)",
+        "(kind 2 out)",
+        "(kind 4 out)",
+        "(port out 2 opaque 5)",
+        "(drive (lv 2 6) (n 1))",
+        "(drive (lv 4 7) 1)",
+    ];
 
     #[track_caller]
     fn through(items: &[&str], reports: &[&str]) {
@@ -932,12 +1379,34 @@ mod edges {
 
     #[test]
     fn what_is_read() {
-        for e in ["(neg (n 3))", "(not (n 3))", "(clog2 (n 3))", "(if 0 1 (n 3))", "(if (n 3) 0 1)",
-            "(if 0 (n 3) 1)", "(ix (n 3) 0)", "(ix 0 (n 3))", "(shl 1 (n 3))", "(and 0 (n 3))", "(all 0 (all (n 3)))"] {
+        for e in [
+            "(neg (n 3))",
+            "(not (n 3))",
+            "(clog2 (n 3))",
+            "(if 0 1 (n 3))",
+            "(if (n 3) 0 1)",
+            "(if 0 (n 3) 1)",
+            "(ix (n 3) 0)",
+            "(ix 0 (n 3))",
+            "(shl 1 (n 3))",
+            "(and 0 (n 3))",
+            "(all 0 (all (n 3)))",
+        ] {
             bound_prints(&[&format!("(wire 3 {e} 5)")], &["(E0504 0 5 (walk 3 3))"]);
         }
-        for e in ["(f (n 3) 3)", "(f (ix (n 3) 0) 3)", "(f (neg (n 3)) 3)", "(f (ix (n 6) (n 3)) 3)",
-            "(f (ix (ix (n 6) 0) (n 3)) 3)", "0", "true", "(n 4)", "(n 5)", "(n 6)", "(n 7)"] {
+        for e in [
+            "(f (n 3) 3)",
+            "(f (ix (n 3) 0) 3)",
+            "(f (neg (n 3)) 3)",
+            "(f (ix (n 6) (n 3)) 3)",
+            "(f (ix (ix (n 6) 0) (n 3)) 3)",
+            "0",
+            "true",
+            "(n 4)",
+            "(n 5)",
+            "(n 6)",
+            "(n 7)",
+        ] {
             bound_prints(&[&format!("(wire 3 {e} 5)")], &[]);
         }
         bound_prints(&["(drive (lv 2 5) (n 2))"], &["(E0504 0 5 (walk 2 2))"]);
@@ -952,29 +1421,65 @@ mod edges {
             &["(E0504 0 5 (walk (u 6 - 2) 3 (u 6 - 2)))"],
         );
         through(
-            &["(inst 6 (sub 1 2) 1 5 (conn 1 (n 3)))", "(wire 3 (f (ix (n 6) (neg 1)) 2) 7)"],
+            &[
+                "(inst 6 (sub 1 2) 1 5 (conn 1 (n 3)))",
+                "(wire 3 (f (ix (n 6) (neg 1)) 2) 7)",
+            ],
             &["(E0504 0 5 (walk (u 6 -1 2) 3 (u 6 -1 2)))"],
         );
         // different indexes are different nodes; none is not an index
-        through(&["(inst 6 0 1 5 (conn 1 (n 3)))", "(wire 3 (f (ix (n 6) 1) 2) 7)"], &[]);
-        through(&["(inst 6 0 1 5 (conn 1 (n 3)))", "(wire 3 (f (n 6) 2) 7)"], &[]);
+        through(
+            &[
+                "(inst 6 0 1 5 (conn 1 (n 3)))",
+                "(wire 3 (f (ix (n 6) 1) 2) 7)",
+            ],
+            &[],
+        );
+        through(
+            &["(inst 6 0 1 5 (conn 1 (n 3)))", "(wire 3 (f (n 6) 2) 7)"],
+            &[],
+        );
         // an instance index without value counts as none, a read one reads nothing
         through(
-            &["(inst 6 (n 7) 1 5 (conn 1 (n 3)))", "(wire 3 (f (n 6) 2) 7)"],
+            &[
+                "(inst 6 (n 7) 1 5 (conn 1 (n 3)))",
+                "(wire 3 (f (n 6) 2) 7)",
+            ],
             &["(E0504 0 5 (walk (u 6 - 2) 3 (u 6 - 2)))"],
         );
-        through(&["(inst 6 (n 7) 1 5 (conn 1 (n 3)))", "(wire 3 (f (ix (n 6) (n 7)) 2) 7)"], &[]);
+        through(
+            &[
+                "(inst 6 (n 7) 1 5 (conn 1 (n 3)))",
+                "(wire 3 (f (ix (n 6) (n 7)) 2) 7)",
+            ],
+            &[],
+        );
         // the output without inputs heads nothing; other connections are not read
-        through(&["(inst 6 - 1 5 (conn 1 (n 3)))", "(wire 3 (f (n 6) 4) 7)"], &[]);
-        through(&["(inst 6 - 1 5 (conn 2 (n 3)) (conn 9 (n 3)))", "(wire 3 (f (n 6) 2) 7)"], &[]);
+        through(
+            &["(inst 6 - 1 5 (conn 1 (n 3)))", "(wire 3 (f (n 6) 4) 7)"],
+            &[],
+        );
+        through(
+            &[
+                "(inst 6 - 1 5 (conn 2 (n 3)) (conn 9 (n 3)))",
+                "(wire 3 (f (n 6) 2) 7)",
+            ],
+            &[],
+        );
         // inst lines head nodes whatever the kind; reads go by kind
-        through(&["(inst 7 - 1 5 (conn 1 (n 3)))", "(wire 3 (f (n 7) 2) 7)"], &[]);
+        through(
+            &["(inst 7 - 1 5 (conn 1 (n 3)))", "(wire 3 (f (n 7) 2) 7)"],
+            &[],
+        );
     }
 
     #[test]
     fn an_instance_index_changes_with_the_rounds() {
         // ripple: 6[i] reads 6[i-1]; no loop. The other way round 6[0] and 6[1] read each other.
-        through(&["(repeat 9 0 4 (inst 6 (n 9) 1 5 (conn 1 (f (ix (n 6) (sub (n 9) 1)) 2))))"], &[]);
+        through(
+            &["(repeat 9 0 4 (inst 6 (n 9) 1 5 (conn 1 (f (ix (n 6) (sub (n 9) 1)) 2))))"],
+            &[],
+        );
         through(
             &["(repeat 9 0 2 (inst 6 (n 9) 1 5 (conn 1 (f (ix (n 6) (sub 1 (n 9))) 2))))"],
             &["(E0504 0 5 (walk (u 6 0 2) (u 6 1 2) (u 6 0 2)))"],
@@ -984,14 +1489,21 @@ mod edges {
     #[test]
     fn several_lines_head_one_node() {
         through(
-            &["(inst 6 - 1 9 (conn 1 0))", "(inst 6 - 1 5 (conn 1 (n 3)))", "(wire 3 (f (n 6) 2) 7)"],
+            &[
+                "(inst 6 - 1 9 (conn 1 0))",
+                "(inst 6 - 1 5 (conn 1 (n 3)))",
+                "(wire 3 (f (n 6) 2) 7)",
+            ],
             &["(E0504 0 7 (walk 3 (u 6 - 2) 3))"],
         );
     }
 
     #[test]
     fn missing_module() {
-        bound_prints(&["(inst 6 - 200 5 (conn 1 (n 3)))", "(wire 3 (f (n 6) 2) 7)"], &[]);
+        bound_prints(
+            &["(inst 6 - 200 5 (conn 1 (n 3)))", "(wire 3 (f (n 6) 2) 7)"],
+            &[],
+        );
     }
 
     #[test]
@@ -1001,18 +1513,32 @@ mod edges {
         let kinds = ["(module 1 bound)", "(kind 1 in)", "(kind 2 wire)"];
         // whatever the kind
         prints(
-            &[&parent[..], &kinds, &["(wire 2 (n 1) 5)", "(port out 2 bit 6)"]].concat(),
+            &[
+                &parent[..],
+                &kinds,
+                &["(wire 2 (n 1) 5)", "(port out 2 bit 6)"],
+            ]
+            .concat(),
             &[looped[0], "(E0502 1 6 2 never)"],
         );
         // not inside repeat or constif
         prints(
-            &[&parent[..], &kinds, &["(wire 2 (n 1) 5)", "(repeat 9 0 1 (port out 2 bit 6))"]].concat(),
+            &[
+                &parent[..],
+                &kinds,
+                &["(wire 2 (n 1) 5)", "(repeat 9 0 1 (port out 2 bit 6))"],
+            ]
+            .concat(),
             &["(E0502 1 6 2 never)"],
         );
         // where its name is of kind in it reaches itself in no steps
         let parent = bound(&["(inst 6 - 1 5 (conn 2 (n 3)))", "(wire 3 (f (n 6) 2) 7)"]);
         prints(
-            &[&parent[..], &["(module 1 bound)", "(kind 2 in)", "(port out 2 bit 6)"]].concat(),
+            &[
+                &parent[..],
+                &["(module 1 bound)", "(kind 2 in)", "(port out 2 bit 6)"],
+            ]
+            .concat(),
             &[looped[0], "(E0502 1 6 2 never)"],
         );
     }
@@ -1020,8 +1546,15 @@ mod edges {
     #[test]
     fn a_summary_stops_at_inputs() {
         // 2 reads input 1, which a wire line heads as reading input 3: only 1 is in the summary
-        let inner = ["(module 1 bound)", "(kind 1 in)", "(kind 2 out)", "(kind 3 in)",
-            "(port out 2 opaque 5)", "(drive (lv 2 6) (n 1))", "(wire 1 (n 3) 7)"];
+        let inner = [
+            "(module 1 bound)",
+            "(kind 1 in)",
+            "(kind 2 out)",
+            "(kind 3 in)",
+            "(port out 2 opaque 5)",
+            "(drive (lv 2 6) (n 1))",
+            "(wire 1 (n 3) 7)",
+        ];
         let parent = bound(&["(inst 6 - 1 5 (conn 3 (n 3)))", "(wire 3 (f (n 6) 2) 7)"]);
         prints(&[&parent[..], &inner].concat(), &[]);
     }
@@ -1029,10 +1562,23 @@ mod edges {
     #[test]
     fn through_two_levels_and_later_modules() {
         let lines = [
-            "(module 0 bound)", "(kind 1 in)", "(kind 2 out)", "(port out 2 opaque 5)", "(drive (lv 2 6) (n 1))",
-            "(module 1 bound)", "(kind 3 wire)", "(kind 6 inst)", "(inst 6 - 2 5 (conn 1 (n 3)))", "(wire 3 (f (n 6) 2) 7)",
-            "(module 2 bound)", "(kind 1 in)", "(kind 2 out)", "(kind 6 inst)", "(port out 2 opaque 5)",
-            "(inst 6 - 0 8 (conn 1 (n 1)))", "(drive (lv 2 6) (f (n 6) 2))",
+            "(module 0 bound)",
+            "(kind 1 in)",
+            "(kind 2 out)",
+            "(port out 2 opaque 5)",
+            "(drive (lv 2 6) (n 1))",
+            "(module 1 bound)",
+            "(kind 3 wire)",
+            "(kind 6 inst)",
+            "(inst 6 - 2 5 (conn 1 (n 3)))",
+            "(wire 3 (f (n 6) 2) 7)",
+            "(module 2 bound)",
+            "(kind 1 in)",
+            "(kind 2 out)",
+            "(kind 6 inst)",
+            "(port out 2 opaque 5)",
+            "(inst 6 - 0 8 (conn 1 (n 1)))",
+            "(drive (lv 2 6) (f (n 6) 2))",
         ];
         prints(&lines, &["(E0504 1 5 (walk (u 6 - 2) 3 (u 6 - 2)))"]);
     }
@@ -1041,11 +1587,25 @@ mod edges {
     fn a_module_that_contains_itself() {
         // Its own check is not summarising it, so its summary is made there; inside that, the
         // instance of itself is empty, so 2 reaches 1 only over the drive.
-        let lines = ["(module 0 bound)", "(kind 1 in)", "(kind 2 out)", "(kind 6 inst)", "(port out 2 opaque 5)",
-            "(inst 6 - 0 6 (conn 1 (f (n 6) 2)))", "(drive (lv 2 7) (n 1))"];
+        let lines = [
+            "(module 0 bound)",
+            "(kind 1 in)",
+            "(kind 2 out)",
+            "(kind 6 inst)",
+            "(port out 2 opaque 5)",
+            "(inst 6 - 0 6 (conn 1 (f (n 6) 2)))",
+            "(drive (lv 2 7) (n 1))",
+        ];
         prints(&lines, &["(E0504 0 6 (walk (u 6 - 2) (u 6 - 2)))"]);
-        let lines = ["(module 0 bound)", "(kind 1 in)", "(kind 2 out)", "(kind 6 inst)", "(port out 2 opaque 5)",
-            "(inst 6 - 0 6 (conn 1 (n 2)))", "(drive (lv 2 7) (all (n 1) (f (n 6) 2)))"];
+        let lines = [
+            "(module 0 bound)",
+            "(kind 1 in)",
+            "(kind 2 out)",
+            "(kind 6 inst)",
+            "(port out 2 opaque 5)",
+            "(inst 6 - 0 6 (conn 1 (n 2)))",
+            "(drive (lv 2 7) (all (n 1) (f (n 6) 2)))",
+        ];
         prints(&lines, &["(E0504 0 6 (walk (u 6 - 2) 2 (u 6 - 2)))"]);
     }
 
@@ -1053,13 +1613,31 @@ mod edges {
     fn a_summary_made_while_another_is_in_progress_is_kept() {
         // 0 needs 1 first; making 1 needs 2, and 2 meets 1 in progress: 2's summary is empty and
         // is kept. Were 2 needed first it would reach its input.
-        let one = ["(kind 1 in)", "(kind 2 out)", "(kind 6 inst)", "(port out 2 opaque 5)",
-            "(inst 6 - 2 6 (conn 1 (n 1)))", "(drive (lv 2 7) (n 1))"];
-        let two = ["(kind 1 in)", "(kind 2 out)", "(kind 6 inst)", "(port out 2 opaque 5)",
-            "(inst 6 - 1 6 (conn 1 (n 1)))", "(drive (lv 2 7) (f (n 6) 2))"];
+        let one = [
+            "(kind 1 in)",
+            "(kind 2 out)",
+            "(kind 6 inst)",
+            "(port out 2 opaque 5)",
+            "(inst 6 - 2 6 (conn 1 (n 1)))",
+            "(drive (lv 2 7) (n 1))",
+        ];
+        let two = [
+            "(kind 1 in)",
+            "(kind 2 out)",
+            "(kind 6 inst)",
+            "(port out 2 opaque 5)",
+            "(inst 6 - 1 6 (conn 1 (n 1)))",
+            "(drive (lv 2 7) (f (n 6) 2))",
+        ];
         let reads = ["(wire 3 (f (n 6) 2) 9)"];
         let first = ["(inst 7 - 1 4)", "(inst 6 - 2 5 (conn 1 (n 3)))"];
-        let tail = [&["(module 1 bound)"], &one[..], &["(module 2 bound)"], &two[..]].concat();
+        let tail = [
+            &["(module 1 bound)"],
+            &one[..],
+            &["(module 2 bound)"],
+            &two[..],
+        ]
+        .concat();
         prints(&[&bound(&first)[..], &reads, &tail].concat(), &[]);
         prints(
             &[&bound(&first[1..])[..], &reads, &tail].concat(),
@@ -1089,18 +1667,32 @@ mod walk {
 
     #[test]
     fn roots_ascend_by_start() {
-        walks(&["(wire 1 (n 2) 20)", "(wire 2 (n 1) 10)"], &["10 (walk 2 1 2)"]);
-        walks(&["(wire 1 (n 2) 10)", "(wire 2 (n 1) 20)"], &["10 (walk 1 2 1)"]);
+        walks(
+            &["(wire 1 (n 2) 20)", "(wire 2 (n 1) 10)"],
+            &["10 (walk 2 1 2)"],
+        );
+        walks(
+            &["(wire 1 (n 2) 10)", "(wire 2 (n 1) 20)"],
+            &["10 (walk 1 2 1)"],
+        );
     }
 
     #[test]
     fn next_nodes_are_taken_last_first() {
         walks(
-            &["(wire 0 (all (n 1) (n 2)) 1)", "(wire 1 (n 0) 2)", "(wire 2 (n 0) 3)"],
+            &[
+                "(wire 0 (all (n 1) (n 2)) 1)",
+                "(wire 1 (n 0) 2)",
+                "(wire 2 (n 0) 3)",
+            ],
             &["1 (walk 0 2 0)", "1 (walk 0 1 0)"],
         );
         walks(
-            &["(wire 0 (all (n 1) (n 2)) 1)", "(wire 1 (n 0) 3)", "(wire 2 (n 0) 2)"],
+            &[
+                "(wire 0 (all (n 1) (n 2)) 1)",
+                "(wire 1 (n 0) 3)",
+                "(wire 2 (n 0) 2)",
+            ],
             &["1 (walk 0 1 0)", "1 (walk 0 2 0)"],
         );
     }
@@ -1109,13 +1701,26 @@ mod walk {
     fn no_node_is_entered_twice() {
         // 0 takes 2 first, which enters 1; the step 0 to 1 is then no report
         walks(
-            &["(wire 0 (all (n 1) (n 2)) 1)", "(wire 1 (n 0) 2)", "(wire 2 (n 1) 3)"],
+            &[
+                "(wire 0 (all (n 1) (n 2)) 1)",
+                "(wire 1 (n 0) 2)",
+                "(wire 2 (n 1) 3)",
+            ],
             &["1 (walk 0 2 1 0)"],
         );
         // each step onto the open path is a report
         walks(
-            &["(wire 0 (n 1) 1)", "(wire 1 (all (n 0) (n 1) (n 2)) 2)", "(wire 2 (all (n 1) (n 0)) 3)"],
-            &["2 (walk 1 2 1)", "1 (walk 0 1 2 0)", "2 (walk 1 1)", "1 (walk 0 1 0)"],
+            &[
+                "(wire 0 (n 1) 1)",
+                "(wire 1 (all (n 0) (n 1) (n 2)) 2)",
+                "(wire 2 (all (n 1) (n 0)) 3)",
+            ],
+            &[
+                "2 (walk 1 2 1)",
+                "1 (walk 0 1 2 0)",
+                "2 (walk 1 1)",
+                "1 (walk 0 1 0)",
+            ],
         );
     }
 
@@ -1127,25 +1732,58 @@ mod walk {
     #[test]
     fn ties_go_by_name_and_last_first() {
         walks(
-            &["(wire 0 (all (n 1) (n 2)) 1)", "(wire 1 (n 0) 2)", "(wire 2 (n 0) 2)"],
+            &[
+                "(wire 0 (all (n 1) (n 2)) 1)",
+                "(wire 1 (n 0) 2)",
+                "(wire 2 (n 0) 2)",
+            ],
             &["1 (walk 0 2 0)", "1 (walk 0 1 0)"],
         );
-        walks(&["(wire 2 (n 1) 5)", "(wire 1 (n 2) 5)"], &["5 (walk 1 2 1)"]);
+        walks(
+            &["(wire 2 (n 1) 5)", "(wire 1 (n 2) 5)"],
+            &["5 (walk 1 2 1)"],
+        );
     }
 
     #[test]
     fn ties_of_outputs_by_instance_index_output() {
-        let inner = ["(module 1 bound)", "(kind 1 in)", "(kind 2 out)", "(kind 3 out)",
-            "(port out 3 opaque 5)", "(port out 2 opaque 5)", "(drive (lv 2 6) (n 1))", "(drive (lv 3 6) (n 1))"];
+        let inner = [
+            "(module 1 bound)",
+            "(kind 1 in)",
+            "(kind 2 out)",
+            "(kind 3 out)",
+            "(port out 3 opaque 5)",
+            "(port out 2 opaque 5)",
+            "(drive (lv 2 6) (n 1))",
+            "(drive (lv 3 6) (n 1))",
+        ];
         let reads = "(all (f (n 6) 2) (f (n 6) 3) (f (ix (n 6) (neg 1)) 2) (f (ix (n 6) 0) 2) (f (n 7) 2) (n 3))";
         let parent = [
-            "(module 0 bound)", "(kind 3 wire)", "(kind 6 inst)", "(kind 7 inst)", "(kind 9 wire)",
-            &format!("(wire 9 {reads} 1)"), "(wire 3 (n 9) 5)", "(inst 7 - 1 5 (conn 1 (n 9)))",
-            "(inst 6 0 1 5 (conn 1 (n 9)))", "(inst 6 (neg 1) 1 5 (conn 1 (n 9)))", "(inst 6 - 1 5 (conn 1 (n 9)))",
+            "(module 0 bound)",
+            "(kind 3 wire)",
+            "(kind 6 inst)",
+            "(kind 7 inst)",
+            "(kind 9 wire)",
+            &format!("(wire 9 {reads} 1)"),
+            "(wire 3 (n 9) 5)",
+            "(inst 7 - 1 5 (conn 1 (n 9)))",
+            "(inst 6 0 1 5 (conn 1 (n 9)))",
+            "(inst 6 (neg 1) 1 5 (conn 1 (n 9)))",
+            "(inst 6 - 1 5 (conn 1 (n 9)))",
         ];
         let lines = [&parent[..], &inner].concat();
-        let order = ["(u 7 - 2)", "(u 6 0 2)", "(u 6 -1 2)", "(u 6 - 3)", "(u 6 - 2)", "3"];
-        let reports: Vec<String> = order.iter().map(|n| format!("(E0504 0 1 (walk 9 {n} 9))")).collect();
+        let order = [
+            "(u 7 - 2)",
+            "(u 6 0 2)",
+            "(u 6 -1 2)",
+            "(u 6 - 3)",
+            "(u 6 - 2)",
+            "3",
+        ];
+        let reports: Vec<String> = order
+            .iter()
+            .map(|n| format!("(E0504 0 1 (walk 9 {n} 9))"))
+            .collect();
         let reports: Vec<&str> = reports.iter().map(String::as_str).collect();
         prints(&lines, &reports);
         assert_eq!(ties(&text_of(&lines)), [true, false]);
@@ -1164,19 +1802,42 @@ mod walk {
         assert_eq!(tied(&["(wire 1 (n 1) 5)", "(wire 2 (n 1) 5)"]), [true]);
         assert_eq!(tied(&["(wire 1 (n 1) 5)", "(wire 2 (n 3) 5)"]), [false]); // 2 is not live
         assert_eq!(tied(&["(wire 1 (n 2) 5)", "(wire 2 (n 3) 5)"]), [false]); // no loop
-        assert_eq!(tied(&["(wire 1 (n 1) 0)", "(wire 2 (all (n 1) (n 3)) 1)"]), [false]); // 3 unheaded
+        assert_eq!(
+            tied(&["(wire 1 (n 1) 0)", "(wire 2 (all (n 1) (n 3)) 1)"]),
+            [false]
+        ); // 3 unheaded
         assert_eq!(tied(&["(wire 1 (n 1) 5)", "(wire 1 (n 1) 5)"]), [false]); // one node
     }
 
     #[test]
     fn outputs_of_one_line_tie_only_where_live() {
-        let inner = ["(module 1 bound)", "(kind 1 in)", "(kind 2 out)", "(kind 3 out)", "(kind 4 in)",
-            "(port out 3 opaque 5)", "(port out 2 opaque 5)", "(drive (lv 2 6) (n 1))", "(drive (lv 3 6) (n 4))"];
-        let parent = ["(module 0 bound)", "(kind 6 inst)", "(kind 9 wire)", "(wire 9 (all (f (n 6) 2) (f (n 6) 3)) 1)"];
+        let inner = [
+            "(module 1 bound)",
+            "(kind 1 in)",
+            "(kind 2 out)",
+            "(kind 3 out)",
+            "(kind 4 in)",
+            "(port out 3 opaque 5)",
+            "(port out 2 opaque 5)",
+            "(drive (lv 2 6) (n 1))",
+            "(drive (lv 3 6) (n 4))",
+        ];
+        let parent = [
+            "(module 0 bound)",
+            "(kind 6 inst)",
+            "(kind 9 wire)",
+            "(wire 9 (all (f (n 6) 2) (f (n 6) 3)) 1)",
+        ];
         let one = ["(inst 6 - 1 5 (conn 1 (n 9)))"];
         let both = ["(inst 6 - 1 5 (conn 1 (n 9)) (conn 4 (n 9)))"];
-        assert_eq!(ties(&text_of(&[&parent[..], &one, &inner].concat())), [false, false]);
-        assert_eq!(ties(&text_of(&[&parent[..], &both, &inner].concat())), [true, false]);
+        assert_eq!(
+            ties(&text_of(&[&parent[..], &one, &inner].concat())),
+            [false, false]
+        );
+        assert_eq!(
+            ties(&text_of(&[&parent[..], &both, &inner].concat())),
+            [true, false]
+        );
     }
 }
 
@@ -1187,20 +1848,40 @@ mod reports {
     fn order_within_a_module_and_over_modules() {
         let module = |m: &str| -> Vec<String> {
             let items = [
-                "(mem 5 1)", "(wire 3 (n 3) 2)", "(reg 4 3)", "(port out 8 bit 4)", "(drive (lv 2 6) 0)", "(drive (lv 2 5) 0)",
-                "(on 7 (set 5 1))", "(on 8 (set 5 1))", "(drive (lv 3 9) 0)", "(on 10 (set 3 11) (set 9 12))",
+                "(mem 5 1)",
+                "(wire 3 (n 3) 2)",
+                "(reg 4 3)",
+                "(port out 8 bit 4)",
+                "(drive (lv 2 6) 0)",
+                "(drive (lv 2 5) 0)",
+                "(on 7 (set 5 1))",
+                "(on 8 (set 5 1))",
+                "(drive (lv 3 9) 0)",
+                "(on 10 (set 3 11) (set 9 12))",
             ];
             let head = format!("(module {m} bound)");
-            let mut lines: Vec<String> = with_kinds(&head, &["(kind 8 out)", "(kind 9 wire)"]).iter().map(|l| l.to_string()).collect();
+            let mut lines: Vec<String> = with_kinds(&head, &["(kind 8 out)", "(kind 9 wire)"])
+                .iter()
+                .map(|l| l.to_string())
+                .collect();
             lines.extend(items.iter().map(|l| l.to_string()));
             lines
         };
         let lines = [module("0"), module("1")].concat();
         let lines: Vec<&str> = lines.iter().map(String::as_str).collect();
         let reports = |m: &str| -> Vec<String> {
-            ["(E0501 M 9 3 wire)", "(E0505 M 12 9 arrow)", "(E0501 M 5 2 many)", "(E0502 M 4 8 never)",
-                "(E0503 M 3 4 none)", "(E0503 M 1 5 memblocks)", "(E0504 M 2 (walk 3 3))"]
-                .iter().map(|l| l.replace('M', m)).collect()
+            [
+                "(E0501 M 9 3 wire)",
+                "(E0505 M 12 9 arrow)",
+                "(E0501 M 5 2 many)",
+                "(E0502 M 4 8 never)",
+                "(E0503 M 3 4 none)",
+                "(E0503 M 1 5 memblocks)",
+                "(E0504 M 2 (walk 3 3))",
+            ]
+            .iter()
+            .map(|l| l.replace('M', m))
+            .collect()
         };
         let expected = [reports("0"), reports("1")].concat();
         let expected: Vec<&str> = expected.iter().map(String::as_str).collect();
@@ -1212,13 +1893,23 @@ mod reports {
         let text = text_of(&["(module 0 bound)", "(reg 4 20)"]);
         let report = b"(E0503 0 20 4 none)\n";
         let full = answer(&text, report.len());
-        assert_eq!((full.number, full.bytes, full.reports), (0, report.len(), 1));
+        assert_eq!(
+            (full.number, full.bytes, full.reports),
+            (0, report.len(), 1)
+        );
         assert_eq!(full.text, report);
         let short = answer(&text, report.len() - 1);
-        assert_eq!((short.number, short.line, short.bytes, short.reports), (21, 0, 0, 0));
+        assert_eq!(
+            (short.number, short.line, short.bytes, short.reports),
+            (21, 0, 0, 0)
+        );
         assert!(short.text.is_empty());
         // reading refusals go before 20 and 21
-        refuses(&["(module 0 bound)", &format!("(const 8 {OUTSIDE})"), "x"], 3, 3);
+        refuses(
+            &["(module 0 bound)", &format!("(const 8 {OUTSIDE})"), "x"],
+            3,
+            3,
+        );
     }
 }
 
@@ -1248,9 +1939,27 @@ mod limits {
     #[test]
     fn nodes_headed_with_reads_or_without() {
         let head = ["(module 0 bound)"];
-        let inner = ["(module 1 bound)", "(kind 1 in)", "(kind 2 out)", "(port out 2 bit 5)", "(drive (lv 2 6) (n 1))"];
+        let inner = [
+            "(module 1 bound)",
+            "(kind 1 in)",
+            "(kind 2 out)",
+            "(port out 2 bit 5)",
+            "(drive (lv 2 6) (n 1))",
+        ];
         let inner: Vec<String> = inner.iter().map(|l| l.to_string()).collect();
-        limit(|n| lines_of(&head, &[vec![repeated("(inst 6 (n 9) 1 5)", &n.to_string())], inner.clone()].concat()), 512);
+        limit(
+            |n| {
+                lines_of(
+                    &head,
+                    &[
+                        vec![repeated("(inst 6 (n 9) 1 5)", &n.to_string())],
+                        inner.clone(),
+                    ]
+                    .concat(),
+                )
+            },
+            512,
+        );
     }
 
     #[test]
@@ -1260,7 +1969,10 @@ mod limits {
             let mut lines = vec![];
             for w in 0..n.div_ceil(256) {
                 let reads = 256.min(n - w * 256);
-                lines.push(repeated(&format!("(wire {w} (all (f (ix (n 60) (n 9)) 1) (f (ix (n 60) 0) 1)) 5)"), &reads.to_string()));
+                lines.push(repeated(
+                    &format!("(wire {w} (all (f (ix (n 60) (n 9)) 1) (f (ix (n 60) 0) 1)) 5)"),
+                    &reads.to_string(),
+                ));
             }
             lines_of(&["(module 0 bound)", "(kind 60 inst)"], &lines)
         };
@@ -1270,8 +1982,18 @@ mod limits {
 
     #[test]
     fn sites_as_often_as_collected_poisoned_too() {
-        let head = ["(module 0 bound)", "(kind 2 out)", "(kind 3 out)", "(on 5 (set 3 6))"];
-        let sites = |n: usize| vec![repeated("(drive (lv 2 5 (n 9)) 0) (drive (lv 3 5) 0)", &(n / 2).to_string())];
+        let head = [
+            "(module 0 bound)",
+            "(kind 2 out)",
+            "(kind 3 out)",
+            "(on 5 (set 3 6))",
+        ];
+        let sites = |n: usize| {
+            vec![repeated(
+                "(drive (lv 2 5 (n 9)) 0) (drive (lv 3 5) 0)",
+                &(n / 2).to_string(),
+            )]
+        };
         let more = |n: usize| [sites(n), vec!["(drive (lv 3 5) 0)".to_string(); n % 2]].concat();
         limit(|n| lines_of(&head, &more(n)), 1024);
     }
@@ -1279,7 +2001,11 @@ mod limits {
     #[test]
     fn pairs_of_name_and_block() {
         let head = ["(module 0 bound)", "(kind 4 reg)", "(kind 5 mem)"];
-        let blocks = |n: usize| (0..n).map(|i| format!("(on {} (set {} 1) (set 9 1))", i / 2, 4 + i % 2)).collect::<Vec<_>>();
+        let blocks = |n: usize| {
+            (0..n)
+                .map(|i| format!("(on {} (set {} 1) (set 9 1))", i / 2, 4 + i % 2))
+                .collect::<Vec<_>>()
+        };
         limit(|n| lines_of(&head, &blocks(n)), 512);
         // the same pairs again are none
         let twice = |n: usize| [blocks(n), blocks(n)].concat();
@@ -1303,8 +2029,23 @@ mod limits {
             lines
         };
         let build = |n: usize| {
-            let head = ["(module 0 bound)", "(inst 6 - 1 5)", "(inst 6 - 2 5)", "(inst 6 - 2 5)", "(inst 6 - 3 5)"];
-            lines_of(&head, &[inner(1, 16, 32), inner(2, 16, 31), inner(3, 1, n - 16 * 63), inner(4, 16, 32)].concat())
+            let head = [
+                "(module 0 bound)",
+                "(inst 6 - 1 5)",
+                "(inst 6 - 2 5)",
+                "(inst 6 - 2 5)",
+                "(inst 6 - 3 5)",
+            ];
+            lines_of(
+                &head,
+                &[
+                    inner(1, 16, 32),
+                    inner(2, 16, 31),
+                    inner(3, 1, n - 16 * 63),
+                    inner(4, 16, 32),
+                ]
+                .concat(),
+            )
         };
         limit(build, 1024); // module 4 is never summarised
     }

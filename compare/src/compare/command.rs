@@ -34,7 +34,9 @@ impl CheckerCommand {
             let _ = child.wait();
             return Err(format!("the checker did not finish in {PATIENCE:?}"));
         };
-        let status = child.wait().map_err(|e| format!("cannot wait for the checker: {e}"))?;
+        let status = child
+            .wait()
+            .map_err(|e| format!("cannot wait for the checker: {e}"))?;
         if status.success() || printed.starts_with(b"(refused ") {
             Ok(printed)
         } else {

@@ -62,7 +62,9 @@ pub fn parse(args: &[String], known_profiles: &[&str]) -> Result<Options, String
 impl Options {
     fn set_against(&mut self, against: Against) -> Result<(), String> {
         if self.against != Against::Oracle && self.against != against {
-            return Err(format!("--refusals and --against-model are two modes; {USAGE}"));
+            return Err(format!(
+                "--refusals and --against-model are two modes; {USAGE}"
+            ));
         }
         self.against = against;
         Ok(())
@@ -89,5 +91,7 @@ fn value<'a>(option: &str, value: Option<&'a String>) -> Result<&'a String, Stri
 
 fn number(option: &str, given: Option<&String>) -> Result<u64, String> {
     let given = value(option, given)?;
-    given.parse().map_err(|_| format!("{option} needs a number, not {given}"))
+    given
+        .parse()
+        .map_err(|_| format!("{option} needs a number, not {given}"))
 }

@@ -40,7 +40,11 @@ fn loop_or_not(line: &str, ties: &[bool]) -> String {
 }
 
 fn loop_module(line: &str) -> Option<usize> {
-    line.strip_prefix("(E0504 ")?.split(' ').next()?.parse().ok()
+    line.strip_prefix("(E0504 ")?
+        .split(' ')
+        .next()?
+        .parse()
+        .ok()
 }
 
 fn same_conflicts(a: &str, b: &str) -> bool {

@@ -41,11 +41,18 @@ impl fmt::Display for Counts {
         let refused: u64 = self.refused.values().sum();
         write!(f, "texts {}, refused {refused}", self.texts)?;
         if refused > 0 {
-            let by: Vec<String> = self.refused.iter().map(|(n, c)| format!("{n}: {c}")).collect();
+            let by: Vec<String> = self
+                .refused
+                .iter()
+                .map(|(n, c)| format!("{n}: {c}"))
+                .collect();
             write!(f, " ({})", by.join(", "))?;
         }
         let (exact, tied, differences) = (self.exact, self.tied, self.differences);
-        write!(f, ", compared exactly {exact}, with ties {tied}, differences {differences}")
+        write!(
+            f,
+            ", compared exactly {exact}, with ties {tied}, differences {differences}"
+        )
     }
 }
 
@@ -101,7 +108,11 @@ pub fn compare_all(
         counts.add(&verdict);
         if let Verdict::Different(found) = verdict {
             let shown = counts.differences <= SHOWN;
-            let small = if shown { smallest(checker, against, &text, &found) } else { None };
+            let small = if shown {
+                smallest(checker, against, &text, &found)
+            } else {
+                None
+            };
             show(out, &name, &found, small).map_err(cannot_write)?;
         }
     }
@@ -153,7 +164,11 @@ fn show(
     };
     writeln!(out, "  smallest text ({})", found.what)?;
     for line in text.split_inclusive(|&b| b == b'\n') {
-        writeln!(out, "    {}", line.strip_suffix(b"\n").unwrap_or(line).escape_ascii())?;
+        writeln!(
+            out,
+            "    {}",
+            line.strip_suffix(b"\n").unwrap_or(line).escape_ascii()
+        )?;
     }
     show_lines(out, "checker", &found.checker)?;
     show_lines(out, "other", &found.other)

@@ -288,7 +288,8 @@ impl<'a> Checker<'a> {
         let mut dcx = self.context(number, false)?;
         self.collect_items(&mut dcx, &self.design[number].items, MODULE_ROUNDS)?;
         self.in_progress.remove(&number);
-        self.summaries.insert(number, Rc::new(outputs_to_inputs(&dcx)));
+        self.summaries
+            .insert(number, Rc::new(outputs_to_inputs(&dcx)));
         self.check_triples()?;
         Ok(self.summaries[&number].clone())
     }

@@ -434,10 +434,13 @@ impl Faults {
         if *word == "-0" {
             return None;
         }
-        let value = magnitude.parse().ok().map(|v: i128| match magnitude == *word {
-            true => v,
-            false => -v,
-        });
+        let value = magnitude
+            .parse()
+            .ok()
+            .map(|v: i128| match magnitude == *word {
+                true => v,
+                false => -v,
+            });
         Some(self.ranged(value, MIN_INT, MAX_INT))
     }
 

@@ -56,7 +56,11 @@ fn report_conflicts(dcx: &mut Dcx, reports: &mut Reports) {
 }
 
 fn sites_of(dcx: &Dcx, name: Name) -> Vec<Site> {
-    dcx.sites.iter().copied().filter(|s| s.name == name).collect()
+    dcx.sites
+        .iter()
+        .copied()
+        .filter(|s| s.name == name)
+        .collect()
 }
 
 /// The START of the first later site that meets an earlier one.

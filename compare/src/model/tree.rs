@@ -25,16 +25,48 @@ pub struct Module {
 
 pub enum Item {
     PortIn,
-    PortOut { name: Name, ty: Type, start: Start },
-    Wire { name: Name, init: Expr, start: Start },
-    Reg { name: Name, start: Start },
-    Mem { name: Name, start: Start },
-    Const { name: Name, value: Expr },
-    Drive { lhs: LValue, rhs: Expr },
-    On { start: Start, body: Vec<Seq> },
+    PortOut {
+        name: Name,
+        ty: Type,
+        start: Start,
+    },
+    Wire {
+        name: Name,
+        init: Expr,
+        start: Start,
+    },
+    Reg {
+        name: Name,
+        start: Start,
+    },
+    Mem {
+        name: Name,
+        start: Start,
+    },
+    Const {
+        name: Name,
+        value: Expr,
+    },
+    Drive {
+        lhs: LValue,
+        rhs: Expr,
+    },
+    On {
+        start: Start,
+        body: Vec<Seq>,
+    },
     Inst(Inst),
-    Repeat { var: Name, lo: Expr, hi: Expr, items: Vec<Item> },
-    ConstIf { cond: Expr, then: Vec<Item>, els: Vec<Item> },
+    Repeat {
+        var: Name,
+        lo: Expr,
+        hi: Expr,
+        items: Vec<Item>,
+    },
+    ConstIf {
+        cond: Expr,
+        then: Vec<Item>,
+        els: Vec<Item>,
+    },
 }
 
 pub enum Type {

@@ -45,7 +45,10 @@ impl Search<'_> {
     fn enter(&mut self, node: Node) {
         self.entered.insert(node);
         self.path.push(node);
-        for next in ascending(self.graph, self.graph.next(node)).into_iter().rev() {
+        for next in ascending(self.graph, self.graph.next(node))
+            .into_iter()
+            .rev()
+        {
             if let Some(at) = self.path.iter().position(|&n| n == next) {
                 self.close(at);
             } else if !self.entered.contains(&next) {
@@ -68,7 +71,9 @@ impl Search<'_> {
 /// Whether two different live nodes have one START (see `model::ties`).
 pub fn tied(graph: &Graph) -> bool {
     let mut starts = BTreeSet::new();
-    live(graph).into_iter().any(|n| !starts.insert(graph.start(n)))
+    live(graph)
+        .into_iter()
+        .any(|n| !starts.insert(graph.start(n)))
 }
 
 /// The nodes from which a closed walk can be reached: what is left after taking away, again and

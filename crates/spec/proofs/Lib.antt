@@ -7,3 +7,4 @@ pub mod Numbers
 pub mod Parts
 pub mod Shown
 pub mod Reading
+pub mod ModuleEdge
