@@ -11,14 +11,11 @@ fn texts(profile: &'static str, count: u64) -> impl Iterator<Item = (String, Vec
 }
 
 fn counts(checker: &mut Checker, against: Against, profile: &'static str) -> Counts {
-    compare_all(
-        profile,
-        texts(profile, 100),
-        checker,
-        against,
-        &mut std::io::sink(),
-    )
-    .unwrap()
+    let mut counts = Counts::default();
+    for (_, text) in texts(profile, 100) {
+        counts.add(&judge(checker, against, &text));
+    }
+    counts
 }
 
 fn differences(mut checker: impl FnMut(&[u8]) -> Vec<u8>, against: Against) -> u64 {
@@ -206,6 +203,30 @@ fn loops_of_other_modules_stay_exact() {
 }
 
 #[test]
+fn differences_are_shown_and_counted() {
+    let mut silent = |_: &[u8]| Ok(Vec::new());
+    let smallest = b"(module 0 bound)\n(reg 4 0)\n".to_vec();
+    let larger = b"(module 0 bound)\n(reg 4 20)\n(reg 4 30)\n".to_vec();
+    let texts = [("one", larger), ("two", Vec::new()), ("three", smallest)];
+    let texts = texts
+        .into_iter()
+        .map(|(name, text)| (name.to_string(), text));
+    let mut out = Vec::new();
+    let counts = compare_all("these", texts, &mut silent, Against::Oracle, &mut out).unwrap();
+    assert_eq!((counts.texts, counts.exact, counts.differences), (3, 1, 2));
+    let what = "report 1: checker nothing, other (E0503 0";
+    let small = format!(
+        "  smallest text ({what} 0 4 none))\n    (module 0 bound)\n    (reg 4 0)\n  \
+         checker prints 0 lines\n  other prints 1 lines\n    (E0503 0 0 4 none)\n"
+    );
+    let expected = format!(
+        "difference in one: {what} 20 4 none)\n{small}difference in three: {what} 0 4 none)\n\
+         {small}these: texts 3, refused 0, compared exactly 1, with ties 0, differences 2\n"
+    );
+    assert_eq!(String::from_utf8(out).unwrap(), expected);
+}
+
+#[test]
 fn a_difference_is_made_small() {
     let mut no_regs = |text: &[u8]| {
         let printed = model::printed(text);
@@ -222,9 +243,7 @@ fn a_difference_is_made_small() {
         let Verdict::Different(found) = judge(&mut no_regs, Against::Oracle, &text) else {
             continue;
         };
-        let Some((small, found)) = smallest(&mut no_regs, Against::Oracle, &text, &found) else {
-            continue;
-        };
+        let (small, found) = smallest(&mut no_regs, Against::Oracle, &text, &found);
         assert!(matches!(
             judge(&mut no_regs, Against::Oracle, &small),
             Verdict::Different(_)

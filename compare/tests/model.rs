@@ -1,6 +1,7 @@
 //! The model against 01, sentence by sentence: P1 to P10, refusals, values, collection, sites,
-//! blocks, edges, summaries, the walk, limits.
+//! blocks, edges, summaries, the walk, limits. Each accepted text is held against the original too.
 
+use compare::compare::{judge, Against, Verdict};
 use compare::model::{answer, printed, ties, Answer, PROGRAM_BUFFER};
 
 fn text_of(lines: &[&str]) -> Vec<u8> {
@@ -11,6 +12,16 @@ fn text_of(lines: &[&str]) -> Vec<u8> {
 }
 
 #[track_caller]
+fn as_the_original(text: &[u8]) {
+    let mut model = |text: &[u8]| Ok(printed(text));
+    let verdict = judge(&mut model, Against::Oracle, text);
+    assert!(
+        matches!(verdict, Verdict::Exact | Verdict::Tied),
+        "{verdict:?}"
+    );
+}
+
+#[track_caller]
 fn prints(lines: &[&str], reports: &[&str]) {
     let printed = printed(&text_of(lines));
     let expected = text_of(reports);
@@ -18,6 +29,7 @@ fn prints(lines: &[&str], reports: &[&str]) {
         String::from_utf8_lossy(&printed),
         String::from_utf8_lossy(&expected)
     );
+    as_the_original(&text_of(lines));
 }
 
 #[track_caller]
@@ -47,6 +59,7 @@ fn accepts(lines: &[&str]) -> Answer {
         a.reports as usize,
         a.text.iter().filter(|&&b| b == b'\n').count()
     );
+    as_the_original(&text_of(lines));
     a
 }
 
@@ -201,36 +214,17 @@ mod text {
 
     #[test]
     fn one_over_bytes() {
-        let mut text = text_of(&["(module 0 bound)"]);
-        while text.len() + 13 <= 32_768 {
-            text.extend_from_slice(b"(reg 1 10000)");
-            *text.last_mut().unwrap() = b')';
-            text.push(b'\n');
-        }
-        text.truncate(text.iter().rposition(|&b| b == b'\n').unwrap() + 1);
-        text.resize(32_768, b' ');
-        refuses_bytes(
-            &text,
-            2,
-            text.iter().filter(|&&b| b == b'\n').count() as u32 + 1,
-        );
-        text.push(b'\n');
-        refuses_bytes(&text, 1, 0);
+        refuses_bytes(&[b' '; 32_768], 2, 1);
+        refuses_bytes(&[b' '; 32_769], 1, 0);
         refuses_bytes(&[0xff; 32_769], 1, 0);
     }
 
     #[test]
     fn exactly_all_bytes_are_read() {
-        let mut text = text_of(&["(module 0 bound)"]);
-        while 32_768 - text.len() >= 32 {
-            text.extend_from_slice(b"(wire 7 (all) 1)\n");
-        }
-        let left = 32_768 - text.len();
-        let zeros = " 0".repeat((left - 17) / 2);
-        let odd = if left % 2 == 0 { "10" } else { "1" };
-        text.extend_from_slice(format!("(wire 7 (all{zeros}) {odd})\n").as_bytes());
+        let wires = "(wire 7 (all) 1)\n".repeat(1925);
+        let text = format!("(module 0 bound)\n{wires}(wire 7 (all) 1234567890)\n");
         assert_eq!(text.len(), 32_768);
-        assert_eq!(answer(&text, 0).number, 0);
+        assert_eq!(answer(text.as_bytes(), 0).number, 0);
     }
 
     #[test]
@@ -570,7 +564,7 @@ mod text {
                 format!("(const 7 (all {e}))"),
                 format!("(const 7 (f {e} 1))"),
                 format!("(const 7 (ix {e} 0))"),
-                format!("(const 7 (f (ix (n 1) 0) 1))").replace("(ix (n 1) 0)", &e),
+                format!("(const 7 (f (ix (ix (n 6) {e}) 0) 1))"),
                 format!("(wire 3 (f (ix (n 6) (all (neg {e}))) 1) 5)"),
             ] {
                 item_refused(&place, 8);
@@ -956,19 +950,15 @@ mod collection {
 
     #[test]
     fn rounds_are_spent_before_the_body() {
-        // 64 + 64 * 63 = 4096: the last inner repeat still unrolls; with 64 inner rounds it would not
-        let inner = |n| {
-            format!(
-                "(repeat 9 0 64 (repeat 8 0 {n} (drive (lv 2 5 (add (mul (n 9) 64) (n 8))) 0)))"
-            )
+        let nested = |outer: u32, inner: u32| {
+            let lines = bound(&[]).join("\n");
+            let text = format!("{lines}\n(repeat 9 0 {outer} (repeat 8 0 {inner} (reg 4 5)))\n");
+            answer(text.as_bytes(), PROGRAM_BUFFER).rounds
         };
-        let full = accepts(&with_kinds("(module 0 bound)", &[&inner(15)]));
-        assert_eq!(full.rounds, 64 + 64 * 15);
-        let over = accepts(&with_kinds(
-            "(module 0 unbound)",
-            &[&format!("(repeat 9 0 {} (repeat 8 0 2000))", 3)],
-        ));
-        assert_eq!(over.rounds, 3 + 2 * 2000);
+        assert_eq!(nested(64, 63), 4096);
+        assert_eq!(nested(64, 64), 64 + 63 * 64); // the last inner one has 0 left and runs once
+        assert_eq!(nested(3, 2000), 3 + 2 * 2000);
+        assert_eq!(nested(4096, 1), 4096);
     }
 
     #[test]

@@ -8,9 +8,12 @@ use crate::{cases, gen, model};
 use std::collections::BTreeMap;
 use std::fmt;
 use std::io::{self, Write};
+use std::time::{Duration, Instant};
 
 /// How often the checker is run to make one text smaller.
 const SHRINK_TRIES: usize = 2_000;
+/// And for how long.
+const SHRINK_TIME: Duration = Duration::from_secs(60);
 /// So many differences of a profile are made smaller and shown; the others are only named.
 const SHOWN: u64 = 10;
 
@@ -25,7 +28,7 @@ pub struct Counts {
 }
 
 impl Counts {
-    fn add(&mut self, verdict: &Verdict) {
+    pub fn add(&mut self, verdict: &Verdict) {
         self.texts += 1;
         match verdict {
             Verdict::Refused(number) => *self.refused.entry(*number).or_default() += 1,
@@ -108,11 +111,7 @@ pub fn compare_all(
         counts.add(&verdict);
         if let Verdict::Different(found) = verdict {
             let shown = counts.differences <= SHOWN;
-            let small = if shown {
-                smallest(checker, against, &text, &found)
-            } else {
-                None
-            };
+            let small = shown.then(|| smallest(checker, against, &text, &found));
             show(out, &name, &found, small).map_err(cannot_write)?;
         }
     }
@@ -130,19 +129,23 @@ pub fn smallest(
     against: Against,
     text: &[u8],
     found: &Difference,
-) -> Option<(Vec<u8>, Difference)> {
+) -> (Vec<u8>, Difference) {
     let sought = shape(text, found);
-    let mut last = None;
+    let begun = Instant::now();
+    let mut last = found.clone();
     let small = shrink(text, SHRINK_TRIES, |candidate| {
+        if begun.elapsed() > SHRINK_TIME {
+            return false;
+        }
         match judge(checker, against, candidate) {
             Verdict::Different(found) if shape(candidate, &found) == sought => {
-                last = Some(found);
+                last = found;
                 true
             }
             _ => false,
         }
     });
-    last.map(|found| (small, found))
+    (small, last)
 }
 
 /// The model's number and the checker's refusal: so an accepted text does not shrink to a refused

@@ -7,4 +7,7 @@ pub mod Numbers
 pub mod Parts
 pub mod Shown
 pub mod Reading
+pub mod Collection
+pub mod Loops
 pub mod ModuleEdge
+pub mod Nodes

@@ -17,6 +17,8 @@ pub mod Check
 pub mod Graph
 pub mod Net
 pub mod Walks
+pub mod Collection
+pub mod Loops
 pub mod Opened
 pub mod Refusals
 pub mod Rest
