@@ -1927,6 +1927,19 @@ mod limits {
     }
 
     #[test]
+    fn where_a_summary_begins_is_no_node() {
+        let head = [
+            "(module 0 bound)",
+            "(inst 6 - 1 5)",
+            "(module 1 bound)",
+            "(kind 6 inst)",
+        ];
+        let port = "(port out 8 bit 5)".to_string();
+        let wire = |n: usize| repeated("(wire 3 (f (ix (n 6) (n 9)) 1) 5)", &(n - 1).to_string());
+        limit(|n| lines_of(&head, &[port.clone(), wire(n)]), 512);
+    }
+
+    #[test]
     fn nodes_headed_with_reads_or_without() {
         let head = ["(module 0 bound)"];
         let inner = [

@@ -8,6 +8,11 @@ pub mod Parts
 pub mod Shown
 pub mod Reading
 pub mod Collection
+pub mod Copies
+pub mod Lengthen
+pub mod Listed
 pub mod Loops
 pub mod ModuleEdge
 pub mod Nodes
+pub mod Opened
+pub mod Shorten
