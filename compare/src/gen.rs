@@ -18,8 +18,9 @@ pub mod vectors;
 use rng::Rng;
 
 /// The profiles, in the order in which `gen --list` names them.
-pub const PROFILES: &[&str] =
-    &["small", "sites", "blocks", "loops", "ties", "values", "limits", "damaged"];
+pub const PROFILES: &[&str] = &[
+    "small", "sites", "blocks", "loops", "ties", "values", "limits", "damaged",
+];
 
 /// Text `i` of a profile under a seed; none where there is no such profile.
 pub fn text(profile: &str, seed: u64, i: u64) -> Option<Vec<u8>> {

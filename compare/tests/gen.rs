@@ -28,7 +28,9 @@ const P1_ANSWER: &str = "\
 const FILES: [&str; 3] = ["cases.cases", "generated.cases", "refusals.cases"];
 
 fn stored(file: &str) -> Vec<Case> {
-    let path = Path::new(env!("CARGO_MANIFEST_DIR")).join("vectors").join(file);
+    let path = Path::new(env!("CARGO_MANIFEST_DIR"))
+        .join("vectors")
+        .join(file);
     read_cases(&std::fs::read(path).unwrap()).unwrap()
 }
 
@@ -50,7 +52,9 @@ fn other_indexes_and_seeds_give_other_bytes() {
     for profile in PROFILES {
         let many: HashSet<Vec<u8>> = (0..200).filter_map(|i| text(profile, 5, i)).collect();
         assert!(many.len() > 100, "{profile}: {} of 200 differ", many.len());
-        let differ = (0..200).filter(|&i| text(profile, 5, i) != text(profile, 6, i)).count();
+        let differ = (0..200)
+            .filter(|&i| text(profile, 5, i) != text(profile, 6, i))
+            .count();
         assert!(differ > 50, "{profile}: {differ} of 200 differ by seed");
     }
 }
@@ -64,11 +68,17 @@ fn an_unknown_profile_gives_nothing() {
 /// All but `damaged` and the texts past a limit are well formed.
 #[test]
 fn texts_are_well_formed() {
-    for profile in PROFILES.iter().filter(|p| !["limits", "damaged"].contains(p)) {
+    for profile in PROFILES
+        .iter()
+        .filter(|p| !["limits", "damaged"].contains(p))
+    {
         for i in 0..3000 {
             let text = text(profile, 11, i).unwrap();
             let number = model::answer(&text, model::PROGRAM_BUFFER).number;
-            assert!([0, 20, 21].contains(&number), "{profile} 11 {i}: refused {number}");
+            assert!(
+                [0, 20, 21].contains(&number),
+                "{profile} 11 {i}: refused {number}"
+            );
         }
     }
 }
@@ -88,7 +98,9 @@ fn limits_at_the_limit_are_accepted_and_past_it_not() {
 #[test]
 fn most_texts_are_small() {
     for profile in PROFILES.iter().filter(|p| **p != "limits") {
-        let small = (0..1000).filter(|&i| text(profile, 2, i).unwrap().len() <= 2048).count();
+        let small = (0..1000)
+            .filter(|&i| text(profile, 2, i).unwrap().len() <= 2048)
+            .count();
         assert!(small > 750, "{profile}: {small} of 1000");
     }
 }
@@ -107,13 +119,20 @@ fn the_first_case_is_the_scope_pages() {
 #[test]
 fn stored_vectors_are_what_the_program_writes() {
     for (file, cases) in vectors::files().unwrap() {
-        assert!(stored(file) == cases, "{file} is not what gen --vectors writes");
+        assert!(
+            stored(file) == cases,
+            "{file} is not what gen --vectors writes"
+        );
     }
 }
 
 #[test]
 fn names_are_given_once() {
-    let names: Vec<String> = FILES.iter().flat_map(|f| stored(f)).map(|c| c.name).collect();
+    let names: Vec<String> = FILES
+        .iter()
+        .flat_map(|f| stored(f))
+        .map(|c| c.name)
+        .collect();
     let different: HashSet<&String> = names.iter().collect();
     assert_eq!(names.len(), different.len());
     assert!(names.len() >= 300);
@@ -124,7 +143,11 @@ fn the_model_gives_the_stored_answers() {
     for case in FILES.iter().flat_map(|f| stored(f)) {
         let printed = model::printed(&case.text);
         let shown = String::from_utf8_lossy(&printed);
-        assert!(printed == case.answer, "{}: the model prints\n{shown}", case.name);
+        assert!(
+            printed == case.answer,
+            "{}: the model prints\n{shown}",
+            case.name
+        );
     }
 }
 
@@ -133,10 +156,16 @@ fn every_refusal_number_is_there() {
     let refusals = stored("refusals.cases");
     for number in [1, 2, 3, 4, 5, 6, 7, 8, 20, 21] {
         let head = format!("(refused {number} ");
-        let count = refusals.iter().filter(|c| c.answer.starts_with(head.as_bytes())).count();
+        let count = refusals
+            .iter()
+            .filter(|c| c.answer.starts_with(head.as_bytes()))
+            .count();
         assert!(count >= 2, "refusal {number}: {count}");
     }
     for file in ["cases.cases", "generated.cases"] {
-        assert!(stored(file).iter().all(|c| !is_refusal(&c.answer)), "{file}");
+        assert!(
+            stored(file).iter().all(|c| !is_refusal(&c.answer)),
+            "{file}"
+        );
     }
 }

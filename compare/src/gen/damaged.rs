@@ -4,16 +4,53 @@ use super::expr::RUN_TIME;
 use super::rng::Rng;
 
 const NUMBERS: [&str; 22] = [
-    "(shl 1 2)", "(bor 1 (n 1))", "(add 1 (bxor 2 3))", "1000",
-    "00", "01", "-0", "-1", "--1", "-", "+1", "1-", "", "256", "255", "2147483647", "2147483648",
-    "4294967296", "18446744073709551617", "99999999999999999999999999", "-2147483649", "x",
+    "(shl 1 2)",
+    "(bor 1 (n 1))",
+    "(add 1 (bxor 2 3))",
+    "1000",
+    "00",
+    "01",
+    "-0",
+    "-1",
+    "--1",
+    "-",
+    "+1",
+    "1-",
+    "",
+    "256",
+    "255",
+    "2147483647",
+    "2147483648",
+    "4294967296",
+    "18446744073709551617",
+    "99999999999999999999999999",
+    "-2147483649",
+    "x",
 ];
 const BYTES: [u8; 12] = [0, 9, 11, 13, 31, 127, 128, 160, 255, b'~', b'!', b'A'];
 const LINES: [&str; 22] = [
-    "", " ", "()", "( )", "(module)", "(module 0 bound)", "(module 1 bound)", "(module 40 unbound)",
-    "(kind 1 in)", "(kind 1 inst)", "(val 1 -0)", "(val 1 5 )", "(unknown 1)", "(on)", "(wire 1 5)",
-    "(all (n 1))", "(drive (lv 1 5 (shl 1 2)) 0)", "(port out 1 (bits (band 1 1)) 5)",
-    "(const 1 (if 1 2 (bor 1 2)))", "(repeat 1 0 2 (kind 1 in))", "(inst 1 -1 0 5)", "(drive (lv 1 5 1 2 3) 0)",
+    "",
+    " ",
+    "()",
+    "( )",
+    "(module)",
+    "(module 0 bound)",
+    "(module 1 bound)",
+    "(module 40 unbound)",
+    "(kind 1 in)",
+    "(kind 1 inst)",
+    "(val 1 -0)",
+    "(val 1 5 )",
+    "(unknown 1)",
+    "(on)",
+    "(wire 1 5)",
+    "(all (n 1))",
+    "(drive (lv 1 5 (shl 1 2)) 0)",
+    "(port out 1 (bits (band 1 1)) 5)",
+    "(const 1 (if 1 2 (bor 1 2)))",
+    "(repeat 1 0 2 (kind 1 in))",
+    "(inst 1 -1 0 5)",
+    "(drive (lv 1 5 1 2 3) 0)",
 ];
 
 pub fn damage(mut r: Rng, text: Vec<u8>) -> Vec<u8> {
@@ -67,13 +104,16 @@ fn one_byte(r: &mut Rng, mut text: Vec<u8>) -> Vec<u8> {
 /// A run of digits becomes another number, or none.
 fn a_number(r: &mut Rng, text: Vec<u8>) -> Vec<u8> {
     let digit = |k: usize| text.get(k).is_some_and(u8::is_ascii_digit);
-    let starts: Vec<usize> =
-        (0..text.len()).filter(|&k| digit(k) && (k == 0 || !digit(k - 1))).collect();
+    let starts: Vec<usize> = (0..text.len())
+        .filter(|&k| digit(k) && (k == 0 || !digit(k - 1)))
+        .collect();
     if starts.is_empty() {
         return text;
     }
     let from = r.pick(&starts);
-    let to = (from..text.len()).find(|&k| !digit(k)).unwrap_or(text.len());
+    let to = (from..text.len())
+        .find(|&k| !digit(k))
+        .unwrap_or(text.len());
     let old = &text[from..to];
     let new = match r.below(5) {
         0 => [b"0", old].concat(),
@@ -118,7 +158,10 @@ fn a_bracket(r: &mut Rng, text: Vec<u8>) -> Vec<u8> {
 }
 
 fn the_lines(r: &mut Rng, text: Vec<u8>) -> Vec<u8> {
-    let mut lines: Vec<Vec<u8>> = text.split_inclusive(|&b| b == b'\n').map(<[u8]>::to_vec).collect();
+    let mut lines: Vec<Vec<u8>> = text
+        .split_inclusive(|&b| b == b'\n')
+        .map(<[u8]>::to_vec)
+        .collect();
     let n = lines.len() as u64;
     let (a, b) = (r.below(n) as usize, r.below(n) as usize);
     match r.below(6) {
@@ -138,7 +181,9 @@ fn the_lines(r: &mut Rng, text: Vec<u8>) -> Vec<u8> {
 
 /// A kind line once more, with the same kind or another.
 fn second_kind(r: &mut Rng, lines: &mut Vec<Vec<u8>>) {
-    let kinds: Vec<usize> = (0..lines.len()).filter(|&k| lines[k].starts_with(b"(kind ")).collect();
+    let kinds: Vec<usize> = (0..lines.len())
+        .filter(|&k| lines[k].starts_with(b"(kind "))
+        .collect();
     if kinds.is_empty() {
         return;
     }
@@ -162,15 +207,23 @@ const WORDS: [&str; 34] = [
 /// A word becomes another one; often an operator that no constant place may have.
 fn a_word(r: &mut Rng, text: Vec<u8>) -> Vec<u8> {
     let letter = |k: usize| text.get(k).is_some_and(u8::is_ascii_alphabetic);
-    let starts: Vec<usize> =
-        (0..text.len()).filter(|&k| letter(k) && (k == 0 || !letter(k - 1))).collect();
+    let starts: Vec<usize> = (0..text.len())
+        .filter(|&k| letter(k) && (k == 0 || !letter(k - 1)))
+        .collect();
     if starts.is_empty() {
         return text;
     }
     let from = r.pick(&starts);
-    let to = (from..text.len()).find(|&k| !letter(k)).unwrap_or(text.len());
-    let operator = [&b"add"[..], b"sub", b"mul", b"eq", b"lt", b"and", b"or"].contains(&&text[from..to]);
-    let new = if operator || r.chance(25) { r.pick(&RUN_TIME) } else { r.pick(&WORDS) };
+    let to = (from..text.len())
+        .find(|&k| !letter(k))
+        .unwrap_or(text.len());
+    let operator =
+        [&b"add"[..], b"sub", b"mul", b"eq", b"lt", b"and", b"or"].contains(&&text[from..to]);
+    let new = if operator || r.chance(25) {
+        r.pick(&RUN_TIME)
+    } else {
+        r.pick(&WORDS)
+    };
     put(&text, from, to, new.as_bytes())
 }
 
@@ -191,11 +244,23 @@ fn a_part(r: &mut Rng, text: Vec<u8>) -> Vec<u8> {
         return text;
     }
     let k = r.pick(&ends);
-    let parts = [" 5", " (n 1)", " -", " true", " (all)", " (bits 8)", " (shl 1 1)", " (lv 1 5)", " bit"];
+    let parts = [
+        " 5",
+        " (n 1)",
+        " -",
+        " true",
+        " (all)",
+        " (bits 8)",
+        " (shl 1 1)",
+        " (lv 1 5)",
+        " bit",
+    ];
     let new = r.pick(&parts).as_bytes();
     if r.chance(60) {
         return put(&text, k, k, new);
     }
     let before = (0..k).rev().find(|&j| text[j] == b' ' || text[j] == b'(');
-    before.map_or(text.clone(), |j| put(&text, j, k, if r.chance(50) { b"" } else { new }))
+    before.map_or(text.clone(), |j| {
+        put(&text, j, k, if r.chance(50) { b"" } else { new })
+    })
 }

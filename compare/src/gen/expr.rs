@@ -2,8 +2,9 @@
 
 use super::rng::Rng;
 
-pub const TWO_PART: [&str; 11] =
-    ["add", "sub", "mul", "eq", "ne", "lt", "le", "gt", "ge", "and", "or"];
+pub const TWO_PART: [&str; 11] = [
+    "add", "sub", "mul", "eq", "ne", "lt", "le", "gt", "ge", "and", "or",
+];
 /// The five that no constant place may have.
 pub const RUN_TIME: [&str; 5] = ["shl", "shr", "band", "bor", "bxor"];
 pub const ONE_PART: [&str; 3] = ["neg", "not", "clog2"];
@@ -27,7 +28,11 @@ pub struct Pool {
 impl Pool {
     fn name(&self, r: &mut Rng, from: &[u32]) -> u32 {
         if from.is_empty() || r.chance(6) {
-            return if self.any.is_empty() { 255 } else { r.pick(&self.any) };
+            return if self.any.is_empty() {
+                255
+            } else {
+                r.pick(&self.any)
+            };
         }
         r.pick(from)
     }
@@ -67,7 +72,11 @@ pub fn constant(r: &mut Rng, p: &Pool, depth: u32) -> String {
         2 => three(r, "if", |r| constant(r, p, depth - 1)),
         3 => many(r, 3, |r| constant(r, p, depth - 1)),
         4 => format!("(f {} {})", constant(r, p, depth - 1), p.field(r)),
-        _ => format!("(ix {} {})", constant(r, p, depth - 1), constant(r, p, depth - 1)),
+        _ => format!(
+            "(ix {} {})",
+            constant(r, p, depth - 1),
+            constant(r, p, depth - 1)
+        ),
     }
 }
 
@@ -94,7 +103,12 @@ pub fn read(r: &mut Rng, p: &Pool, depth: u32) -> String {
         4 => many(r, 4, |r| read(r, p, d)),
         5 => format!("(ix {} {})", read(r, p, d), read(r, p, d)),
         6 => format!("(f {} {})", field_base(r, p, d), p.field(r)),
-        _ => format!("(f (ix {} {}) {})", twice(r, p), constant(r, p, d.min(2)), p.field(r)),
+        _ => format!(
+            "(f (ix {} {}) {})",
+            twice(r, p),
+            constant(r, p, d.min(2)),
+            p.field(r)
+        ),
     }
 }
 

@@ -20,7 +20,11 @@ fn with_vals(r: &mut Rng, text: &str) -> String {
     for (k, line) in text.split_inclusive('\n').enumerate() {
         out.push_str(line);
         for _ in 0..if k == 0 { r.below(5) } else { 0 } {
-            out.push_str(&format!("(val {} {})\n", r.range(240, 249), r.range(-99, 99)));
+            out.push_str(&format!(
+                "(val {} {})\n",
+                r.range(240, 249),
+                r.range(-99, 99)
+            ));
         }
     }
     out
@@ -35,7 +39,10 @@ fn at_limit(r: &mut Rng, i: u64) -> String {
         2 => modules(32 + past),
         3 => name(255 + past, r.below(NAME_LINES.len() as u64) as usize),
         4 => module_number(255 + past),
-        5 => start(2_147_483_647 + past as u64, r.below(START_LINES.len() as u64) as usize),
+        5 => start(
+            2_147_483_647 + past as u64,
+            r.below(START_LINES.len() as u64) as usize,
+        ),
         6 => literal(2_147_483_647 + past as u64, v),
         7 => int(2_147_483_647 + past as i64),
         8 => int(-2_147_483_648 - past as i64),
@@ -109,7 +116,10 @@ pub const NAME_LINES: [&str; 19] = [
 ];
 
 pub fn name(n: usize, line: usize) -> String {
-    format!("(module 0 bound)\n{}\n", NAME_LINES[line].replace('@', &n.to_string()))
+    format!(
+        "(module 0 bound)\n{}\n",
+        NAME_LINES[line].replace('@', &n.to_string())
+    )
 }
 
 pub fn module_number(n: usize) -> String {
@@ -130,7 +140,10 @@ pub const START_LINES: [&str; 9] = [
 ];
 
 pub fn start(n: u64, line: usize) -> String {
-    format!("(module 0 bound)\n{}\n", START_LINES[line].replace('@', &n.to_string()))
+    format!(
+        "(module 0 bound)\n{}\n",
+        START_LINES[line].replace('@', &n.to_string())
+    )
 }
 
 pub fn literal(n: u64, variant: usize) -> String {
@@ -167,7 +180,10 @@ pub fn nodes(n: usize, variant: usize) -> String {
     let head = "(module 0 bound)\n(kind 1 wire)\n(kind 9 inst)\n";
     match variant {
         // Wire 1, and an instance output for each round.
-        0 => format!("{head}(repeat 5 0 {} (wire 1 (f (ix (n 9) (n 5)) 3) 10))\n", n - 1),
+        0 => format!(
+            "{head}(repeat 5 0 {} (wire 1 (f (ix (n 9) (n 5)) 3) 10))\n",
+            n - 1
+        ),
         // Wire 1 and 200 inputs; the rest are instance outputs.
         1 => format!("{head}{}{}", in_kinds(10, 200), many_reads(n - 201)),
         // An instance line heads its output though nothing is connected.
@@ -176,12 +192,16 @@ pub fn nodes(n: usize, variant: usize) -> String {
 }
 
 fn in_kinds(from: usize, count: usize) -> String {
-    (from..from + count).map(|k| format!("(kind {k} in)\n")).collect()
+    (from..from + count)
+        .map(|k| format!("(kind {k} in)\n"))
+        .collect()
 }
 
 fn many_reads(outputs: usize) -> String {
     let ins: String = (10..210).map(|k| format!(" (n {k})")).collect();
-    let outs: String = (0..outputs).map(|k| format!(" (f (ix (n 9) {k}) 3)")).collect();
+    let outs: String = (0..outputs)
+        .map(|k| format!(" (f (ix (n 9) {k}) 3)"))
+        .collect();
     format!("(wire 1 (all{ins}) 10)\n(wire 1 (all{outs}) 20)\n")
 }
 
@@ -206,7 +226,9 @@ pub fn edges(n: usize, variant: usize) -> String {
     // 64 instance outputs read 64 inputs.
     let reads: String = (10..74).map(|k| format!(" (n {k})")).collect();
     out.push_str(&in_kinds(10, 64 + (n - 4096)));
-    out.push_str(&format!("(repeat 5 0 64 (inst 9 (n 5) 1 10 (conn 2 (all{reads}))))\n"));
+    out.push_str(&format!(
+        "(repeat 5 0 64 (inst 9 (n 5) 1 10 (conn 2 (all{reads}))))\n"
+    ));
     for k in 74..74 + (n - 4096) {
         out.push_str(&format!("(inst 9 0 1 20 (conn 2 (n {k})))\n"));
     }
@@ -231,12 +253,18 @@ pub fn sites(n: usize, variant: usize) -> String {
 /// Module 0 has `n` pairs of name and block.
 pub fn pairs(n: usize, variant: usize) -> String {
     let mut out = "(module 0 bound)\n".to_string();
-    let kinds = if variant == 0 { ["reg", "reg"] } else { ["reg", "mem"] };
+    let kinds = if variant == 0 {
+        ["reg", "reg"]
+    } else {
+        ["reg", "mem"]
+    };
     for k in 0..16 {
         out.push_str(&format!("(kind {} {})\n", 10 + k, kinds[k % 2]));
     }
     for block in 0..n.div_ceil(16) {
-        let row: String = (0..16.min(n - 16 * block)).map(|k| format!(" (set {} 5)", 10 + k)).collect();
+        let row: String = (0..16.min(n - 16 * block))
+            .map(|k| format!(" (set {} 5)", 10 + k))
+            .collect();
         out.push_str(&format!("(on {block}{row})\n"));
     }
     out
@@ -250,12 +278,19 @@ pub fn triples(n: usize, variant: usize) -> String {
         return format!("{host}{}", crossbar(1, 32, 32, more));
     }
     let host = "(module 0 bound)\n(inst 8 - 1 5)\n(inst 9 - 2 6)\n";
-    format!("{host}{}{}", crossbar(1, 16, 32, 0), crossbar(2, 32, 16, more))
+    format!(
+        "{host}{}{}",
+        crossbar(1, 16, 32, 0),
+        crossbar(2, 32, 16, more)
+    )
 }
 
 /// A module with outputs that each follow all of its inputs, and `more` outputs that follow one.
 fn crossbar(number: usize, outs: usize, ins: usize, more: usize) -> String {
-    let mut out = format!("(module {number} bound)\n(kind 9 wire)\n{}", in_kinds(10, ins));
+    let mut out = format!(
+        "(module {number} bound)\n(kind 9 wire)\n{}",
+        in_kinds(10, ins)
+    );
     for o in 100..100 + outs + more {
         out.push_str(&format!("(kind {o} out)\n"));
     }
@@ -263,7 +298,9 @@ fn crossbar(number: usize, outs: usize, ins: usize, more: usize) -> String {
     out.push_str(&format!("(wire 9 (all{reads}) 5)\n"));
     for o in 100..100 + outs + more {
         let read = if o < 100 + outs { 9 } else { 10 };
-        out.push_str(&format!("(port out {o} bit {o})\n(drive (lv {o} {o}) (n {read}))\n"));
+        out.push_str(&format!(
+            "(port out {o} bit {o})\n(drive (lv {o} {o}) (n {read}))\n"
+        ));
     }
     out
 }

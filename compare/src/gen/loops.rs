@@ -21,7 +21,10 @@ struct Reach {
     insts_to: usize,
 }
 
-const ALL: Reach = Reach { wires_from: 0, insts_to: usize::MAX };
+const ALL: Reach = Reach {
+    wires_from: 0,
+    insts_to: usize::MAX,
+};
 
 struct Writer<'a> {
     r: Rng,
@@ -51,14 +54,25 @@ fn design(mut r: Rng, starts: Starts) -> String {
     // One summarised output for each module and no arrays: no two nodes share a line.
     let plain = r.chance(65);
     let order = r.below(4);
-    let shapes: Vec<Shape> = (0..count).map(|k| shape(&mut r, k, count, plain, order)).collect();
+    let shapes: Vec<Shape> = (0..count)
+        .map(|k| shape(&mut r, k, count, plain, order))
+        .collect();
     let ordered = r.chance(35);
-    let mut w = Writer { r, starts, shapes: &shapes, ordered };
+    let mut w = Writer {
+        r,
+        starts,
+        shapes: &shapes,
+        ordered,
+    };
     (0..count).map(|k| w.module(k)).collect()
 }
 
 fn shape(r: &mut Rng, me: usize, count: usize, plain: bool, order: u64) -> Shape {
-    let base = if r.chance(50) { 0 } else { 40 * me as u32 % 160 };
+    let base = if r.chance(50) {
+        0
+    } else {
+        40 * me as u32 % 160
+    };
     let outs = if plain { 1 } else { 1 + r.below(3) as u32 };
     let ins = 1 + r.below(3) as u32;
     let wires = r.below(6) as u32;
@@ -74,7 +88,8 @@ fn shape(r: &mut Rng, me: usize, count: usize, plain: bool, order: u64) -> Shape
         s.insts.push((base + 20 + k % 3, index(r), module));
     }
     if !plain && r.chance(50) {
-        s.arrays.push((base + 30, target(r, me, count, order), 1 + r.below(4)));
+        s.arrays
+            .push((base + 30, target(r, me, count, order), 1 + r.below(4)));
     }
     s
 }
@@ -107,7 +122,11 @@ impl Writer<'_> {
 
     fn module(&mut self, me: usize) -> String {
         let s = &self.shapes[me];
-        let bound = if self.r.chance(80) { "bound" } else { "unbound" };
+        let bound = if self.r.chance(80) {
+            "bound"
+        } else {
+            "unbound"
+        };
         let mut out = format!("(module {me} {bound})\n{}(val {VAL} 1)\n", kinds(s));
         let mut items = self.items(s);
         if self.r.chance(60) {
@@ -123,7 +142,10 @@ impl Writer<'_> {
     fn items(&mut self, s: &Shape) -> Vec<String> {
         let mut items = Vec::new();
         for (k, w) in s.wires.iter().enumerate() {
-            let reach = Reach { wires_from: k + 1, ..ALL };
+            let reach = Reach {
+                wires_from: k + 1,
+                ..ALL
+            };
             let line = format!("(wire {w} {} {})", self.reads(s, reach), self.start());
             items.push(self.wrap(line));
         }
@@ -177,13 +199,21 @@ impl Writer<'_> {
 
     fn wire(&mut self, s: &Shape, from: usize) -> String {
         let wires = &s.wires[from.min(s.wires.len())..];
-        let name = if wires.is_empty() { self.r.pick(&s.ins) } else { self.r.pick(wires) };
+        let name = if wires.is_empty() {
+            self.r.pick(&s.ins)
+        } else {
+            self.r.pick(wires)
+        };
         format!("(n {name})")
     }
 
     fn inst_output(&mut self, s: &Shape, reach: Reach) -> String {
         let insts = s.insts.len().min(reach.insts_to);
-        let arrays = if reach.insts_to == usize::MAX { s.arrays.len() } else { 0 };
+        let arrays = if reach.insts_to == usize::MAX {
+            s.arrays.len()
+        } else {
+            0
+        };
         let pick = self.r.below((insts + arrays) as u64) as usize;
         if pick < insts {
             let (name, index, module) = &s.insts[pick];
@@ -226,8 +256,15 @@ impl Writer<'_> {
     }
 
     fn conns(&mut self, s: &Shape, module: usize, place: usize) -> String {
-        let reach = Reach { wires_from: usize::MAX, insts_to: place };
-        let ins = self.shapes.get(module).map(|m| m.ins.clone()).unwrap_or(vec![0]);
+        let reach = Reach {
+            wires_from: usize::MAX,
+            insts_to: place,
+        };
+        let ins = self
+            .shapes
+            .get(module)
+            .map(|m| m.ins.clone())
+            .unwrap_or(vec![0]);
         let mut out = String::new();
         for name in ins {
             if self.r.chance(92) {
@@ -240,14 +277,24 @@ impl Writer<'_> {
     /// Instances indexed by the variable of a repeat, each fed by a neighbour.
     fn array(&mut self, s: &Shape, name: u32, module: usize, rounds: u64) -> String {
         let start = self.start();
-        let ins = self.shapes.get(module).map(|m| m.ins.clone()).unwrap_or_default();
+        let ins = self
+            .shapes
+            .get(module)
+            .map(|m| m.ins.clone())
+            .unwrap_or_default();
         let mut conns = String::new();
         for port in ins {
             let read = if self.r.chance(70) {
                 let at = self.array_index(true, rounds);
                 format!("(f (ix (n {name}) {at}) {})", self.field(module))
             } else {
-                self.reads(s, Reach { wires_from: usize::MAX, insts_to: 0 })
+                self.reads(
+                    s,
+                    Reach {
+                        wires_from: usize::MAX,
+                        insts_to: 0,
+                    },
+                )
             };
             conns.push_str(&format!(" (conn {port} {read})"));
         }

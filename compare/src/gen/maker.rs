@@ -112,19 +112,38 @@ impl<'a> Maker<'a> {
     }
 
     fn port_out(&mut self) -> String {
-        format!("(port out {} {} {})", self.name(Kind::Out), self.type_of(), self.start())
+        format!(
+            "(port out {} {} {})",
+            self.name(Kind::Out),
+            self.type_of(),
+            self.start()
+        )
     }
 
     fn port_in(&mut self) -> String {
-        format!("(port in {} {} {})", self.name(Kind::In), self.type_of(), self.start())
+        format!(
+            "(port in {} {} {})",
+            self.name(Kind::In),
+            self.type_of(),
+            self.start()
+        )
     }
 
     fn wire(&mut self) -> String {
-        format!("(wire {} {} {})", self.name(Kind::Wire), self.read(2), self.start())
+        format!(
+            "(wire {} {} {})",
+            self.name(Kind::Wire),
+            self.read(2),
+            self.start()
+        )
     }
 
     fn const_line(&mut self) -> String {
-        let name = if self.r.chance(70) { self.pool.constant(&mut self.r) } else { self.any() };
+        let name = if self.r.chance(70) {
+            self.pool.constant(&mut self.r)
+        } else {
+            self.any()
+        };
         let line = format!("(const {name} {})", self.constant(2));
         if self.r.chance(60) {
             self.pool.consts.push(name);
@@ -150,7 +169,11 @@ impl<'a> Maker<'a> {
         match self.r.weighted(&[35, 30, 35]) {
             0 => format!("(lv {name} {start})"),
             1 => format!("(lv {name} {start} {})", self.constant(1)),
-            _ => format!("(lv {name} {start} {} {})", self.constant(1), self.constant(1)),
+            _ => format!(
+                "(lv {name} {start} {} {})",
+                self.constant(1),
+                self.constant(1)
+            ),
         }
     }
 
@@ -194,20 +217,31 @@ impl<'a> Maker<'a> {
     }
 
     fn default_line(&mut self) -> String {
-        let kind = if self.r.chance(75) { Kind::Reg } else { self.r.pick(&Kind::ALL) };
+        let kind = if self.r.chance(75) {
+            Kind::Reg
+        } else {
+            self.r.pick(&Kind::ALL)
+        };
         format!("(default {})", self.name(kind))
     }
 
     fn inst(&mut self) -> String {
         let module = self.module_number();
-        let index = if self.r.chance(50) { "-".to_string() } else { self.constant(1) };
+        let index = if self.r.chance(50) {
+            "-".to_string()
+        } else {
+            self.constant(1)
+        };
         let name = self.name(Kind::Inst);
         let start = self.start();
         let own = match index.as_str() {
             "-" => format!("(n {name})"),
             index => format!("(ix (n {name}) {index})"),
         };
-        format!("(inst {name} {index} {module} {start}{})", self.conns(module, &own))
+        format!(
+            "(inst {name} {index} {module} {start}{})",
+            self.conns(module, &own)
+        )
     }
 
     fn module_number(&mut self) -> usize {
@@ -223,7 +257,11 @@ impl<'a> Maker<'a> {
         let (ins, outs) = self.mods.get(module).map(of).unwrap_or_default();
         let mut out = String::new();
         for _ in 0..self.r.below(4) {
-            let port = if ins.is_empty() || self.r.chance(12) { self.any() } else { self.r.pick(&ins) };
+            let port = if ins.is_empty() || self.r.chance(12) {
+                self.any()
+            } else {
+                self.r.pick(&ins)
+            };
             let e = if !outs.is_empty() && self.r.chance(35) {
                 format!("(f {own} {})", self.r.pick(&outs))
             } else {

@@ -13,8 +13,14 @@ pub enum Kind {
 }
 
 impl Kind {
-    pub const ALL: [Kind; 6] =
-        [Kind::In, Kind::Out, Kind::Wire, Kind::Reg, Kind::Mem, Kind::Inst];
+    pub const ALL: [Kind; 6] = [
+        Kind::In,
+        Kind::Out,
+        Kind::Wire,
+        Kind::Reg,
+        Kind::Mem,
+        Kind::Inst,
+    ];
 
     pub fn word(self) -> &'static str {
         match self {
@@ -38,13 +44,20 @@ pub struct Mod {
 
 impl Mod {
     pub fn names(&self, kind: Kind) -> Vec<u32> {
-        self.kinds.iter().filter(|(_, k)| *k == kind).map(|(n, _)| *n).collect()
+        self.kinds
+            .iter()
+            .filter(|(_, k)| *k == kind)
+            .map(|(n, _)| *n)
+            .collect()
     }
 
     /// The module line, then the kind and val lines mixed in any order.
     pub fn header(&self, number: usize, r: &mut Rng) -> String {
         let bound = if self.bound { "bound" } else { "unbound" };
-        let kinds = self.kinds.iter().map(|(n, k)| format!("(kind {n} {})\n", k.word()));
+        let kinds = self
+            .kinds
+            .iter()
+            .map(|(n, k)| format!("(kind {n} {})\n", k.word()));
         let vals = self.vals.iter().map(|(n, v)| format!("(val {n} {v})\n"));
         let mut lines: Vec<String> = kinds.chain(vals).collect();
         r.shuffle(&mut lines);
@@ -66,7 +79,10 @@ const PRIME: u64 = 1009;
 
 impl Starts {
     pub fn fresh(r: &mut Rng) -> Starts {
-        Starts::Fresh { step: 1 + r.below(PRIME - 1), taken: 0 }
+        Starts::Fresh {
+            step: 1 + r.below(PRIME - 1),
+            taken: 0,
+        }
     }
 
     pub fn next(&mut self, r: &mut Rng) -> u64 {

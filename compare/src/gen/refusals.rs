@@ -5,9 +5,14 @@
 //! decides. No checker computes any of these answers. Entries with `ok` are accepted, and their
 //! answer is the one of the Rust.
 
+// Tables, one entry a line.
+#[rustfmt::skip]
 mod limit;
+#[rustfmt::skip]
 mod order;
+#[rustfmt::skip]
 mod part;
+#[rustfmt::skip]
 mod whole;
 
 /// One text; no answer means that it is accepted.
@@ -48,12 +53,20 @@ pub fn all() -> Vec<Entry> {
 
 /// A text with its refusal.
 fn no(out: &mut Vec<Entry>, name: &str, text: impl Into<Vec<u8>>, answer: &'static str) {
-    out.push(Entry { name: name.to_string(), text: text.into(), answer: Some(answer) });
+    out.push(Entry {
+        name: name.to_string(),
+        text: text.into(),
+        answer: Some(answer),
+    });
 }
 
 /// A text that is accepted.
 fn ok(out: &mut Vec<Entry>, name: &str, text: impl Into<Vec<u8>>) {
-    out.push(Entry { name: name.to_string(), text: text.into(), answer: None });
+    out.push(Entry {
+        name: name.to_string(),
+        text: text.into(),
+        answer: None,
+    });
 }
 
 /// One module with this line as its second; the refusal names line 2.

@@ -9,7 +9,9 @@ impl Rng {
         for b in profile.bytes() {
             h = (h ^ u64::from(b)).wrapping_mul(0x0000_0100_0000_01b3);
         }
-        Rng(mix(mix(mix(h) ^ seed) ^ i.wrapping_mul(0xd6e8_feb8_6659_fd93)))
+        Rng(mix(
+            mix(mix(h) ^ seed) ^ i.wrapping_mul(0xd6e8_feb8_6659_fd93)
+        ))
     }
 
     pub fn next(&mut self) -> u64 {

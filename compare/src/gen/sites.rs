@@ -32,9 +32,18 @@ fn module(r: &mut Rng, number: u32) -> String {
     let mut start = r.below(5) * 10;
     let outputs = 1 + r.below(3) as u32;
     for name in 1..=outputs {
-        out.push_str(&format!("(kind {name} {})\n", if r.chance(95) { "out" } else { "wire" }));
+        out.push_str(&format!(
+            "(kind {name} {})\n",
+            if r.chance(95) { "out" } else { "wire" }
+        ));
         let width = some_width(r);
-        let mut o = Output { r, name, width, start: &mut start, items: Vec::new() };
+        let mut o = Output {
+            r,
+            name,
+            width,
+            start: &mut start,
+            items: Vec::new(),
+        };
         o.write();
         items.append(&mut o.items);
     }
@@ -61,7 +70,11 @@ fn some_width(r: &mut Rng) -> i64 {
 
 impl Output<'_> {
     fn next(&mut self) -> u64 {
-        *self.start += if self.r.chance(90) { 1 + self.r.below(9) } else { 0 };
+        *self.start += if self.r.chance(90) {
+            1 + self.r.below(9)
+        } else {
+            0
+        };
         *self.start
     }
 
@@ -85,7 +98,11 @@ impl Output<'_> {
 
     /// A type; the first has the width that the parts are cut from.
     fn type_of(&mut self, first: bool) -> String {
-        let w = if first { self.width } else { self.r.range(0, 9) };
+        let w = if first {
+            self.width
+        } else {
+            self.r.range(0, 9)
+        };
         match self.r.weighted(&[60, 14, 5, 5, 6, 6, 4]) {
             0 => format!("(bits {w})"),
             1 => format!("(signed {w})"),
@@ -100,7 +117,8 @@ impl Output<'_> {
     fn drive(&mut self, index: &str) {
         let (name, start) = (self.name, self.next());
         let right = self.r.below(10);
-        self.items.push(format!("(drive (lv {name} {start}{index}) {right})"));
+        self.items
+            .push(format!("(drive (lv {name} {start}{index}) {right})"));
     }
 
     /// Cuts the width into touching parts and then disturbs some.
@@ -109,7 +127,11 @@ impl Output<'_> {
         let mut parts = Vec::new();
         while low < self.width && parts.len() < 12 {
             let rest = self.width - low;
-            let len = if self.r.chance(20) || parts.len() == 11 { rest } else { self.r.range(1, rest.min(9)) };
+            let len = if self.r.chance(20) || parts.len() == 11 {
+                rest
+            } else {
+                self.r.range(1, rest.min(9))
+            };
             parts.push((low + len - 1, low));
             low += len;
         }
@@ -145,7 +167,11 @@ impl Output<'_> {
 
     fn by_repeat(&mut self) {
         let (name, start) = (self.name, self.next());
-        let rounds = if self.r.chance(80) { self.width.min(40) } else { self.r.range(0, 12) };
+        let rounds = if self.r.chance(80) {
+            self.width.min(40)
+        } else {
+            self.r.range(0, 12)
+        };
         let low = if self.r.chance(85) { 0 } else { 1 };
         let line = match self.r.weighted(&[60, 25, 15]) {
             0 => format!("(repeat {VAR} {low} {rounds} (drive (lv {name} {start} (n {VAR})) 1))"),

@@ -39,7 +39,14 @@ fn design(mut r: Rng, weights: &Weights) -> String {
 
 fn write(r: Rng, starts: Starts, mods: &[Mod], weights: &Weights, most: i64) -> String {
     let vars = vec![20, 21, 22];
-    let mut m = Maker { r, starts, mods, me: 0, pool: Pool::default(), vars };
+    let mut m = Maker {
+        r,
+        starts,
+        mods,
+        me: 0,
+        pool: Pool::default(),
+        vars,
+    };
     let any = any_names(&mut m.r);
     let mut out = String::new();
     for (k, plan) in mods.iter().enumerate() {
@@ -89,7 +96,11 @@ fn plan_module(r: &mut Rng) -> Mod {
         let again = (r.pick(&vals).0, some_value(r));
         vals.push(again);
     }
-    Mod { bound: r.chance(72), kinds, vals }
+    Mod {
+        bound: r.chance(72),
+        kinds,
+        vals,
+    }
 }
 
 fn some_kind(r: &mut Rng) -> Kind {
@@ -109,7 +120,11 @@ fn some_value(r: &mut Rng) -> i64 {
 /// Turns most names into regs and mems.
 fn more_state(r: &mut Rng, m: &mut Mod) {
     for (_, kind) in &mut m.kinds {
-        let keep = if matches!(kind, Kind::Out | Kind::Wire) { 15 } else { 50 };
+        let keep = if matches!(kind, Kind::Out | Kind::Wire) {
+            15
+        } else {
+            50
+        };
         if !r.chance(keep) {
             *kind = if r.chance(60) { Kind::Reg } else { Kind::Mem };
         }

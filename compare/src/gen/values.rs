@@ -6,11 +6,37 @@ use super::rng::Rng;
 
 const SMALL: [u64; 12] = [0, 1, 2, 3, 4, 5, 7, 8, 9, 16, 31, 33];
 const WIDE: [u64; 20] = [
-    0, 1, 2, 3, 255, 256, 1023, 1024, 1025, 4095, 4096, 4097, 46_340, 46_341, 65_535, 65_536,
-    1_073_741_823, 1_073_741_824, 2_147_483_646, 2_147_483_647,
+    0,
+    1,
+    2,
+    3,
+    255,
+    256,
+    1023,
+    1024,
+    1025,
+    4095,
+    4096,
+    4097,
+    46_340,
+    46_341,
+    65_535,
+    65_536,
+    1_073_741_823,
+    1_073_741_824,
+    2_147_483_646,
+    2_147_483_647,
 ];
-const ENDS: [i64; 8] =
-    [-2_147_483_648, -2_147_483_647, -1, 1, 46_341, -46_341, 2_147_483_646, 2_147_483_647];
+const ENDS: [i64; 8] = [
+    -2_147_483_648,
+    -2_147_483_647,
+    -1,
+    1,
+    46_341,
+    -46_341,
+    2_147_483_646,
+    2_147_483_647,
+];
 /// Names with a value, and one without.
 const NAMES: [u32; 6] = [30, 31, 32, 33, 34, 35];
 const MISSING: u32 = 39;
@@ -123,12 +149,21 @@ fn deep(r: &mut Rng, pool: &Pool) -> String {
 fn observer(r: &mut Rng, e: &str, child: usize, start: u64) -> String {
     match r.weighted(&[60, 10, 8, 8, 8, 6]) {
         0 => format!("(inst 9 {e} {child} {start} (conn 2 (f (ix (n 9) {e}) 3)))\n"),
-        1 => format!("(port out 4 (bits {e}) {start})\n(drive (lv 4 {} 3 0) 0)\n", start + 1),
-        2 => format!("(port out 5 (bits 4096) {start})\n(drive (lv 5 {} {e} 0) 0)\n", start + 1),
+        1 => format!(
+            "(port out 4 (bits {e}) {start})\n(drive (lv 4 {} 3 0) 0)\n",
+            start + 1
+        ),
+        2 => format!(
+            "(port out 5 (bits 4096) {start})\n(drive (lv 5 {} {e} 0) 0)\n",
+            start + 1
+        ),
         3 => format!(
             "(repeat 36 0 {e} (inst 9 (n 36) {child} {start} (conn 2 (f (ix (n 9) (n 36)) 3))))\n"
         ),
         4 => format!("(constif {e} (then (port out 40 bit {start})) (else (reg 41 {start})))\n"),
-        _ => format!("(port out 4 (bits 8) {start})\n(drive (lv 4 {} {e}) 0)\n", start + 1),
+        _ => format!(
+            "(port out 4 (bits 8) {start})\n(drive (lv 4 {} {e}) 0)\n",
+            start + 1
+        ),
     }
 }

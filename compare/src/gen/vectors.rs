@@ -33,7 +33,10 @@ fn stated_cases() -> Result<Vec<Case>, String> {
     let stated = stated()?;
     let wrong: Vec<String> = stated.iter().filter_map(disagreement).collect();
     if !wrong.is_empty() {
-        return Err(format!("the Rust disagrees with stated answers\n{}", wrong.join("\n")));
+        return Err(format!(
+            "the Rust disagrees with stated answers\n{}",
+            wrong.join("\n")
+        ));
     }
     Ok(stated.into_iter().map(|s| s.case).collect())
 }
@@ -44,7 +47,11 @@ fn disagreement(s: &Stated) -> Option<String> {
         Ok(rust) => rust,
         Err(why) => return Some(format!("{name}: {why}")),
     };
-    let same = if s.hand { agree_but_for_ties(answer, &rust) } else { *answer == rust };
+    let same = if s.hand {
+        agree_but_for_ties(answer, &rust)
+    } else {
+        *answer == rust
+    };
     (!same).then(|| format!("{name}\nstated:\n{}Rust:\n{}", show(answer), show(&rust)))
 }
 
@@ -55,7 +62,10 @@ fn show(bytes: &[u8]) -> String {
 /// The report lines of the Rust, each with its line feed.
 pub fn rust_answer(text: &[u8]) -> Result<Vec<u8>, String> {
     let lines = oracle::check(text)?;
-    Ok(lines.iter().flat_map(|l| format!("{l}\n").into_bytes()).collect())
+    Ok(lines
+        .iter()
+        .flat_map(|l| format!("{l}\n").into_bytes())
+        .collect())
 }
 
 /// Equal as sets, loops by module only: loop or no loop.
@@ -98,7 +108,11 @@ fn opened(header: &str) -> Stated {
         Some(name) => (name, true),
         None => (header, false),
     };
-    let case = Case { name: name.to_string(), text: Vec::new(), answer: Vec::new() };
+    let case = Case {
+        name: name.to_string(),
+        text: Vec::new(),
+        answer: Vec::new(),
+    };
     Stated { case, hand }
 }
 
@@ -147,7 +161,11 @@ fn sample(profile: &str, i: u64, taken: usize) -> Result<Option<Case>, String> {
     }
     let name = format!("{profile}-{SEED}-{i}");
     if answer != model.text {
-        return Err(format!("{name}\nmodel:\n{}Rust:\n{}", show(&model.text), show(&answer)));
+        return Err(format!(
+            "{name}\nmodel:\n{}Rust:\n{}",
+            show(&model.text),
+            show(&answer)
+        ));
     }
     Ok(Some(Case { name, text, answer }))
 }
@@ -162,5 +180,9 @@ fn refusal_case(e: refusals::Entry) -> Result<Case, String> {
         Some(stated) => format!("{stated}\n").into_bytes(),
         None => rust_answer(&e.text).map_err(|why| format!("{}: {why}", e.name))?,
     };
-    Ok(Case { name: e.name, text: e.text, answer })
+    Ok(Case {
+        name: e.name,
+        text: e.text,
+        answer,
+    })
 }

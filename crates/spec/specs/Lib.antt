@@ -17,8 +17,10 @@ pub mod Check
 pub mod Graph
 pub mod Net
 pub mod Walks
+pub mod Cases
 pub mod Collection
 pub mod Loops
 pub mod Opened
 pub mod Refusals
 pub mod Rest
+pub mod Summaries

@@ -21,10 +21,31 @@ pub fn nodes_and_edges(out: &mut Vec<Entry>) {
     ok(out, "20-nodes-512-in-two-modules", format!("{first}(module 1 bound)\n{again}"));
     let twice = "(repeat 5 0 511 (wire 1 (f (ix (n 9) (n 5)) 3) 10))\n";
     ok(out, "20-nodes-512-met-twice", format!("{first}{twice}"));
+    nodes_that_are_none(out);
     // "different edges": each of the 4,096 once more.
     let edges = limits::edges(4096, 0);
     let lines = edges.lines().filter(|l| l.starts_with("(repeat")).collect::<String>();
     ok(out, "20-edges-4096-met-twice", format!("{edges}{lines}\n"));
+}
+
+/// What heads or reads a node, and what does not.
+fn nodes_that_are_none(out: &mut Vec<Entry>) {
+    let row = |rounds: usize| format!("(module 0 bound)\n(repeat 5 0 {rounds} (inst 9 (n 5) 1 10))\n");
+    let follows = "(module 1 bound)\n(kind 2 in)\n(kind 3 out)\n(port out 3 bit 1)\n(drive (lv 3 2) (n 2))\n";
+    // "`wire` and `inst` lines head nodes whatever the kind": name 9 has none here.
+    ok(out, "20-nodes-512-headed-without-kind", format!("{}{follows}", row(512)));
+    no(out, "20-nodes-513-headed-without-kind", format!("{}{follows}", row(513)), FULL);
+    // "An output that reaches no input is not in the summary and heads nothing."
+    let idle = "(module 1 bound)\n(kind 3 out)\n(port out 3 bit 1)\n(drive (lv 3 2) 0)\n";
+    ok(out, "20-not-nodes-of-outputs-that-reach-no-input", format!("{}{idle}", row(513)));
+    // "Where a summary's search begins is no node by itself": output 8 of a module of 512 nodes.
+    let full = limits::nodes(512, 0) + "(port out 8 bit 30)\n(module 1 bound)\n(inst 9 - 0 5)\n";
+    ok(out, "20-not-a-node-where-the-search-begins", full);
+    // Reads of a reg, of a field of a signal and of an instance without index value are none.
+    let kinds = "(kind 1 wire)\n(kind 2 reg)\n(kind 4 wire)\n";
+    let text = limits::nodes(512, 0).replacen("(kind 1 wire)\n", kinds, 1);
+    let more = "(wire 1 (all (n 2) (f (n 4) 1) (f (ix (n 9) (n 6)) 1)) 40)\n";
+    ok(out, "20-not-nodes-of-reads-that-are-none", text + more);
 }
 
 /// "1,024 sites, 512 pairs of name and block". "Sites and pairs count over the whole module,

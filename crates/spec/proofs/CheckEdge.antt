@@ -1,0 +1,310 @@
+-- The graph that the check searches is the relation Edge: what a module's heads read, with plain summaries, are its edges, and so its
+-- search reports nothing exactly where no edges lead back, and reports edge loops.
+-- Assumes nothing.
+use mathlib.Core.Path.{_≡_, refl, sym, _∙_, ap, subst, subst⁻¹, subst₂}
+use mathlib.Core.Bool.{true≢false}
+use mathlib.Core.Logic.{_⊎_, inl, inr, ⊎-elim, _↔_}
+use mathlib.Core.Option.{Option, some, none}
+use mathlib.Core.List.{List, [], _∷_, List·Memᴰ·head, List·Memᴰ·not-nil, List·Memᴰ·eq-of-singleton}
+use Prim.Native.Nat.{ℕ, zero, suc}
+use lib.ListN.{length, getElem?}
+use Rattle.spec.specs.Syntax.{Kind, in-kind, out-kind, wire-kind, reg-kind, mem-kind, inst-kind, Expr, LValue, Inst, Item, port, wire, reg, mem, const, drive, on, inst, repeat, const-if, Header, Module, Design}
+use Rattle.spec.specs.Value.{Names}
+use Rattle.spec.specs.Collect.{Collected}
+use Rattle.spec.specs.Site.{kind-of, Output, driving}
+use Rattle.spec.specs.Edge.{Node, signal, inst-out, Reads, Head, Heads, Summary, drive-heads, output-heads, inst-edges, line-heads, inst-of, index-of, place-value, all-reads}
+use Rattle.spec.specs.Summary.{is-input, onward, Kept, module-heads}
+use Rattle.spec.specs.Walk.{next-nodes, find-cycles}
+use Rattle.spec.specs.Graph.{_∈_, Chain, last, ClosedWalk}
+use Rattle.spec.specs.Walks.{Reached}
+use Rattle.spec.specs.Opened.{lines-of, header-of, Instance, instances-from, instances, instance-index, own-heads, lines-own-heads, reads-to, top-outputs-of, Premises}
+use Rattle.spec.specs.Summaries.{NoModuleInsideItself, summary-for, heads-by, own-graph, summary-to, plain-summary, plain-heads, PlainTable}
+use Rattle.spec.proofs.Numbers.{if-case}
+use Rattle.spec.proofs.Nodes.{read-by, reads-all, next-read, read-next, read-reads-of}
+use Rattle.spec.proofs.Loops.{loops}
+use Rattle.spec.proofs.HeadLaws.{headed-by, by-headed, own-headed, headed-own, line-or-inst, inst-no-own, conn-read, read-conn, output-head, head-output, instance-line, line-instance}
+use Rattle.spec.proofs.Summaries.{summaries, header-at, outputs-at, input-is, signal-same, signal-not-out, onward-reads, to-missing, to-own, of-summary}
+use Rattle.spec.proofs.ModuleEdge.{Edge, own, through, Walks, stop, step, EdgeChain, EdgeLoop}
+
+-- what an instance line heads
+inst-heads : (s : ℕ → Summary) (hs : List Header) (names : Names) (i : Inst)
+    → line-heads hs names (summary-for s (inst-of (inst i))) (inst i) ≡ output-heads hs names i (index-of (place-value names (i .place))) (s (i .«module»)) (s (i .«module»))
+unfolding line-heads inst-edges inst-of summary-for
+inst-heads s hs names i = refl
+
+-- a read through an instance: a pair of its module's summary, and a connection to the input of that pair
+record Through (s : ℕ → Summary) (d : Design) (m : ℕ) (n x : Node) : Type 0 where
+  instance : Instance
+  out : ℕ
+  input : ℕ
+  listed : instance ∈ instances d m
+  pair : (out, input) ∈ s (instance .inst .«module»)
+  node : inst-out (instance .inst .name) (instance-index instance) out ≡ n
+  read : x ∈ reads-to (header-of d m) (instance .names) input (instance .inst .conns)
+
+module _ (s : ℕ → Summary) (d : Design) (missing : (m : ℕ) → getElem? d m ≡ none → s m ≡ []) (m : ℕ) where
+  -- the pair and the connection behind a head of an instance line
+  abbrev Behind : Inst → Names → Node → Node → Type 0
+  Behind i names n x =
+      (o : ℕ) × (p : ℕ) × ((o, p) ∈ s (i .«module»)) × (inst-out (i .name) (index-of (place-value names (i .place))) o ≡ n) × (x ∈ reads-to (header-of d m) names p (i .conns))
+
+  behind : (n x : Node) (names : Names) (i : Inst) (h : Head) → h .node ≡ n → x ∈ h .reads
+      → h ∈ line-heads (header-of d m) names (summary-for s (inst-of (inst i))) (inst i) .heads → Behind i names n x
+  behind n x names i h f g t =
+      let t′ = subst (λ (z : Heads). h ∈ z .heads) (inst-heads s (header-of d m) names i) t in
+      let r = output-head (header-of d m) names i (index-of (place-value names (i .place))) (s (i .«module»)) (s (i .«module»)) h t′ in
+      let q = conn-read (header-of d m) names (s (i .«module»)) (r .0) (i .conns) x (subst (λ z. x ∈ z) (r .1 .1) g) in
+      (r .0, q .0, q .1, sym (r .1 .0) ∙ f, q .2)
+
+  behind-through : (n x : Node) (j : Instance) → j ∈ instances d m → Behind (j .inst) (j .names) n x → Through s d m n x
+  behind-through n x j l (o, p, a, b, c) = record { instance = j; out = o; input = p; listed = l; pair = a; node = b; read = c }
+
+  inst-read : (n x : Node) (c : Collected) (i : Inst) → c ∈ lines-of d m → c .item ≡ inst i → Behind i (c .names) n x → Through s d m n x
+  unfolding instances
+  inst-read n x c i l e b = go (getElem? d (i .«module»)) refl
+    where
+      go : (o : Option Module) → getElem? d (i .«module») ≡ o → Through s d m n x
+      go none f = absurd (List·Memᴰ·not-nil (subst (λ z. (b .0, b .1) ∈ z) (missing (i .«module») f) (b .2)))
+      go (some k) f =
+          let r = line-instance d 0 (lines-of d m) c i k l e f in
+          behind-through n x (r .0) (r .1) (subst₂ (λ a b. Behind a b n x) (sym (r .2)) (sym (r .3)) b)
+
+  -- what the own graph reads: what own heads read, or what is read through an instance
+  graph-reads : (n x : Node) → x ∈ all-reads (own-graph s d m) n → (x ∈ all-reads (own-heads d m) n) ⊎ Through s d m n x
+  unfolding own-graph own-heads
+  graph-reads n x l =
+      let r = read-by (heads-by s (header-of d m) (lines-of d m)) n l in
+      let c = headed-by s (header-of d m) (lines-of d m) (r .0) (r .1) in
+      go (r .0) (c .0) (r .2) (r .3) (c .1) (c .2) (line-or-inst (header-of d m) (c .0 .names) (c .0 .item))
+    where
+      go : (h : Head) (c : Collected) → h .node ≡ n → x ∈ h .reads → c ∈ lines-of d m → h ∈ line-heads (header-of d m) (c .names) (summary-for s (inst-of (c .item))) (c .item) .heads
+          → ((t : Summary) → line-heads (header-of d m) (c .names) t (c .item) ≡ line-heads (header-of d m) (c .names) [] (c .item)) ⊎ ((i : Inst) × (c .item ≡ inst i))
+          → (x ∈ all-reads (lines-own-heads (header-of d m) (lines-of d m)) n) ⊎ Through s d m n x
+      go h c f g j t (inl same) =
+          inl (reads-all (lines-own-heads (header-of d m) (lines-of d m)) n (headed-own (header-of d m) (lines-of d m) c h j (subst (λ (z : Heads). h ∈ z .heads) (same (summary-for s (inst-of (c .item)))) t)) f g)
+      go h c f g j t (inr (i, e)) =
+          inr (inst-read n x c i j e (behind n x (c .names) i h f g (subst (λ z. h ∈ line-heads (header-of d m) (c .names) (summary-for s (inst-of z)) z .heads) e t)))
+
+  own-read : (n x : Node) → x ∈ all-reads (own-heads d m) n → x ∈ all-reads (own-graph s d m) n
+  unfolding own-graph own-heads
+  own-read n x l =
+      let r = read-by (lines-own-heads (header-of d m) (lines-of d m)) n l in
+      let c = own-headed (header-of d m) (lines-of d m) (r .0) (r .1) in
+      reads-all (heads-by s (header-of d m) (lines-of d m)) n
+      (by-headed s (header-of d m) (lines-of d m) (c .0) (r .0) (c .1) (go (r .0) (c .0) (c .2) (line-or-inst (header-of d m) (c .0 .names) (c .0 .item)))) (r .2) (r .3)
+    where
+      go : (h : Head) (c : Collected) → h ∈ line-heads (header-of d m) (c .names) [] (c .item) .heads
+          → ((t : Summary) → line-heads (header-of d m) (c .names) t (c .item) ≡ line-heads (header-of d m) (c .names) [] (c .item)) ⊎ ((i : Inst) × (c .item ≡ inst i))
+          → h ∈ line-heads (header-of d m) (c .names) (summary-for s (inst-of (c .item))) (c .item) .heads
+      go h c t (inl same) = subst (λ (z : Heads). h ∈ z .heads) (sym (same (summary-for s (inst-of (c .item))))) t
+      go h c t (inr (i, e)) =
+          absurd (List·Memᴰ·not-nil (subst (λ z. h ∈ z) (inst-no-own (header-of d m) (c .names) i) (subst (λ z. h ∈ line-heads (header-of d m) (c .names) [] z .heads) e t)))
+
+  through-read : (n x : Node) → Through s d m n x → x ∈ all-reads (own-graph s d m) n
+  unfolding own-graph instances
+  through-read n x t =
+      let j = t .instance in
+      let l = instance-line d 0 (lines-of d m) j (t .listed) in
+      let r = head-output (header-of d m) (j .names) (j .inst) (instance-index j) (s (j .inst .«module»)) (s (j .inst .«module»)) (t .out) (t .input) (t .pair) in
+      let h = subst (λ (z : Heads). r .0 ∈ z .heads) (sym (inst-heads s (header-of d m) (j .names) (j .inst))) (r .1) in
+      reads-all (heads-by s (header-of d m) (lines-of d m)) n
+      (by-headed s (header-of d m) (lines-of d m) (l .0) (r .0) (l .1)
+      (subst₂ (λ names z. r .0 ∈ line-heads (header-of d m) names (summary-for s (inst-of z)) z .heads) (sym (l .3)) (sym (l .2)) h))
+      (r .2 .0 ∙ t .node)
+      (subst (λ z. x ∈ z) (sym (r .2 .1)) (read-conn (header-of d m) (j .names) (s (j .inst .«module»)) (t .out) (t .input) (j .inst .conns) x (t .pair) (t .read)))
+
+-- Reads are edges, whatever the depth of the summaries: needs no premise.
+module _ (d : Design) where
+  -- each pair of s is an output and an input of its module, and edges lead from the one to the other
+  abbrev Sound : (ℕ → Summary) → Type 0
+  Sound s =
+      (m o p : ℕ) → (o, p) ∈ s m
+      → ((q : Output) × (q ∈ top-outputs-of d m) × (q .name ≡ o)) × (kind-of (header-of d m) p ≡ some in-kind) × Walks d m (signal o) (signal p)
+
+  through-edge : (s : ℕ → Summary) → Sound s → (m : ℕ) (n x : Node) → Through s d m n x → Edge d m n x
+  through-edge s sound m n x t =
+      let j = t .instance in
+      let r = sound (j .inst .«module») (t .out) (t .input) (t .pair) in
+      let q = r .0 .0 in
+      let w = subst (λ z. Walks d (j .inst .«module») (signal z) (signal (t .input))) (sym (r .0 .2)) (r .2) in
+      let e = through {m = m} {y = x} j q (t .input) (t .listed) (r .0 .1) (r .1) w (t .read) in
+      subst (λ z. Edge d m z x) (ap (λ z. inst-out (j .inst .name) (instance-index j) z) (r .0 .2) ∙ t .node) e
+
+  graph-edge : (s : ℕ → Summary) → ((m : ℕ) → getElem? d m ≡ none → s m ≡ []) → Sound s → (m : ℕ) (n x : Node) → x ∈ all-reads (own-graph s d m) n → Edge d m n x
+  graph-edge s missing sound m n x l = ⊎-elim (λ i. own i) (λ t. through-edge s sound m n x t) (graph-reads s d missing m n x l)
+
+  chain-walks : (m : ℕ) (next : Node → List Node) → ((a b : Node) → b ∈ next a → Edge d m a b) → (a : Node) (l : List Node) → Chain next a l → Walks d m a (last a l)
+  chain-walks m next f a [] c = stop
+  chain-walks m next f a (b ∷ l) c = step (f a b (c .0)) (chain-walks m next f b l (c .1))
+
+  reached-walks : (m : ℕ) (next : Node → List Node) → ((a b : Node) → b ∈ next a → Edge d m a b) → (a z : Node) → Reached next (a ∷ []) z → Walks d m a z
+  reached-walks m next f a z (r, l, i, c, e) = subst₂ (λ a z. Walks d m a z) (List·Memᴰ·eq-of-singleton i) e (chain-walks m next f r l c)
+
+  to-sound : (f : ℕ) → Sound (summary-to f d)
+  unfolding summary-to
+  to-sound zero m o p i = absurd (List·Memᴰ·not-nil i)
+  to-sound (suc f) m o p i = go (to-sound f) (getElem? d m) refl
+    where
+      go : Sound (summary-to f d) → (x : Option Module) → getElem? d m ≡ x
+          → ((q : Output) × (q ∈ top-outputs-of d m) × (q .name ≡ o)) × (kind-of (header-of d m) p ≡ some in-kind) × Walks d m (signal o) (signal p)
+      go sound none e = absurd (List·Memᴰ·not-nil (subst (λ z. (o, p) ∈ z) (to-missing (suc f) d m e) i))
+      go sound (some k) e =
+          let g = own-graph (summary-to f d) d m in
+          let r = of-summary k g o p (subst (λ z. (o, p) ∈ z) (to-own f d m k e) i) in (
+            (r .0 .0, subst (λ z. r .0 .0 ∈ z) (sym (outputs-at d m k e)) (r .0 .1), r .0 .2),
+            subst (λ z. kind-of z p ≡ some in-kind) (sym (header-at d m k e)) (r .1),
+            reached-walks m (onward (k .header) g) (λ a b h. graph-edge (summary-to f d) (to-missing f d) sound m a b (onward-reads (k .header) g a b h)) (signal o) (signal p) (r .2),
+          )
+
+  plain-edge : (m : ℕ) (n x : Node) → x ∈ all-reads (plain-heads d m) n → Edge d m n x
+  unfolding plain-heads plain-summary
+  plain-edge m n x l = graph-edge (plain-summary d) (to-missing (suc (length d)) d) (to-sound (suc (length d))) m n x l
+
+-- Edges are reads: needs that no module contains itself, and that no wire line heads an in-kind name.
+abbrev NoInputWired : Design → Type 0
+NoInputWired d = (m : ℕ) (c : Collected) → c ∈ lines-of d m → (n start : ℕ) (e : Expr) → c .item ≡ wire n e start → ¬ (kind-of (header-of d m) n ≡ some in-kind)
+
+-- what a line heads by itself is no in-kind name
+drive-not-input : (o : Option Kind) (lv : LValue) (r : Reads) (h : Head) → h ∈ drive-heads (driving o) lv r .heads → ¬ (o ≡ some in-kind) × (h .node ≡ signal (lv .name))
+drive-not-input none lv r h i = absurd (List·Memᴰ·not-nil i)
+drive-not-input (some in-kind) lv r h i = absurd (List·Memᴰ·not-nil i)
+drive-not-input (some out-kind) lv r h i = (λ e. true≢false (ap is-input (sym e)), ap (λ z. z .node) (List·Memᴰ·eq-of-singleton i))
+drive-not-input (some wire-kind) lv r h i = (λ e. true≢false (ap is-input (sym e)), ap (λ z. z .node) (List·Memᴰ·eq-of-singleton i))
+drive-not-input (some reg-kind) lv r h i = absurd (List·Memᴰ·not-nil i)
+drive-not-input (some mem-kind) lv r h i = absurd (List·Memᴰ·not-nil i)
+drive-not-input (some inst-kind) lv r h i = absurd (List·Memᴰ·not-nil i)
+
+line-not-input : (hs : List Header) (names : Names) (item : Item) (h : Head) → ((n start : ℕ) (e : Expr) → item ≡ wire n e start → ¬ (kind-of hs n ≡ some in-kind))
+    → h ∈ line-heads hs names [] item .heads → (n : ℕ) → h .node ≡ signal n → ¬ (kind-of hs n ≡ some in-kind)
+unfolding line-heads inst-edges output-heads
+line-not-input hs names (port d n w start) h f i = absurd (List·Memᴰ·not-nil i)
+line-not-input hs names (wire n x start) h f i = λ k e b. f n start x refl (ap (kind-of hs) (signal-same n k (ap (λ z. z .node) (sym (List·Memᴰ·eq-of-singleton i)) ∙ e)) ∙ b)
+line-not-input hs names (reg n start) h f i = absurd (List·Memᴰ·not-nil i)
+line-not-input hs names (mem n start) h f i = absurd (List·Memᴰ·not-nil i)
+line-not-input hs names (const n x) h f i = absurd (List·Memᴰ·not-nil i)
+line-not-input hs names (drive lv x) h f i =
+    λ k e b. let r = drive-not-input (kind-of hs (lv .name)) lv _ h i in r .0 (ap (kind-of hs) (signal-same (lv .name) k (sym (r .1) ∙ e)) ∙ b)
+line-not-input hs names (on start ss) h f i = absurd (List·Memᴰ·not-nil i)
+line-not-input hs names (inst j) h f i = absurd (List·Memᴰ·not-nil i)
+line-not-input hs names (repeat n l u is) h f i = absurd (List·Memᴰ·not-nil i)
+line-not-input hs names (const-if c is js) h f i = absurd (List·Memᴰ·not-nil i)
+
+module _ (d : Design) (apart : NoModuleInsideItself d) (wires : NoInputWired d) where
+  plain-missing : (m : ℕ) → getElem? d m ≡ none → plain-summary d m ≡ []
+  plain-missing = summaries d apart .missing
+
+  -- an in-kind name reads nothing in its module
+  input-no-reads : (m n : ℕ) (x : Node) → x ∈ all-reads (plain-heads d m) (signal n) → ¬ (kind-of (header-of d m) n ≡ some in-kind)
+  unfolding plain-heads own-heads
+  input-no-reads m n x i = go (graph-reads (plain-summary d) d plain-missing m (signal n) x i)
+    where
+      go : (x ∈ all-reads (lines-own-heads (header-of d m) (lines-of d m)) (signal n)) ⊎ Through (plain-summary d) d m (signal n) x → ¬ (kind-of (header-of d m) n ≡ some in-kind)
+      go (inl j) =
+          let r = read-by (lines-own-heads (header-of d m) (lines-of d m)) (signal n) j in
+          let c = own-headed (header-of d m) (lines-of d m) (r .0) (r .1) in
+          line-not-input (header-of d m) (c .0 .names) (c .0 .item) (r .0) (wires m (c .0) (c .1)) (c .2) n (r .2)
+      go (inr t) = absurd (signal-not-out n _ _ _ (sym (t .node)))
+
+  -- so a walk may as well stop there
+  read-onward : (m : ℕ) (n x : Node) → x ∈ all-reads (plain-heads d m) n → x ∈ onward (header-of d m) (plain-heads d m) n
+  unfolding onward
+  read-onward m (signal n) x i =
+      if-case (λ z. x ∈ z) (is-input (kind-of (header-of d m) n)) _ _ (λ e. absurd (input-no-reads m n x i (input-is (kind-of (header-of d m) n) e))) (λ e. read-reads-of (plain-heads d m) (signal n) i)
+  read-onward m (inst-out j y o) x i = read-reads-of (plain-heads d m) (inst-out j y o) i
+
+  abbrev Onward : ℕ → Node → Node → Type 0
+  Onward m a z = (l : List Node) × Chain (onward (header-of d m) (plain-heads d m)) a l × (last a l ≡ z)
+
+  onward-reached : (m : ℕ) (a z : Node) → Onward m a z → Reached (onward (header-of d m) (plain-heads d m)) (a ∷ []) z
+  onward-reached m a z (l, c, e) = (a, l, List·Memᴰ·head refl, c, e)
+
+  through-reads : (m : ℕ) (y : Node) (i : Instance) (o : Output) (p : ℕ) → i ∈ instances d m → o ∈ top-outputs-of d (i .inst .«module») → kind-of (header-of d (i .inst .«module»)) p ≡ some in-kind
+      → Onward (i .inst .«module») (signal (o .name)) (signal p) → y ∈ reads-to (header-of d m) (i .names) p (i .inst .conns)
+      → y ∈ all-reads (plain-heads d m) (inst-out (i .inst .name) (instance-index i) (o .name))
+  unfolding plain-heads
+  through-reads m y i o p l t k w r =
+      through-read (plain-summary d) d plain-missing m (inst-out (i .inst .name) (instance-index i) (o .name)) y (record {
+        instance = i;
+        out = o .name;
+        input = p;
+        listed = l;
+        pair = summaries d apart .reachability (i .inst .«module») (o .name) p .1 ((o, t, refl), k, onward-reached (i .inst .«module») (signal (o .name)) (signal p) w);
+        node = refl;
+        read = r;
+      })
+
+  own-reads : (m : ℕ) (n x : Node) → x ∈ all-reads (own-heads d m) n → x ∈ all-reads (plain-heads d m) n
+  unfolding plain-heads
+  own-reads m n x i = own-read (plain-summary d) d plain-missing m n x i
+
+  edge-read : {m : ℕ} {n x : Node} → Edge d m n x → x ∈ all-reads (plain-heads d m) n
+  edge-read {m} {n} {x} e = elim e as (λ m n x e′. x ∈ all-reads (plain-heads d m) n) (λ m a z w. Onward m a z) [
+    | own {m = m} {n = n} {x = x} i ↦ own-reads m n x i
+    | through {m = m} {y = y} i o p l t k (w → onward-w) r ↦ through-reads m y i o p l t k onward-w r
+    | stop ↦ ([], tt, refl)
+    | step {m = m} {a = a} {b = b} (e → read-e) (w → onward-w) ↦ (b ∷ onward-w .0, (read-onward m a b read-e, onward-w .1), onward-w .2)
+  ]
+
+  plain-edges : (m : ℕ) (n x : Node) → x ∈ next-nodes (plain-heads d m) n ↔ Edge d m n x
+  plain-edges m n x = (λ i. plain-edge d m n x (next-read (plain-heads d m) n i), λ e. read-next (plain-heads d m) n (edge-read e))
+
+-- A search whose next nodes are the edges of a module.
+module _ (d : Design) (m : ℕ) (hs : List Head) (edges : (n x : Node) → x ∈ next-nodes hs n ↔ Edge d m n x) where
+  chain-edges : (n : Node) (l : List Node) → Chain (next-nodes hs) n l → EdgeChain d m n l
+  chain-edges n [] c = tt
+  chain-edges n (x ∷ l) c = (edges n x .0 (c .0), chain-edges x l (c .1))
+
+  edges-chain : (n : Node) (l : List Node) → EdgeChain d m n l → Chain (next-nodes hs) n l
+  edges-chain n [] c = tt
+  edges-chain n (x ∷ l) c = (edges n x .1 (c .0), edges-chain x l (c .1))
+
+  walk-loop : (w : List Node) → ClosedWalk (next-nodes hs) w → EdgeLoop d m w
+  walk-loop [] c = c
+  walk-loop (n ∷ []) c = c
+  walk-loop (n ∷ x ∷ l) c = (chain-edges n (x ∷ l) (c .0), c .1)
+
+  loop-walk : (w : List Node) → EdgeLoop d m w → ClosedWalk (next-nodes hs) w
+  loop-walk [] c = c
+  loop-walk (n ∷ []) c = c
+  loop-walk (n ∷ x ∷ l) c = (edges-chain n (x ∷ l) (c .0), c .1)
+
+  cycles-none : find-cycles hs ≡ [] ↔ ((v : List Node) → ¬ EdgeLoop d m v)
+  cycles-none = (λ e v l. loops hs .none .0 e v (loop-walk v l), λ h. loops hs .none .1 (λ w c. h w (walk-loop w c)))
+
+  cycles-loop : (w : List Node) → w ∈ find-cycles hs → EdgeLoop d m w
+  cycles-loop w i = walk-loop w (loops hs .walks w i .0)
+
+-- A module past the end has no edges.
+own-heads-missing : (d : Design) (m : ℕ) → getElem? d m ≡ none → own-heads d m ≡ []
+unfolding own-heads lines-of lines-own-heads
+own-heads-missing d m e = rw (e, lines-of)
+
+instances-missing : (d : Design) (m : ℕ) → getElem? d m ≡ none → instances d m ≡ []
+unfolding instances lines-of instances-from
+instances-missing d m e = rw (e, lines-of)
+
+pub no-edge-missing : (d : Design) (m : ℕ) → getElem? d m ≡ none → (n x : Node) → ¬ Edge d m n x
+unfolding all-reads
+no-edge-missing d m f n x (own i) = List·Memᴰ·not-nil (subst (λ z. x ∈ all-reads z n) (own-heads-missing d m f) i)
+no-edge-missing d m f n x (through j o p i t k w r) = List·Memᴰ·not-nil (subst (λ z. j ∈ z) (instances-missing d m f) i)
+
+pub no-loop-missing : (d : Design) (m : ℕ) → getElem? d m ≡ none → (v : List Node) → ¬ EdgeLoop d m v
+no-loop-missing d m f [] l = l
+no-loop-missing d m f (n ∷ []) l = l
+no-loop-missing d m f (n ∷ x ∷ v) l = no-edge-missing d m f n x (l .0 .0)
+
+-- The theorems, of the heads that the check of module m searches, whatever was summarised before. Of the premises they need
+-- `no-module-inside-itself` and, of `wires`, that no wire line heads an in-kind name.
+module _ (d : Design) (premises : Premises d) (m : ℕ) (k : Module) (at : getElem? d m ≡ some k) (kept : Kept) (plain : PlainTable d kept) where
+  pub check-edge : (n x : Node) → x ∈ next-nodes (module-heads d kept k (lines-of d m) .heads) n ↔ Edge d m n x
+  check-edge n x =
+      subst⁻¹ (λ hs. x ∈ next-nodes hs n ↔ Edge d m n x) (summaries d (premises .no-module-inside-itself) .module-graph kept plain m k at)
+      (plain-edges d (premises .no-module-inside-itself) (λ m c i n start e f. premises .wires m c i n start e f .0) m n x)
+
+  -- no report just where no edges lead back
+  pub check-none : find-cycles (module-heads d kept k (lines-of d m) .heads) ≡ [] ↔ ((v : List Node) → ¬ EdgeLoop d m v)
+  check-none = cycles-none d m (module-heads d kept k (lines-of d m) .heads) check-edge
+
+  -- each walk reported leads back by edges
+  pub check-loop : (w : List Node) → w ∈ find-cycles (module-heads d kept k (lines-of d m) .heads) → EdgeLoop d m w
+  check-loop w i = cycles-loop d m (module-heads d kept k (lines-of d m) .heads) check-edge w i
