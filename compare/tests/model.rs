@@ -962,6 +962,17 @@ mod collection {
     }
 
     #[test]
+    fn an_inner_repeat_has_what_the_outer_left() {
+        let inner = |n: u32| {
+            let drives = format!("(repeat 8 0 {n} (drive (lv 2 6 (n 8)) 0))");
+            format!("(repeat 9 0 4000 (constif (n 9) (then) (else {drives})))")
+        };
+        let port = "(port out 2 (bits 98) 5)";
+        bound_prints(&[port, &inner(96)], &["(E0502 0 5 2 gap 96)"]);
+        bound_prints(&[port, &inner(97)], &[]); // once, Dynamic
+    }
+
+    #[test]
     fn rounds_are_summed_over_modules_own_checks_only() {
         let lines = [
             "(module 0 bound)",

@@ -1,8 +1,10 @@
-//! `gen`: texts from the seeded generator.
+//! `gen`: texts from the seeded generator, and the stored vectors. Exit status 2 with a line on
+//! standard error for bad arguments, for vectors that do not agree, or where nothing can be written.
 
 use compare::cases::{write_cases, Case};
 use compare::gen;
-use std::io::Write;
+use std::io::{BufWriter, Write};
+use std::path::Path;
 use std::process::ExitCode;
 
 const USAGE: &str = "usage: gen PROFILE SEED FROM COUNT | gen --one PROFILE SEED I | gen --list \
@@ -11,11 +13,8 @@ const USAGE: &str = "usage: gen PROFILE SEED FROM COUNT | gen --one PROFILE SEED
 fn main() -> ExitCode {
     let args: Vec<String> = std::env::args().skip(1).collect();
     let args: Vec<&str> = args.iter().map(String::as_str).collect();
-    let done = answer(&args).and_then(|bytes| {
-        std::io::stdout()
-            .write_all(&bytes)
-            .map_err(|e| format!("cannot write: {e}"))
-    });
+    let mut out = BufWriter::new(std::io::stdout().lock());
+    let done = run(&args, &mut out).and_then(|()| out.flush().map_err(unwritten));
     match done {
         Ok(()) => ExitCode::SUCCESS,
         Err(why) => {
@@ -25,16 +24,20 @@ fn main() -> ExitCode {
     }
 }
 
-fn answer(args: &[&str]) -> Result<Vec<u8>, String> {
+fn unwritten(e: std::io::Error) -> String {
+    format!("cannot write: {e}")
+}
+
+fn run(args: &[&str], out: &mut impl Write) -> Result<(), String> {
     match args {
-        ["--list"] => Ok(gen::PROFILES
-            .iter()
-            .flat_map(|p| format!("{p}\n").into_bytes())
-            .collect()),
-        ["--one", profile, seed, i] => one(profile, number(seed)?, number(i)?),
-        ["--vectors", dir] => vectors(dir),
+        ["--list"] => list(out),
+        ["--one", profile, seed, i] => {
+            let text = one(profile, number(seed)?, number(i)?)?;
+            out.write_all(&text).map_err(unwritten)
+        }
+        ["--vectors", dir] => vectors(dir, out),
         [profile, seed, from, count] if !profile.starts_with("--") => {
-            many(profile, number(seed)?, number(from)?, number(count)?)
+            many(profile, number(seed)?, number(from)?, number(count)?, out)
         }
         _ => Err(USAGE.to_string()),
     }
@@ -45,37 +48,48 @@ fn number(word: &str) -> Result<u64, String> {
         .map_err(|_| format!("`{word}` is not a number; {USAGE}"))
 }
 
+fn list(out: &mut impl Write) -> Result<(), String> {
+    for profile in gen::PROFILES {
+        writeln!(out, "{profile}").map_err(unwritten)?;
+    }
+    Ok(())
+}
+
 fn one(profile: &str, seed: u64, i: u64) -> Result<Vec<u8>, String> {
     gen::text(profile, seed, i).ok_or_else(|| format!("no profile `{profile}`; see gen --list"))
 }
 
-fn many(profile: &str, seed: u64, from: u64, count: u64) -> Result<Vec<u8>, String> {
+/// A `.cases` file without answers.
+fn many(
+    profile: &str,
+    seed: u64,
+    from: u64,
+    count: u64,
+    out: &mut impl Write,
+) -> Result<(), String> {
     let end = from
         .checked_add(count)
         .ok_or("FROM and COUNT are too large")?;
     one(profile, seed, from)?;
-    let mut out = Vec::new();
     for i in from..end {
-        let text = one(profile, seed, i)?;
         let case = Case {
             name: format!("{profile}-{seed}-{i}"),
-            text,
+            text: one(profile, seed, i)?,
             answer: Vec::new(),
         };
-        out.extend(write_cases(&[case]));
+        out.write_all(&write_cases(&[case])).map_err(unwritten)?;
     }
-    Ok(out)
+    Ok(())
 }
 
 /// Writes the vector files into a folder, and says what each has.
-fn vectors(dir: &str) -> Result<Vec<u8>, String> {
-    let mut said = String::new();
+fn vectors(dir: &str, out: &mut impl Write) -> Result<(), String> {
     for (name, cases) in gen::vectors::files()? {
         let bytes = write_cases(&cases);
-        let path = std::path::Path::new(dir).join(name);
+        let path = Path::new(dir).join(name);
         std::fs::write(&path, &bytes)
             .map_err(|e| format!("cannot write {}: {e}", path.display()))?;
-        said += &format!("{name}: {} cases, {} bytes\n", cases.len(), bytes.len());
+        writeln!(out, "{name}: {} cases, {} bytes", cases.len(), bytes.len()).map_err(unwritten)?;
     }
-    Ok(said.into_bytes())
+    Ok(())
 }

@@ -14,7 +14,7 @@ impl Rng {
         ))
     }
 
-    pub fn next(&mut self) -> u64 {
+    pub fn draw(&mut self) -> u64 {
         self.0 = self.0.wrapping_add(0x9e37_79b9_7f4a_7c15);
         mix(self.0)
     }
@@ -24,7 +24,7 @@ impl Rng {
         if n == 0 {
             return 0;
         }
-        self.next() % n
+        self.draw() % n
     }
 
     /// A number from `low` to `high`, both included.
