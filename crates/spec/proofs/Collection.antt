@@ -178,14 +178,14 @@ kept-then {f} {g} p n k l = record {
   placed = placed;
   one = one;
   ok = λ names left.
-    let a = f names left in
-    let b = g names (a .left) in
-    record {
-      adds = omega (arith, k .ok names left .adds, l .ok names (a .left) .adds);
-      few = λ at. few names left at (occurs at (a .lines)) (occurs at (b .lines));
-      each = λ d m. each names left d (List·Memᴰ·append-cases (a .lines) m);
-      over = λ d m. over names left d (List·Memᴰ·append-cases (a .lines) m);
-    };
+      let a = f names left in
+      let b = g names (a .left) in
+      record {
+        adds = omega (arith, k .ok names left .adds, l .ok names (a .left) .adds);
+        few = λ at. few names left at (occurs at (a .lines)) (occurs at (b .lines));
+        each = λ d m. each names left d (List·Memᴰ·append-cases (a .lines) m);
+        over = λ d m. over names left d (List·Memᴰ·append-cases (a .lines) m);
+      };
 }
   where
     S : List ℕ → Item → Type 0
@@ -317,6 +317,7 @@ kept-branch p c k l = record {
 
 mutual
   unfolding collect-inner
+
   inner-kept : (i : Item) (p : List ℕ) → Kept (Inside p) (collect-inner i p)
   inner-kept (port d n w s) p = kept-none (Inside p)
   inner-kept (wire n e s) p = kept-none (Inside p)

@@ -42,7 +42,7 @@ module _ (hs : List Head) where
     next = λ n m. next-by hs n;
     none = (
       λ e w c. let (n, i) = first w c in finds .none .0 e w n c i (reached-root (next-nodes hs) (roots-headed hs .1 (closed-headed w c n i))),
-      λ h. finds .none .1 (λ w n c i r. h w c)
+      λ h. finds .none .1 (λ w n c i r. h w c),
     );
     walks = λ w i. let k = finds .walks w i in (k .0, k .1, closed-headed w (k .0));
   }

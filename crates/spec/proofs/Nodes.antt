@@ -86,13 +86,13 @@ module _ {A B : Type 0} {same before : A → A → Bool} {same′ before′ : B 
   pub pair-strict : Strict (both-same same same′) (one-before same before before′)
   pair-strict = record {
     yes-same = λ p q h.
-      let e = and-parts (same (p .0) (q .0)) (same′ (p .1) (q .1)) h in
-      pair (S .yes-same (p .0) (q .0) (e .0)) (T .yes-same (p .1) (q .1) (e .1));
+        let e = and-parts (same (p .0) (q .0)) (same′ (p .1) (q .1)) h in
+        pair (S .yes-same (p .0) (q .0) (e .0)) (T .yes-same (p .1) (q .1) (e .1));
     self = λ p. rw (S .self (p .0)) (T .self (p .1));
     never = λ p h. earlier-never p (earlier p p h);
     after = λ p q r g h. of-earlier p r (earlier-after p q r (earlier p q g) (earlier q r h));
     other = λ p q e h. of-earlier q p (earlier-other p q (same (p .0) (q .0)) refl e
-      (or-neither (before (p .0) (q .0)) (same (p .0) (q .0) && before′ (p .1) (q .1)) h));
+        (or-neither (before (p .0) (q .0)) (same (p .0) (q .0) && before′ (p .1) (q .1)) h));
   }
     where
       pair : {p q : A × B} → p .0 ≡ q .0 → p .1 ≡ q .1 → p ≡ q
