@@ -3,6 +3,7 @@
 //! Text `i` of a profile depends on the profile, the seed and `i` alone.
 
 mod damaged;
+mod dense;
 mod expr;
 pub mod limits;
 mod loops;
@@ -10,6 +11,7 @@ mod maker;
 mod plan;
 pub mod refusals;
 pub mod rng;
+mod rounds;
 mod sites;
 mod small;
 mod values;
@@ -19,7 +21,7 @@ use rng::Rng;
 
 /// The profiles, in the order in which `gen --list` names them.
 pub const PROFILES: &[&str] = &[
-    "small", "sites", "blocks", "loops", "ties", "values", "limits", "damaged",
+    "small", "sites", "blocks", "loops", "ties", "values", "limits", "damaged", "dense",
 ];
 
 /// Text `i` of a profile under a seed; none where there is no such profile.
@@ -33,6 +35,7 @@ pub fn text(profile: &str, seed: u64, i: u64) -> Option<Vec<u8>> {
         "ties" => loops::ties(r),
         "values" => values::values(r),
         "limits" => limits::limits(r, i),
+        "dense" => dense::dense(r),
         "damaged" => return Some(damage_one(r, seed, i)),
         _ => return None,
     };

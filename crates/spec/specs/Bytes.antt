@@ -69,11 +69,12 @@ unfoldable pub is-form : Bytes → Bool
 is-form [] = false
 is-form (c ∷ s) = eqb c 40
 
--- The parts of what stands behind an opening bracket, k more brackets being open; the bracket that closes the form ends it.
+-- a byte put in front of the first part
 unfoldable pub onto : ℕ → List Bytes → List Bytes
 onto c [] = (c ∷ []) ∷ []
 onto c (p ∷ ps) = (c ∷ p) ∷ ps
 
+-- The parts of what stands behind an opening bracket, k more brackets being open; the bracket that closes the form ends it.
 unfoldable pub parts-from : ℕ → Bytes → List Bytes
 parts-from k [] = [] ∷ []
 parts-from k (c ∷ s) =

@@ -12,7 +12,8 @@ use Rattle.spec.specs.Value.{Value, known, missing, outside, Names, valu
 abbrev pub round-limit : ℕ
 round-limit = 4096
 
--- one item as often as it is collected: `at` says which it is, as positions in the text, the innermost first
+-- one item as often as it is collected: `at` says which it is, as positions in the text, the innermost first (of a `constif`
+-- also the branch: 0 `then`, 1 `else`)
 pub record Collected : Type 0 where
   pub at : List ℕ
   pub item : Item

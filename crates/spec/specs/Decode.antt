@@ -9,7 +9,7 @@ use Rattle.spec.specs.Bytes.{Bytes, bytes, lookup-word, number, integer,
 use Rattle.spec.specs.Syntax.{Kind, in-kind, out-kind, wire-kind, reg-kind, mem-kind, inst-kind, Unary, neg, not, clog2, Binary, add, sub, mul, eq, ne, lt, le, gt, ge, and, or, shl, shr, band, bor, bxor, Expr, Exprs, lit, truth, name, field, index, if-else, unary, binary, all, Width, bit, opaque, bits, signed, Index, whole, at-bit, high-low, LValue, Stmt, Stmts, set, default, loop, when, Dir, input, output, Place, single, at, Conn, Inst, Item, Items, port, wire, reg, mem, const, drive, on, inst, repeat, const-if, Header, kind, val, Line, module-line, header-line, item-line}
 use Rattle.spec.specs.Show.{show-kind, show-unary, show-binary, show-truth, show-dir, show-bound}
 
--- 01, Refused because of the text: 32 brackets deep.
+-- 01, The line: to 32 brackets deep; 33 deep is 3.
 abbrev pub depth-limit : ℕ
 depth-limit = 32
 

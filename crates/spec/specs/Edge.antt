@@ -114,7 +114,7 @@ pub record Head : Type 0 where
   pub start : ℕ
   pub reads : List Node
 
--- what a collected line heads, and whether a value was outside INT
+-- what a collected line heads, and whether an `f` index evaluated for its reads was outside INT
 pub record Heads : Type 0 where
   pub heads : List Head
   pub out : Bool

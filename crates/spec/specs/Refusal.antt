@@ -11,9 +11,11 @@ use Rattle.spec.specs.Syntax.{name-bound, module-bound, number-bound, Bi
 use Rattle.spec.specs.Show.{show-line, design-lines}
 use Rattle.spec.specs.Decode.{depth-limit, decode-line}
 
+-- 1: over 32,768 bytes.
 abbrev pub text-limit : ℕ
 text-limit = 32768
 
+-- 7: a 33rd module.
 abbrev pub module-limit : ℕ
 module-limit = 32
 

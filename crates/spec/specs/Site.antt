@@ -108,8 +108,8 @@ unfoldable pub place-constants : Place → List Expr
 place-constants single = []
 place-constants (at e) = e ∷ []
 
--- the constants that are evaluated as a line is collected, those of its reads aside: both bounds of a `repeat` always are, and X of
--- every instance line
+-- the constants that are evaluated as a line is collected, those of its reads aside: both indexes of an output's LV, X of every
+-- instance line, both bounds of a `repeat`, the condition of a `constif`
 unfoldable pub line-constants : List Header → Item → List Expr
 line-constants hs (drive lv e) = drive-constants (driving (kind-of hs (lv .name))) (lv .index)
 line-constants hs (inst i) = place-constants (i .place)
@@ -320,7 +320,7 @@ coverage-limit = 4096
 unfoldable pub first-gap : List Site → ℕ → Option ℕ
 first-gap ss width = gap-from ss 0 (min width coverage-limit)
 
--- what is reported of an output with these sites, all of which are its own: E0502 `never` or `gap`
+-- what is said of an output: never driven, a first gap, or nothing
 pub data Coverage : Type 0 where
   never fully : Coverage
   gap : ℕ → Coverage
@@ -341,6 +341,7 @@ unfoldable pub deciding-width : Names → List Site → Width → Value
 deciding-width names [] w = missing
 deciding-width names (s ∷ ss) w = elim (only-ranges (s ∷ ss)) [ true ↦ width-value names w | false ↦ missing ]
 
+-- 01, The site: no site E0502 `never`; all Range and width evaluable and above 0: the first gap gives `gap`.
 unfoldable pub coverage : Names → List Site → Width → Coverage
 coverage names [] w = never
 coverage names (s ∷ ss) w = width-coverage (s ∷ ss) (deciding-width names (s ∷ ss) w)

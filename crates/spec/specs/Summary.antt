@@ -68,7 +68,8 @@ triples (e ∷ kept) = length (e .1) + triples kept
 abbrev pub triple-limit : ℕ
 triple-limit = 1024
 
--- what asking for a summary gives: it, the summaries kept then, and whether a limit was passed or a constant was outside INT
+-- what asking for a summary gives: it, the summaries kept then, and whether a limit was passed or an `f` index evaluated for its
+-- reads was outside INT; its other constants are found by the module's own check
 pub record Asked : Type 0 where
   pub summary : Summary
   pub kept : Kept
