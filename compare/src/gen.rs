@@ -19,7 +19,17 @@ pub mod vectors;
 
 use rng::Rng;
 
-/// The profiles, in the order in which `gen --list` names them.
+/// The profiles, in the order in which `gen --list` names them:
+///
+/// - `small`: every form, names that fit and names that do not
+/// - `sites`: outputs driven in many parts
+/// - `blocks`: regs, mems and blocks
+/// - `loops`: loops within modules and through instances
+/// - `ties`: the same with few STARTs
+/// - `values`: constants, each shown by a report
+/// - `limits`: each limit and one past it
+/// - `damaged`: texts of the others with something wrong in them
+/// - `dense`: a few names that everything shares; repeats around the rounds that are left
 pub const PROFILES: &[&str] = &[
     "small", "sites", "blocks", "loops", "ties", "values", "limits", "damaged", "dense",
 ];

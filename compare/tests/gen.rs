@@ -60,6 +60,24 @@ fn other_indexes_and_seeds_give_other_bytes() {
 }
 
 #[test]
+fn what_was_made_before_changes_nothing() {
+    for profile in PROFILES {
+        let ascending: Vec<_> = (0..50).map(|i| text(profile, 7, i)).collect();
+        let mut descending: Vec<_> = (0..50).rev().map(|i| text(profile, 7, i)).collect();
+        descending.reverse();
+        assert_eq!(ascending, descending, "{profile}");
+    }
+}
+
+#[test]
+fn the_profiles_are_these() {
+    let names = "small sites blocks loops ties values limits damaged dense";
+    assert_eq!(PROFILES.join(" "), names);
+    let different: HashSet<Option<Vec<u8>>> = PROFILES.iter().map(|p| text(p, 5, 3)).collect();
+    assert_eq!(different.len(), PROFILES.len());
+}
+
+#[test]
 fn an_unknown_profile_gives_nothing() {
     assert_eq!(text("", 1, 1), None);
     assert_eq!(text("unknown", 1, 1), None);
@@ -81,6 +99,48 @@ fn texts_are_well_formed() {
             );
         }
     }
+}
+
+/// Whether some module has a line that begins so and goes on with a name of this kind.
+fn has_line_of(text: &str, head: &str, kind: &str) -> bool {
+    text.split("(module ").any(|module| {
+        let mut names = module
+            .lines()
+            .filter_map(|l| l.strip_prefix(head)?.split(' ').next());
+        names.any(|name| module.contains(&format!("(kind {name} {kind})\n")))
+    })
+}
+
+#[test]
+fn dense_texts_have_what_is_seldom_elsewhere() {
+    let texts: Vec<String> = (0..1000)
+        .map(|i| String::from_utf8(text("dense", 4, i).unwrap()).unwrap())
+        .collect();
+    let count = |what: &str, holds: &dyn Fn(&String) -> bool| {
+        let found = texts.iter().filter(|t| holds(t)).count();
+        assert!(found >= 40, "{what}: {found} of 1000");
+    };
+    count("an input that a wire line heads", &|t| {
+        has_line_of(t, "(wire ", "in")
+    });
+    count("an output line of an input", &|t| {
+        has_line_of(t, "(port out ", "in")
+    });
+    count("an instance line of a wire", &|t| {
+        has_line_of(t, "(inst ", "wire")
+    });
+    count("a nested const", &|t| t.contains(" (const "));
+    count("a nested output line", &|t| t.contains(" (port out "));
+    count("an index without value", &|t| t.contains("(inst 5 (n 9) "));
+    count("and with a missing operand", &|t| {
+        t.contains("(and 0 (n 9))") || t.contains("(and (n 9) 0)")
+    });
+    count("or with a missing operand", &|t| {
+        t.contains("(or 1 (n 9))") || t.contains("(or (n 9) 1)")
+    });
+    count("many rounds", &|t| {
+        model::answer(t.as_bytes(), model::PROGRAM_BUFFER).rounds > 4000
+    });
 }
 
 #[test]

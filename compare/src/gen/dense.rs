@@ -55,7 +55,11 @@ pub fn dense(mut r: Rng) -> String {
 
 fn design(mut r: Rng, matched: bool) -> String {
     let names = if matched { 8 } else { r.range(4, 8) as u32 };
-    let count = 1 + r.weighted(&[30, 40, 20, 10]);
+    let count = 1 + r.weighted(if matched {
+        &[5, 60, 25, 10]
+    } else {
+        &[35, 35, 20, 10]
+    });
     let mods: Vec<Mod> = (0..count).map(|_| plan(&mut r, names, matched)).collect();
     let odd = r.pick(&[5, 15, 50]);
     let starts = if r.chance(85) {
@@ -199,11 +203,12 @@ impl Dense<'_> {
         for o in OUTS {
             if self.r.chance(80) {
                 let line = self.port_line(o);
-                items.push(self.wrap(line, 12));
+                items.push(self.wrap(line, self.odd / 2));
             }
-            let line = match self.r.weighted(&[20, 70, 10]) {
+            let line = match self.r.weighted(&[10, 40, 30, 20]) {
                 0 => continue,
                 1 => format!("(drive {} {})", self.lv(o, 75), self.read(1)),
+                2 => format!("(drive {} (n {}))", self.lv(o, 90), self.r.pick(&INS)),
                 _ => self.wire_line(o),
             };
             items.push(self.wrap(line, 8));
@@ -236,14 +241,19 @@ impl Dense<'_> {
             }
         }
         if self.r.chance(self.odd) {
-            let name = self.r.pick(&WIRES);
-            items.push(self.inst_line(name));
+            let (name, module) = (self.r.pick(&WIRES), self.module_number());
+            items.push(format!(
+                "(inst {name} - {module} {} (conn 0 (n {})) (conn 1 (n {})))",
+                self.start(),
+                self.r.pick(&WIRES),
+                self.pool.signal(&mut self.r)
+            ));
         }
     }
 
     /// The wires, some in a ring.
     fn wires(&mut self, items: &mut Vec<String>) {
-        let ring = self.r.chance(25);
+        let ring = self.r.chance(35);
         for w in WIRES {
             if ring {
                 let other = if w == WIRES[0] { WIRES[1] } else { WIRES[0] };
@@ -254,7 +264,7 @@ impl Dense<'_> {
         }
     }
 
-    /// A reg or mem, where there is one, with two blocks.
+    /// Each mem with two blocks.
     fn blocks(&mut self, items: &mut Vec<String>) {
         for name in self.mods[self.me].names(Kind::Mem) {
             if self.r.chance(70) {
@@ -368,7 +378,7 @@ impl Dense<'_> {
             }
             _ => {
                 let (inst, field) = (self.name(&INSTS), self.name(&OUTS));
-                let module = self.r.below(self.mods.len() as u64);
+                let module = self.module_number();
                 format!(
                     "(inst {inst} (n {name}) {module} {} (conn 0 (f (ix (n {inst}) (n {name})) {field})))",
                     self.start()
@@ -425,13 +435,23 @@ impl Dense<'_> {
         self.r.pick(&names)
     }
 
+    /// Mostly another module, sometimes this one or a missing one.
+    fn module_number(&mut self) -> usize {
+        let count = self.mods.len();
+        match self.r.weighted(&[75, 20, 5]) {
+            0 => (self.me + 1 + self.r.below(count as u64 - 1) as usize) % count,
+            1 => self.r.below(count as u64) as usize,
+            _ => count,
+        }
+    }
+
     fn inst_line(&mut self, name: u32) -> String {
         let index = match self.r.weighted(&[50, 12, 38]) {
             0 => "-".to_string(),
             1 => format!("(n {MISSING})"),
             _ => self.constant(1),
         };
-        let module = self.r.below(self.mods.len() as u64 + 1);
+        let module = self.module_number();
         let own = match self.r.weighted(&[30, 60, 10]) {
             1 if index != "-" => format!("(ix (n {name}) {index})"),
             2 => format!("(ix (n {name}) (n {MISSING}))"),
@@ -442,7 +462,7 @@ impl Dense<'_> {
         for _ in 0..self.r.weighted(&[5, 45, 40, 10]) {
             let port = self.name(&INS);
             let e = if self.r.chance(35) {
-                format!("(f {own} {})", self.pool.field(&mut self.r))
+                format!("(f {own} {})", self.name(&[2, 3, 2, 3, 0, 1]))
             } else {
                 self.read(1)
             };
@@ -453,10 +473,9 @@ impl Dense<'_> {
 
     /// The variable is used inside, and again afterwards.
     fn repeat(&mut self, nest: u32) -> String {
-        let var = if self.r.chance(30) {
-            self.pool.constant(&mut self.r)
-        } else {
-            self.any()
+        let var = match self.pool.consts.last() {
+            Some(&last) if self.r.chance(30) => last,
+            _ => self.any(),
         };
         let (low, high) = match self.r.weighted(&[60, 15, 25]) {
             0 => ("0".to_string(), self.r.range(1, 3).to_string()),

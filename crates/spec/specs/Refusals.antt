@@ -1,26 +1,43 @@
 -- What is refused because of the state, and what a refusal leaves. 01: Refused because of the state.
--- Assumes nothing: these are definitions.
+-- Assumes nothing: these are definitions, and a statement that proofs/Refusals.antt proves.
 use mathlib.Core.Path.{_≡_}
 use mathlib.Core.Logic.{_↔_, _⊎_}
 use mathlib.Core.Bool.{Bool, true, false, _||_}
 use mathlib.Core.List.{List, [], _∷_, _++_}
-use mathlib.Core.Option.{Option, some, none}
+use mathlib.Core.Option.{some, none}
 use Prim.Native.Nat.{ℕ, suc, _≤_, _<_}
 use lib.ListN.{length, getElem?}
 use lib.Dec.{eqb}
+use lib.IntN.{ℤ, pos, negℤ, _+ℤ_, _-ℤ_, _*ℤ_}
 use Rattle.spec.specs.Bytes.{Bytes}
-use Rattle.spec.specs.Syntax.{Expr, Exprs, lit, truth, name, field, index, if-else, unary, binary, all, Index, Conn, Inst, Item, Items, port, wire, reg, mem, const, drive, on, inst, repeat, const-if, Header, Module, Design}
-use Rattle.spec.specs.Refusal.{well-formed, refused, refusal, decode, has-name}
-use Rattle.spec.specs.Value.{outside, Names, value, Table, own-vals, name-table, const-names}
-use Rattle.spec.specs.Collect.{Collected, collection}
-use Rattle.spec.specs.Site.{kind-of, Driving, an-output, a-wire, a-reg, a-mem, nothing, driving, index-constants, line-constants, sites, sites-of, misuses, once-a-name, misused-names, conflicts, conflict-names, Output, outputs, deciding-width}
+use Rattle.spec.specs.Syntax.{Unary, neg, Binary, add, sub, mul, Expr, Exprs, lit, truth, name, field, index, if-else, unary, binary, all, Index, Conn, Inst, Item, Items, port, wire, reg, mem, const, drive, on, inst, repeat, const-if, Width, Header, Module, Design}
+use Rattle.spec.specs.Refusal.{in-int, well-formed, refused, refusal, decode, has-name}
+use Rattle.spec.specs.Value.{known, outside, Names, is-zero, value, Table, own-vals, const-names}
+use Rattle.spec.specs.Collect.{Collected}
+use Rattle.spec.specs.Site.{kind-of, Driving, an-output, a-wire, a-reg, a-mem, nothing, driving, index-constants, line-constants, sites, width-value}
 use Rattle.spec.specs.Block.{pairs}
 use Rattle.spec.specs.Search.{each-once}
 use Rattle.spec.specs.Edge.{same-node, is-inst, Head, Summary, all-nodes, edge-count, node-limit, edge-limit, inst-of}
 use Rattle.spec.specs.Summary.{Kept, kept-summary, triples, triple-limit, Asked, ask-for, comb-summary, make-summary, lines-heads, module-heads}
 use Rattle.spec.specs.Report.{show-reports}
-use Rattle.spec.specs.Check.{site-limit, pair-limit, Checked, check-modules, check-design, refuse, accept, Lent, too-short, check-drivers}
+use Rattle.spec.specs.Check.{site-limit, pair-limit, check-modules, check-design, refuse, accept, Lent, check-drivers}
 use Rattle.spec.specs.Graph.{_∈_}
+use Rattle.spec.specs.Situations.{own-lines, own-names, sites-named, Poisoned, IsOutput, AllRanges}
+
+-- 01, Refused because of the state: a constant, or a part of one, evaluated outside INT. The parts that are evaluated are those of
+-- The value: operands left to right, a missing one ends it; `if` takes one branch. `clog2` and the tests give no number outside.
+pub data PartOutside (names : Names) : Expr → Type 0 where
+  literal : (n : ℕ) → in-int (pos n) ≡ false → PartOutside names (lit n)
+  condition : (c a b : Expr) → PartOutside names c → PartOutside names (if-else c a b)
+  then-branch : (c a b : Expr) (x : ℤ) → value names c ≡ known x → is-zero x ≡ false → PartOutside names a → PartOutside names (if-else c a b)
+  else-branch : (c a b : Expr) (x : ℤ) → value names c ≡ known x → is-zero x ≡ true → PartOutside names b → PartOutside names (if-else c a b)
+  operand : (o : Unary) (a : Expr) → PartOutside names a → PartOutside names (unary o a)
+  negation : (a : Expr) (x : ℤ) → value names a ≡ known x → in-int (negℤ x) ≡ false → PartOutside names (unary neg a)
+  left-operand : (o : Binary) (a b : Expr) → PartOutside names a → PartOutside names (binary o a b)
+  right-operand : (o : Binary) (a b : Expr) (x : ℤ) → value names a ≡ known x → PartOutside names b → PartOutside names (binary o a b)
+  sum : (a b : Expr) (x y : ℤ) → value names a ≡ known x → value names b ≡ known y → in-int (x +ℤ y) ≡ false → PartOutside names (binary add a b)
+  difference : (a b : Expr) (x y : ℤ) → value names a ≡ known x → value names b ≡ known y → in-int (x -ℤ y) ≡ false → PartOutside names (binary sub a b)
+  product : (a b : Expr) (x y : ℤ) → value names a ≡ known x → value names b ≡ known y → in-int (x *ℤ y) ≡ false → PartOutside names (binary mul a b)
 
 -- 01, The edge: the indexes that are evaluated where an expression is read: of `(f (ix (n I) E) P)`, I an inst.
 unfoldable pub field-index : List Header → Expr → List Expr
@@ -99,8 +116,8 @@ pub data LinesPass (ask : Kept → ℕ → Asked) (Asks : Kept → ℕ → Type 
 
 -- the making of a summary passes: its own walk, its graph, or 1,024 summary triples in all
 pub data MakingPasses (ask : Kept → ℕ → Asked) (Asks : Kept → ℕ → Type 0) (kept : Kept) (m : ℕ) (k : Module) : Type 0 where
-  summary-walk : LinesPass ask Asks (k .header) kept (collection (own-vals k) k .lines) → MakingPasses ask Asks kept m k
-  summary-graph : GraphPasses (lines-heads ask (k .header) kept (collection (own-vals k) k .lines) .heads) → MakingPasses ask Asks kept m k
+  summary-walk : LinesPass ask Asks (k .header) kept (own-lines k) → MakingPasses ask Asks kept m k
+  summary-graph : GraphPasses (lines-heads ask (k .header) kept (own-lines k) .heads) → MakingPasses ask Asks kept m k
   many-triples : triple-limit < triples (make-summary ask kept m k .kept) → MakingPasses ask Asks kept m k
 
 -- asking for a summary passes: it is made now, and that passes
@@ -119,32 +136,35 @@ unfoldable pub item-list : Items → List Item
 item-list Items.none = []
 item-list (Items.more i is) = i ∷ item-list is
 
--- the names that get no further report once collection and conflicts are reported
-abbrev pub poisoned-names : Module → List ℕ
-poisoned-names k =
-    let lines = collection (own-vals k) k .lines in
-    let ss = sites (k .bound) (k .header) lines in
-    let ms = misused-names (once-a-name [] (misuses (k .header) lines)) in
-    conflict-names (conflicts ms ss ss) ++ ms
-
 -- 01, Refused because of the state: what makes the own check of a module pass a limit, or evaluate a constant outside INT
 pub data ModulePasses (d : Design) (kept : Kept) (k : Module) : Type 0 where
   const-outside : (before after : List Item) (n : ℕ) (e : Expr) → item-list (k .items) ≡ before ++ Item.const n e ∷ after → value (const-table (record { names = own-vals k; out = false }) before .names) e ≡ outside → ModulePasses d kept k
-  line-outside : (c : Collected) (e : Expr) → c ∈ collection (own-vals k) k .lines → e ∈ line-constants (k .header) (c .item) → value (c .names) e ≡ outside → ModulePasses d kept k
-  width-outside : (o : Output) → o ∈ outputs (collection (own-vals k) k .lines) → has-name (o .name) (poisoned-names k) ≡ false → deciding-width (name-table (own-vals k) k .names) (sites-of (o .name) (sites (k .bound) (k .header) (collection (own-vals k) k .lines))) (o .width) ≡ outside → ModulePasses d kept k
-  many-sites : site-limit < length (sites (k .bound) (k .header) (collection (own-vals k) k .lines)) → ModulePasses d kept k
-  many-pairs : pair-limit < length (pairs (k .header) (collection (own-vals k) k .lines)) → ModulePasses d kept k
-  own-walk : LinesPass (comb-summary (suc (length d)) d []) (λ kept′ m. AskPasses (suc (length d)) d [] kept′ m) (k .header) kept (collection (own-vals k) k .lines) → ModulePasses d kept k
-  own-graph : GraphPasses (module-heads d kept k (collection (own-vals k) k .lines) .heads) → ModulePasses d kept k
+  line-outside : (c : Collected) (e : Expr) → c ∈ own-lines k → e ∈ line-constants (k .header) (c .item) → value (c .names) e ≡ outside → ModulePasses d kept k
+  width-outside : (start n : ℕ) (w : Width) → IsOutput k start n w → ¬ Poisoned k n → ¬ (sites-named k n ≡ []) → AllRanges (sites-named k n) → width-value (own-names k) w ≡ outside → ModulePasses d kept k
+  many-sites : site-limit < length (sites (k .bound) (k .header) (own-lines k)) → ModulePasses d kept k
+  many-pairs : pair-limit < length (pairs (k .header) (own-lines k)) → ModulePasses d kept k
+  own-walk : LinesPass (comb-summary (suc (length d)) d []) (λ kept′ m. AskPasses (suc (length d)) d [] kept′ m) (k .header) kept (own-lines k) → ModulePasses d kept k
+  own-graph : GraphPasses (module-heads d kept k (own-lines k) .heads) → ModulePasses d kept k
 
 -- some module's own check, with the summaries that those before it kept
 pub data Passes (d : Design) : Type 0 where
   own-check : (before after : List Module) (k : Module) → d ≡ before ++ k ∷ after → ModulePasses d (check-modules d [] 0 before .kept) k → Passes d
 
--- the answer's cases: 20 exactly when a slice is too short, or the text has no fault and a listed limit is passed or an evaluated
--- constant leaves INT; 21 exactly when not 20 and the report text is longer than the buffer; a refusal gives zeros and keeps the buffer
+-- 01, Refused because of the state: a lent working slice with fewer places than the limit it serves.
+abbrev pub Short : List Lent → Type 0
+Short working = (l : Lent) × (l ∈ working) × (l .places < l .limit)
+
+-- The theorem. 01: Refused because of the state. `twenty`: 20 exactly when a slice is too short, or the text has no fault and a listed
+-- limit is passed or an evaluated constant leaves INT. `twenty-one`: 21 exactly when not 20 and the report text is longer than the
+-- buffer. `by-text`: else a fault of the text gives its own number, 1 to 8. `otherwise`: else the reports are written. A refusal gives
+-- zeros and keeps the buffer. `outside-is`: a constant leaves INT exactly when an evaluated part does. `fuel`: that of the summaries
+-- never runs out, so that it decides nothing.
 pub record Refusals : Type 0 where
-  pub twenty : (working : List Lent) (text buffer : Bytes) → check-drivers working text buffer ≡ refuse 20 0 buffer ↔ ((too-short working ≡ true) ⊎ ((refusal text ≡ well-formed) × Passes (decode text)))
-  pub twenty-one : (working : List Lent) (text buffer : Bytes) → check-drivers working text buffer ≡ refuse 21 0 buffer ↔ ((too-short working ≡ false) × (refusal text ≡ well-formed) × ¬ Passes (decode text) × (length buffer < length (show-reports (check-design (decode text) .reports))))
-  pub by-text : (working : List Lent) (text buffer : Bytes) (k n : ℕ) → too-short working ≡ false → refusal text ≡ refused k n → check-drivers working text buffer ≡ refuse k n buffer
-  pub otherwise : (working : List Lent) (text buffer : Bytes) → too-short working ≡ false → refusal text ≡ well-formed → ¬ Passes (decode text) → length (show-reports (check-design (decode text) .reports)) ≤ length buffer → check-drivers working text buffer ≡ accept (show-reports (check-design (decode text) .reports)) (check-design (decode text)) buffer
+  pub twenty : (working : List Lent) (text buffer : Bytes) → check-drivers working text buffer ≡ refuse 20 0 buffer ↔ (Short working ⊎ ((refusal text ≡ well-formed) × Passes (decode text)))
+  pub twenty-one : (working : List Lent) (text buffer : Bytes) → check-drivers working text buffer ≡ refuse 21 0 buffer
+      ↔ (¬ Short working × (refusal text ≡ well-formed) × ¬ Passes (decode text) × (length buffer < length (show-reports (check-design (decode text) .reports))))
+  pub by-text : (working : List Lent) (text buffer : Bytes) (k n : ℕ) → ¬ Short working → refusal text ≡ refused k n → (check-drivers working text buffer ≡ refuse k n buffer) × (1 ≤ k) × (k ≤ 8)
+  pub otherwise : (working : List Lent) (text buffer : Bytes) → ¬ Short working → refusal text ≡ well-formed → ¬ Passes (decode text)
+      → length (show-reports (check-design (decode text) .reports)) ≤ length buffer → check-drivers working text buffer ≡ accept (show-reports (check-design (decode text) .reports)) (check-design (decode text)) buffer
+  pub outside-is : (names : Names) (e : Expr) → value names e ≡ outside ↔ PartOutside names e
+  pub fuel : (d : Design) (enough : ℕ) → length d < enough → comb-summary enough d [] ≡ comb-summary (suc (length d)) d []
