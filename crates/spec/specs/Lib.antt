@@ -20,7 +20,9 @@ pub mod Walks
 pub mod Cases
 pub mod Collection
 pub mod Loops
+pub mod Meaning
 pub mod Opened
 pub mod Refusals
 pub mod Rest
+pub mod Situations
 pub mod Summaries
