@@ -2,7 +2,7 @@
 -- Assumes nothing.
 use mathlib.Core.Path.{_≡_, refl, ap, _∙_}
 use mathlib.Core.Bool.{Bool, true, false}
-use mathlib.Core.List.{List, [], _∷_, _++_}
+use mathlib.Core.List.{[], _∷_, _++_}
 use Prim.Native.Nat.{ℕ}
 use lib.ListN.{length, take, drop}
 use lib.Dec.{ltb}
@@ -19,7 +19,7 @@ use Rattle.spec.specs.Edge.{field-reads, expr-reads, exprs-reads, index-
 use Rattle.spec.specs.Summary.{onward, inputs-among, inputs-reached, paired, top-outputs, outputs-reach, module-summary, kept-summary, triples, ask-for, lines-heads, make-summary, comb-summary, module-heads}
 use Rattle.spec.specs.Walk.{start-of, insert-node, ascending, next-nodes, roots, find-cycles}
 use Rattle.spec.specs.Report.{show-node, show-nodes, show-report, show-reports}
-use Rattle.spec.specs.Check.{Lent, Answer, Checked, refuse, accept, answer-read, program-buffer, misuse-reports, conflict-reports, output-reports, widths-out, storage-reports, loop-reports, check-module-drivers, check-modules, check-design, answer-checked, too-short, check-drivers}
+use Rattle.spec.specs.Check.{Answer, Checked, refuse, accept, answer-read, program-buffer, misuse-reports, conflict-reports, output-reports, widths-out, storage-reports, loop-reports, check-module-drivers, check-modules, check-design, answer-checked, check-drivers}
 use Rattle.spec.specs.Cases.{Outcome, accepted, refused, answer-of, Case, program-prints, Answers, Prints, Holds, P1, P2, P3, P4, P5, P6, P7, P8, P9, P10, Ten-cases}
 
 -- the outcome of a check with so much room for the report text

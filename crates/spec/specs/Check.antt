@@ -1,22 +1,21 @@
 -- The whole answer: number, line, bytes, reports, rounds, and the report buffer at exit. 01: Refused because of the state; The report.
 -- Assumes nothing: these are definitions.
-use mathlib.Core.Bool.{Bool, true, false, _&&_, _||_}
-use mathlib.Core.List.{List, [], _∷_, _++_}
-use mathlib.Core.Option.{Option, some, none}
+use mathlib.Core.Bool.{Bool, true, false, _||_}
+use mathlib.Core.List.{List, [], _∷_, _++_, map}
 use Prim.Native.Nat.{ℕ, zero, suc, _+_}
 use lib.ListN.{length, drop, replicate}
 use lib.Dec.{eqb, ltb}
 use Rattle.spec.specs.Bytes.{Bytes, bytes, show-number, show-form}
 use Rattle.spec.specs.Syntax.{Module, Design}
 use Rattle.spec.specs.Refusal.{Verdict, well-formed, refused, refusal, decode, has-name}
-use Rattle.spec.specs.Value.{Names, Table, own-vals, name-table, is-outside}
-use Rattle.spec.specs.Collect.{Collected, Collection, collection}
+use Rattle.spec.specs.Value.{Names, own-vals, name-table, is-outside}
+use Rattle.spec.specs.Collect.{collection}
 use Rattle.spec.specs.Site.{Site, sites, lines-outside, sites-of, Misused, misuses, once-a-name, misused-names, Conflict, conflicts, conflict-names, Output, outputs, Coverage, coverage, deciding-width, never as never-driven, fully, gap as gap-at}
 use Rattle.spec.specs.Block.{Pair, pairs, block-count, Storage, regs, mems}
 use Rattle.spec.specs.Edge.{Node, Head, over-graph}
-use Rattle.spec.specs.Summary.{Kept, Headed, module-heads}
+use Rattle.spec.specs.Summary.{Kept, module-heads}
 use Rattle.spec.specs.Walk.{start-of, find-cycles}
-use Rattle.spec.specs.Report.{Detail, misused, many, never, gap, no-block, blocks, mem-blocks, Report, report, loop-report, show-reports}
+use Rattle.spec.specs.Report.{misused, many, never, gap, no-block, blocks, mem-blocks, Report, report, loop-report, show-reports}
 
 abbrev pub site-limit : ℕ
 site-limit = 1024
@@ -176,9 +175,25 @@ unfoldable pub check-drivers : List Lent → Bytes → Bytes → Answer
 check-drivers working text buffer =
     elim (too-short working) [ true ↦ refuse 20 0 buffer | false ↦ answer-read (refusal text) text buffer ]
 
+-- a working slice as it is lent: what it holds, which may be anything, and the limit that it serves
+pub record Slice : Type 0 where
+  pub held : List ℕ
+  pub limit : ℕ
+
+abbrev pub lent : Slice → Lent
+lent s = record { places = length (s .held); limit = s .limit }
+
 -- 01, Refused because of the state: lent working memory is zero after each call.
-abbrev pub cleared : List ℕ → List ℕ
-cleared working = replicate (length working) 0
+abbrev pub cleared : Slice → List ℕ
+cleared s = replicate (length (s .held)) 0
+
+-- the whole call: the answer, with the report buffer at exit, and the working slices at exit
+pub record Exit : Type 0 where
+  pub answer : Answer
+  pub working : List (List ℕ)
+
+unfoldable pub check-call : List Slice → Bytes → Bytes → Exit
+check-call working text buffer = record { answer = check-drivers (map lent working) text buffer; working = map cleared working }
 
 abbrev pub program-buffer : ℕ
 program-buffer = 65536

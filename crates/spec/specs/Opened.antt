@@ -8,7 +8,7 @@ use Prim.Native.Nat.{ℕ, zero, suc}
 use lib.ListN.{length, getElem?}
 use lib.Dec.{eqb}
 use lib.IntN.{ℤ}
-use Rattle.spec.specs.Syntax.{Kind, in-kind, reg-kind, Expr, Conn, Inst, Item, wire, Header, Module, Design}
+use Rattle.spec.specs.Syntax.{in-kind, reg-kind, Expr, Conn, Inst, wire, Header, Design}
 use Rattle.spec.specs.Value.{Names, own-vals}
 use Rattle.spec.specs.Collect.{Collected, collection}
 use Rattle.spec.specs.Search.{each-once}

@@ -7,7 +7,7 @@ use lib.ListN.{length}
 use lib.Dec.{eqb, ltb, leb}
 use lib.IntN.{ℤ, pos, negsuc}
 use Rattle.spec.specs.Bytes.{Bytes, same-bytes, onto}
-use Rattle.spec.specs.Syntax.{name-bound, module-bound, number-bound, Binary, add, sub, mul, eq, ne, lt, le, gt, ge, and, or, shl, shr, band, bor, bxor, Expr, Exprs, lit, truth, name, field, index, if-else, unary, binary, all, Width, bit, opaque, bits, signed, Index, whole, at-bit, high-low, LValue, Stmt, Stmts, set, default, loop, when, Place, single, at, Conn, Inst, Item, Items, port, wire, reg, mem, const, drive, on, inst, repeat, const-if, Header, kind, val, Module, Design, Line, module-line, header-line, item-line}
+use Rattle.spec.specs.Syntax.{name-bound, module-bound, number-bound, Binary, add, sub, mul, eq, ne, lt, le, gt, ge, and, or, shl, shr, band, bor, bxor, Expr, Exprs, lit, truth, name, field, index, if-else, unary, binary, all, Width, bit, opaque, bits, signed, Index, whole, at-bit, high-low, Stmt, Stmts, set, default, loop, when, Place, single, at, Conn, Inst, Item, Items, port, wire, reg, mem, const, drive, on, inst, repeat, const-if, Header, kind, val, Design, Line, module-line, header-line, item-line}
 use Rattle.spec.specs.Show.{show-line, design-lines}
 use Rattle.spec.specs.Decode.{depth-limit, decode-line}
 

@@ -2,14 +2,14 @@
 -- Assumes nothing: these are definitions.
 use mathlib.Core.Path.{_≡_}
 use mathlib.Core.Logic.{_↔_}
-use mathlib.Core.List.{List, [], _∷_}
+use mathlib.Core.List.{List, []}
 use Prim.Native.Nat.{ℕ}
 use Rattle.spec.specs.Bytes.{Bytes}
 use Rattle.spec.specs.Syntax.{Design}
 use Rattle.spec.specs.Refusal.{decode}
 use Rattle.spec.specs.Edge.{Node}
-use Rattle.spec.specs.Report.{Report, loop-report}
-use Rattle.spec.specs.Check.{Lent, Checked, check-design, check-drivers}
+use Rattle.spec.specs.Report.{loop-report}
+use Rattle.spec.specs.Check.{Lent, check-design, check-drivers}
 use Rattle.spec.specs.Graph.{_∈_, Once, ClosedWalk, Graph}
 use Rattle.spec.specs.Net.{ComesToRest}
 use Rattle.spec.specs.Opened.{Signal, signal-reads, opened-signals, OnClosedWalk, Premises}

@@ -1,12 +1,12 @@
 -- Drive sites of outputs: extents, meeting, conflicts, gaps; poison. 01: The site.
 -- Assumes nothing: these are definitions.
-use mathlib.Core.Bool.{Bool, true, false, _&&_, _||_, not as opposite}
+use mathlib.Core.Bool.{Bool, true, false, _&&_, _||_}
 use mathlib.Core.List.{List, [], _∷_, _++_}
 use mathlib.Core.Option.{Option, some, none}
 use Prim.Native.Nat.{ℕ, zero, suc, min}
 use lib.Dec.{eqb, ltb, leb}
-use lib.IntN.{ℤ, pos, negsuc}
-use Rattle.spec.specs.Syntax.{Expr, Kind, in-kind, out-kind, wire-kind, reg-kind, mem-kind, inst-kind, Width, bit, opaque, bits, signed, Index, whole, at-bit, high-low, LValue, Stmt, Stmts, set, default, loop, when, Dir, input, output, Place, single, at, Inst, Item, port, wire, reg, mem, const, drive, on, inst, repeat, const-if, Header, kind, val}
+use lib.IntN.{pos, negsuc}
+use Rattle.spec.specs.Syntax.{Expr, Kind, in-kind, out-kind, wire-kind, reg-kind, mem-kind, inst-kind, Width, bit, opaque, bits, signed, Index, whole, at-bit, high-low, LValue, Stmt, Stmts, set, default, loop, when, input, output, Place, single, at, Item, port, wire, reg, mem, const, drive, on, inst, repeat, const-if, Header, kind, val}
 use Rattle.spec.specs.Refusal.{has-name}
 use Rattle.spec.specs.Value.{Value, known, missing, outside, Names, value, is-outside}
 use Rattle.spec.specs.Collect.{Collected}

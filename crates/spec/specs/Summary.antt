@@ -1,15 +1,15 @@
 -- Which inputs a module's outputs reach, through instances too. 01: The edge.
 -- Assumes nothing: these are definitions.
-use mathlib.Core.Bool.{Bool, true, false, _&&_, _||_}
+use mathlib.Core.Bool.{Bool, true, false, _||_}
 use mathlib.Core.List.{List, [], _∷_, _++_}
 use mathlib.Core.Option.{Option, some, none}
 use Prim.Native.Nat.{ℕ, zero, suc, _+_}
 use lib.ListN.{length, getElem?}
 use lib.Dec.{eqb, ltb}
-use Rattle.spec.specs.Syntax.{Kind, in-kind, out-kind, wire-kind, reg-kind, mem-kind, inst-kind, Dir, input, output, Inst, Item, Items, port, wire, reg, mem, const, drive, on, inst, repeat, const-if, Header, Module, Design}
+use Rattle.spec.specs.Syntax.{Kind, in-kind, out-kind, wire-kind, reg-kind, mem-kind, inst-kind, Inst, Items, Header, Module, Design}
 use Rattle.spec.specs.Refusal.{has-name}
 use Rattle.spec.specs.Value.{own-vals}
-use Rattle.spec.specs.Collect.{Collected, Collection, collection}
+use Rattle.spec.specs.Collect.{Collected, collection}
 use Rattle.spec.specs.Search.{search}
 use Rattle.spec.specs.Site.{kind-of, Output, line-outputs, first-lines}
 use Rattle.spec.specs.Edge.{Node, signal, inst-out, same-node, Head, Summary, line-heads, inst-of, all-nodes, reads-of, over-graph}

@@ -5,7 +5,7 @@ use mathlib.Core.List.{List, [], _∷_}
 use Prim.Native.Nat.{ℕ, zero, suc, _-_, _/_}
 use lib.Dec.{eqb, ltb}
 use lib.IntN.{ℤ, pos, negsuc, negℤ, _+ℤ_, _-ℤ_, _*ℤ_}
-use Rattle.spec.specs.Syntax.{Unary, neg, not, clog2, Binary, add, sub, mul, eq, ne, lt, le, gt, ge, and, or, shl, shr, band, bor, bxor, Expr, Exprs, lit, truth, name, field, index, if-else, unary, binary, all, Stmts, Item, Items, port, wire, reg, mem, const, drive, on, inst, repeat, const-if, Header, kind, val, Module}
+use Rattle.spec.specs.Syntax.{Unary, neg, not, clog2, Binary, add, sub, mul, eq, ne, lt, le, gt, ge, and, or, shl, shr, band, bor, bxor, Expr, lit, truth, name, field, index, if-else, unary, binary, all, Items, port, wire, reg, mem, const, drive, on, inst, repeat, const-if, Header, kind, val, Module}
 use Rattle.spec.specs.Refusal.{in-int}
 
 -- 01, The value: exact whole numbers; some expressions have none. 01, Refused because of the state: or it is outside INT.
