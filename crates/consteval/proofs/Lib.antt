@@ -1,0 +1,2 @@
+pub mod ArithLaws
+pub mod EvalLaws

@@ -1,0 +1,149 @@
+// The operators on values. A value v is held as v + 2147483648; what leaves INT is outside.
+use crate::Value;
+use crate::shape::Binary;
+use crate::shape::Unary;
+ghost use mathlib.Core.Path.{_≡_};
+ghost use lib.IntN.{pos, negℤ, subℕ, _+ℤ_, _-ℤ_, _*ℤ_};
+ghost use Rattle.spec.specs.Value.{within, truth-value, clog2-bits, clog2-value, unary-value, binary-value};
+ghost use Rattle.spec.specs.Syntax.{and, or};
+ghost use Rattle.consteval.specs.Worth.{signed, worth, unary-of, binary-of};
+
+pub fn positive(n: u64) -> Value
+    ensures { λ r. ⌜ worth r ≡ within (pos n) ⌝ }
+{
+    if n < 2147483648 {
+        return Value::Known((n + 2147483648) as u32);
+    }
+    Value::Outside
+}
+
+fn negative(n: u64) -> Value
+    ensures { λ r. ⌜ worth r ≡ within (negℤ (pos n)) ⌝ }
+{
+    if n <= 2147483648 {
+        return Value::Known((2147483648 - n) as u32);
+    }
+    Value::Outside
+}
+
+fn difference(a: u64, b: u64) -> Value
+    ensures { λ r. ⌜ worth r ≡ within (subℕ a b) ⌝ }
+{
+    if a < b {
+        negative(b - a)
+    } else {
+        positive(a - b)
+    }
+}
+
+pub fn truth(b: bool) -> Value
+    ensures { λ r. ⌜ worth r ≡ truth-value b ⌝ }
+{
+    if b {
+        Value::Known(2147483649)
+    } else {
+        Value::Known(2147483648)
+    }
+}
+
+fn neg(x: u32) -> Value
+    ensures { λ r. ⌜ worth r ≡ within (negℤ (signed x)) ⌝ }
+{
+    difference(2147483648, x as u64)
+}
+
+fn add(x: u32, y: u32) -> Value
+    ensures { λ r. ⌜ worth r ≡ within (signed x +ℤ signed y) ⌝ }
+{
+    difference(x as u64 + y as u64, 4294967296)
+}
+
+fn sub(x: u32, y: u32) -> Value
+    ensures { λ r. ⌜ worth r ≡ within (signed x -ℤ signed y) ⌝ }
+{
+    difference(x as u64 + 2147483648, y as u64 + 2147483648)
+}
+
+// The product of the amounts, by the signs.
+fn mul(x: u32, y: u32) -> Value
+    ensures { λ r. ⌜ worth r ≡ within (signed x *ℤ signed y) ⌝ }
+{
+    if x < 2147483648 {
+        if y < 2147483648 {
+            return positive((2147483648 - x) as u64 * (2147483648 - y) as u64);
+        }
+        return negative((2147483648 - x) as u64 * (y - 2147483648) as u64);
+    }
+    if y < 2147483648 {
+        return negative((x - 2147483648) as u64 * (2147483648 - y) as u64);
+    }
+    positive((x - 2147483648) as u64 * (y - 2147483648) as u64)
+}
+
+// How many bits address n items, at least 1.
+pub fn clog2_bits(n: u32) -> u32
+    ensures { λ r. ⌜ r ≡ clog2-bits n ⌝ }
+{
+    if n < 2 {
+        1
+    } else {
+        32 - u32::leading_zeros(n - 1)
+    }
+}
+
+fn clog2(x: u32) -> Value
+    ensures { λ r. ⌜ worth r ≡ clog2-value (signed x) ⌝ }
+{
+    if x <= 2147483648 {
+        return Value::Missing;
+    }
+    positive(clog2_bits(x - 2147483648) as u64)
+}
+
+pub fn unary(o: Unary, x: u32) -> Value
+    ensures { λ r. ⌜ worth r ≡ unary-value (unary-of o) (signed x) ⌝ }
+{
+    match o {
+        Unary::Neg => neg(x),
+        Unary::Not => truth(x == 2147483648),
+        Unary::Clog2 => clog2(x),
+    }
+}
+
+// Anything but 0 is true.
+fn both(x: u32, y: u32) -> Value
+    ensures { λ r. ⌜ worth r ≡ binary-value and (signed x) (signed y) ⌝ }
+{
+    if x == 2147483648 {
+        return truth(false);
+    }
+    truth(y != 2147483648)
+}
+
+fn either(x: u32, y: u32) -> Value
+    ensures { λ r. ⌜ worth r ≡ binary-value or (signed x) (signed y) ⌝ }
+{
+    if x == 2147483648 {
+        return truth(y != 2147483648);
+    }
+    truth(true)
+}
+
+pub fn binary(o: Binary, x: u32, y: u32) -> Value
+    ensures { λ r. ⌜ worth r ≡ binary-value (binary-of o) (signed x) (signed y) ⌝ }
+{
+    match o {
+        Binary::Add => add(x, y),
+        Binary::Sub => sub(x, y),
+        Binary::Mul => mul(x, y),
+        Binary::Eq => truth(x == y),
+        Binary::Ne => truth(x != y),
+        Binary::Lt => truth(x < y),
+        Binary::Le => truth(x <= y),
+        Binary::Gt => truth(y < x),
+        Binary::Ge => truth(y <= x),
+        Binary::And => both(x, y),
+        Binary::Or => either(x, y),
+        Binary::Bits => Value::Missing,
+    }
+}

@@ -1,0 +1,90 @@
+-- What a search for the inputs that an output reaches gives and leaves. Assumes nothing: these are definitions and statements.
+use mathlib.Core.Path.{_≡_}
+use mathlib.Core.Bool.{Bool, true, false}
+use mathlib.Core.Logic.{_↔_, _⊎_}
+use mathlib.Core.List.{List, [], _∷_}
+use Prim.Native.Nat.{ℕ, zero, suc, _+_, _<_, _≤_}
+use lib.ListN.{length, getD}
+use lib.Dec.{eqb, ltb}
+use Rattle.spec.specs.Graph.{_∈_, Once}
+use Rattle.spec.specs.Search.{among}
+use Rattle.spec.specs.Walks.{Reached}
+use Rattle.spec.specs.Syntax.{Header}
+use Rattle.spec.specs.Site.{kind-of}
+use Rattle.spec.specs.Edge.{Head}
+use Rattle.spec.specs.Summary.{is-input, inputs-reached}
+use Rattle.graph.specs.Table.{target, Linked, edges-below, out}
+
+-- k words from b on, the last first
+unfoldable pub words-below : List ℕ → ℕ → ℕ → List ℕ
+words-below w b zero = []
+words-below w b (suc k) = getD w (b + k) 0 ∷ words-below w b k
+
+-- Words of the work slice: from 2 on 512 marks, from 514 on the nodes reached, from 1026 on the names found.
+abbrev pub reached : List ℕ → ℕ → List ℕ
+reached w k = words-below w 514 k
+
+abbrev pub found : List ℕ → ℕ → List ℕ
+found w k = words-below w 1026 k
+
+-- no node is marked
+pub record Clean (w : List ℕ) : Type 0 where
+  pub sized : 1538 ≤ length w
+  pub unmarked : (t : ℕ) → t < 512 → getD w (2 + t) 0 ≡ 0
+
+-- k nodes are reached so far, each once, and just they are marked
+pub record Queued (w : List ℕ) (k : ℕ) : Type 0 where
+  pub sized : 1538 ≤ length w
+  pub few : k ≤ 512
+  pub once : Once (reached w k)
+  pub small : (t : ℕ) → t ∈ reached w k → t < 512
+  pub marks : (t : ℕ) → t < 512 → among eqb t (reached w k) ≡ ltb 0 (getD w (2 + t) 0)
+
+-- n edges, linked, between the first 512 nodes
+pub record Sound (g : List ℕ) (n : ℕ) : Type 0 where
+  pub linked : Linked g 3074 n
+  pub targets : (k : ℕ) → k < n → target g 3074 k < 512
+
+-- is the node i a signal of kind in? `kinds` has 1 for those
+unfoldable pub stops : List ℕ → List ℕ → ℕ → Bool
+stops g kinds i = elim (eqb (getD g (2 + i) 0) 0) [ true ↦ eqb (getD kinds (getD g (514 + i) 0) 0) 1 | false ↦ false ]
+
+-- where the search goes on from the node i
+unfoldable pub next-of : List ℕ → List ℕ → ℕ → ℕ → List ℕ
+next-of g kinds n i = elim (stops g kinds i) [ true ↦ [] | false ↦ out i (edges-below g 3074 n) ]
+
+-- what the edges of s add to the nodes reached
+pub record Spread (g : List ℕ) (n s : ℕ) (w : List ℕ) (k : ℕ) (w′ : List ℕ) (k′ : ℕ) : Type 0 where
+  pub queued : Queued w′ k′
+  pub more : k ≤ k′
+  pub kept : (i : ℕ) → i < k → getD w′ (514 + i) 0 ≡ getD w (514 + i) 0
+  pub all : (t : ℕ) → t ∈ out s (edges-below g 3074 n) → t ∈ reached w′ k′
+  pub only : (t : ℕ) → t ∈ reached w′ k′ → (t ∈ reached w k) ⊎ (t ∈ out s (edges-below g 3074 n))
+
+-- all that is reached from the node that stands first
+pub record Flooded (g kinds : List ℕ) (n : ℕ) (w w′ : List ℕ) (k : ℕ) : Type 0 where
+  pub queued : Queued w′ k
+  pub first : (t : ℕ) → t ∈ reached w 1 → t ∈ reached w′ k
+  pub closed : (s t : ℕ) → s ∈ reached w′ k → t ∈ next-of g kinds n s → t ∈ reached w′ k
+  pub only : (t : ℕ) → t ∈ reached w′ k → Reached (next-of g kinds n) (reached w 1) t
+
+-- the names of the nodes of kind in among some
+unfoldable pub names-in : List ℕ → List ℕ → List ℕ → List ℕ
+names-in g kinds [] = []
+names-in g kinds (i ∷ l) = elim (stops g kinds i) [ true ↦ getD g (514 + i) 0 ∷ names-in g kinds l | false ↦ names-in g kinds l ]
+
+-- the names of the nodes of kind in among those reached; and no node is marked
+pub record Gathered (g kinds w : List ℕ) (k : ℕ) (w′ : List ℕ) (r : ℕ) : Type 0 where
+  pub clean : Clean w′
+  pub names : found w′ r ≡ names-in g kinds (reached w k)
+
+-- `kinds` has 1 for the names of kind in
+abbrev pub KindsAre : List ℕ → List Header → Type 0
+KindsAre kinds header = (n : ℕ) → is-input (kind-of header n) ≡ eqb (getD kinds n 0) 1
+
+-- the names found are the inputs that o reaches, each once
+pub record Inputs (header : List Header) (heads : List Head) (o : ℕ) (w : List ℕ) (r : ℕ) : Type 0 where
+  pub clean : Clean w
+  pub once : Once (found w r)
+  pub names : (m : ℕ) → m ∈ found w r ↔ m ∈ inputs-reached header heads o
+  pub count : r ≡ length (inputs-reached header heads o)

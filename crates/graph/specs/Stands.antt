@@ -1,0 +1,68 @@
+-- The heads for which a graph's slice stands. Assumes nothing: these are definitions and statements.
+use mathlib.Core.Path.{_≡_}
+use mathlib.Core.Bool.{true}
+use mathlib.Core.List.{List, [], _∷_, _++_}
+use Prim.Native.Nat.{ℕ, _<_, _≤_}
+use lib.ListN.{length}
+use lib.Dec.{eqb, ltb}
+use Rattle.spec.specs.Graph.{_∈_, Once}
+use Rattle.spec.specs.Search.{among}
+use Rattle.spec.specs.Edge.{Node, same-node, Head, all-nodes, head-nodes, all-reads, edges-from, over-graph}
+use Rattle.spec.specs.Walk.{start-of}
+use Rattle.graph.specs.Table.{count, edge-total, node-at, start-at, headed-at, nodes-below, source, target, edges-below, out, Linked}
+use Rattle.graph.specs.declared.Added as A
+use Rattle.graph.specs.declared.Added.the-variants as added
+
+abbrev pub nodes : List ℕ → List Node
+nodes g = nodes-below g (count g)
+
+-- the edges, as pairs of node numbers, the newest first
+abbrev pub edges : List ℕ → List (ℕ × ℕ)
+edges g = edges-below g 3074 (edge-total g)
+
+-- g has the nodes of the heads hs and those of xs, each once, with their STARTs; and the reads of hs, each once
+pub record Holds (g : List ℕ) (hs : List Head) (xs : List Node) : Type 0 where
+  pub sized : 15874 ≤ length g
+  pub few : count g ≤ 512
+  pub once : Once (nodes g)
+  pub listed : (n : Node) → n ∈ nodes g → n ∈ (xs ++ all-nodes hs)
+  pub all : (n : Node) → n ∈ (xs ++ all-nodes hs) → n ∈ nodes g
+  pub started : (i : ℕ) → i < count g → start-at g i ≡ start-of hs (node-at g i)
+  pub headed : (i : ℕ) → i < count g → among same-node (node-at g i) (head-nodes hs) ≡ ltb 0 (headed-at g i)
+  pub linked : Linked g 3074 (edge-total g)
+  pub ends : (k : ℕ) → k < edge-total g → (source g 3074 k < count g) × (target g 3074 k < count g)
+  pub reads-once : (i : ℕ) → Once (out i (edges g))
+  pub reads : (i j : ℕ) → i < count g → j < count g → among eqb j (out i (edges g)) ≡ among same-node (node-at g j) (all-reads hs (node-at g i))
+  pub edge-count : edge-total g ≡ edges-from hs (nodes g)
+
+-- g is the graph of the heads hs
+abbrev pub Stands : List ℕ → List Head → Type 0
+Stands g hs = Holds g hs []
+
+-- the node i of g is n
+pub record IsNode (g : List ℕ) (i : ℕ) (n : Node) : Type 0 where
+  pub within : i < count g
+  pub same : node-at g i ≡ n
+
+abbrev pub head-of : Node → ℕ → List Node → Head
+head-of n start rs = record { node = n; start = start; reads = rs }
+
+-- g is the graph of the heads hs and then a head of the node i, which has that START and reads rs so far
+pub record Heading (g : List ℕ) (hs : List Head) (n : Node) (start : ℕ) (rs : List Node) (i : ℕ) : Type 0 where
+  pub stands : Stands g (hs ++ head-of n start rs ∷ [])
+  pub node : IsNode g i n
+
+-- what finding or adding a node for the heads hs leaves: the node is there, or there are too many
+abbrev pub Got : A.Added → List ℕ → List ℕ → List Head → Node → Type 0
+Got (added.At i) g g′ hs n = Holds g′ hs (n ∷ []) × IsNode g′ i n × ((j : ℕ) (m : Node) → IsNode g j m → IsNode g′ j m)
+Got added.Full g g′ hs n = count g ≡ 512 × ¬ (n ∈ nodes g)
+
+-- what a head leaves: the number of its node; or a limit is passed
+abbrev pub Headed : A.Added → List ℕ → List Head → Node → ℕ → Type 0
+Headed (added.At i) g hs n start = Heading g hs n start [] i
+Headed added.Full g hs n start = over-graph (hs ++ head-of n start [] ∷ []) ≡ true
+
+-- what a read leaves: the head reads one node more; or a limit is passed
+abbrev pub Read : A.Added → List ℕ → List Head → Node → ℕ → List Node → ℕ → Node → Type 0
+Read (added.At j) g hs n start rs i m = Heading g hs n start (rs ++ m ∷ []) i
+Read added.Full g hs n start rs i m = over-graph (hs ++ head-of n start (rs ++ m ∷ []) ∷ []) ≡ true

@@ -1,0 +1,61 @@
+-- What a byte is. 01: Forms for specific places, character classes.
+-- Assumes nothing: these are definitions.
+use mathlib.Core.Bool.{Bool, true, false}
+use Prim.Native.Nat.{ℕ}
+use lib.Dec.{eqb, ltb}
+use Rattle.lines.specs.declared.bytes.Class.{Class}
+use Rattle.lines.specs.declared.bytes.Class.the-variants.{Space, Open, Close, Digit, Letter, Minus, Feed, Refused, Other}
+
+-- by value: refused up to 31 but for line feed, then space to 126, then refused
+unfoldable pub classOf : ℕ → Class
+classOf b =
+    elim (ltb b 48) [
+      | true ↦ elim (eqb b 10) [
+        | true ↦ Feed
+        | false ↦ elim (ltb b 32) [
+          | true ↦ Refused
+          | false ↦ elim (eqb b 32) [
+            | true ↦ Space
+            | false ↦ elim (eqb b 40) [
+              | true ↦ Open
+              | false ↦ elim (eqb b 41) [ true ↦ Close | false ↦ elim (eqb b 45) [ true ↦ Minus | false ↦ Other ] ]
+            ]
+          ]
+        ]
+      ]
+      | false ↦ elim (ltb b 58) [
+        | true ↦ Digit
+        | false ↦ elim (ltb b 65) [
+          | true ↦ Other
+          | false ↦ elim (ltb b 91) [
+            | true ↦ Letter
+            | false ↦ elim (ltb b 97) [
+              | true ↦ Other
+              | false ↦ elim (ltb b 123) [ true ↦ Letter | false ↦ elim (ltb b 127) [ true ↦ Other | false ↦ Refused ] ]
+            ]
+          ]
+        ]
+      ]
+    ]
+
+abbrev pub isDigit : Class → Bool
+isDigit Space = false
+isDigit Open = false
+isDigit Close = false
+isDigit Digit = true
+isDigit Letter = false
+isDigit Minus = false
+isDigit Feed = false
+isDigit Refused = false
+isDigit Other = false
+
+abbrev pub isWordly : Class → Bool
+isWordly Space = false
+isWordly Open = false
+isWordly Close = false
+isWordly Digit = true
+isWordly Letter = true
+isWordly Minus = false
+isWordly Feed = false
+isWordly Refused = false
+isWordly Other = false

@@ -1,0 +1,281 @@
+-- What the code of src/parse.rt does, on the bytes of a text and a position in it. proofs/ ties it to the bytes that show a tree.
+-- Assumes nothing: these are definitions.
+use mathlib.Core.Bool.{Bool, true, false, _&&_, not}
+use mathlib.Core.List.{List, [], _∷_}
+use Prim.Native.Nat.{ℕ, zero, suc, _+_, _*_, _-_}
+use lib.Dec.{eqb, ltb}
+use lib.ListN.{length, getD, drop}
+use Rattle.spec.specs.Bytes.{Bytes, bytes}
+use Rattle.spec.specs.Syntax.{name-bound, module-bound, number-bound}
+use Rattle.lines.specs.Bytes.{classOf, isDigit, isWordly}
+use Rattle.lines.specs.declared.parse.Mode.{Mode}
+use Rattle.lines.specs.declared.parse.Mode.the-variants.{Read, Field, Constant}
+use Rattle.lines.specs.declared.parse.Cat.{Cat}
+use Rattle.lines.specs.declared.parse.Cat.the-variants.{Name, Start, Mod, Count, Int, Kind, Dir, Bound, E, X, T, Lv, C, S, I, ThenS, ElseS, ThenI, ElseI, L, Nothing}
+use Rattle.lines.specs.declared.parse.Shape.{Shape}
+use Rattle.lines.specs.declared.parse.Parsed.{Parsed}
+use Rattle.lines.specs.declared.parse.Parsed.the-variants.{Bad, Good}
+use Rattle.lines.specs.declared.parse.Word.{Word}
+use Rattle.lines.specs.declared.parse.Number.{Number}
+use Rattle.lines.specs.declared.parse.Number.the-variants.{None, Is}
+use Rattle.lines.specs.declared.parse.Op.{Op}
+use Rattle.lines.specs.declared.parse.Op.the-variants as Op
+
+-- ---- words and numbers
+
+-- the word's letters in base 256, and its length in base 16
+unfoldable pub code-after : ℕ → Bytes → ℕ
+code-after a [] = a
+code-after a (c ∷ w) = code-after (a * 256 + c) w
+
+unfoldable pub key : Bytes → ℕ
+key w = code-after 0 w * 16 + length w
+
+-- the rest of a word, k letters of which make `code`; one that is too long has the key 0
+unfoldable pub wordFrom : ℕ → Bytes → ℕ → ℕ → ℕ → Word
+wordFrom zero t i code k = record { key = 0; next = i }
+wordFrom (suc f) t i code k =
+    elim (isWordly (classOf (getD t i 0))) [
+      | true ↦ wordFrom f t (i + 1) (code * 256 + getD t i 0) (k + 1)
+      | false ↦ record { key = code * 16 + k; next = i }
+    ]
+
+unfoldable pub wordAt : Bytes → ℕ → Word
+wordAt t at = wordFrom 8 t at 0 0
+
+-- ` (n ` stands here
+unfoldable pub peekAt : Bytes → ℕ → Bool
+peekAt t at =
+    elim (eqb (getD t at 0) 32) [
+      | true ↦ elim (eqb (getD t (at + 1) 0) 40) [
+        | true ↦ elim (eqb (getD t (at + 2) 0) 110) [ true ↦ eqb (getD t (at + 3) 0) 32 | false ↦ false ]
+        | false ↦ false
+      ]
+      | false ↦ false
+    ]
+
+unfoldable pub moreDigit : ℕ → ℕ → ℕ
+moreDigit a d = elim (ltb a 4294967296) [ true ↦ a * 10 + d | false ↦ a ]
+
+unfoldable pub digitsFrom : Bytes → ℕ → ℕ → Number
+digitsFrom [] at a = Is a at
+digitsFrom (c ∷ s) at a = elim (isDigit (classOf c)) [ true ↦ digitsFrom s (suc at) (moreDigit a (c - 48)) | false ↦ Is a at ]
+
+unfoldable pub numberAt : Bytes → ℕ → Number
+numberAt t at =
+    elim (eqb (getD t at 0) 48) [
+      | true ↦ Is 0 (at + 1)
+      | false ↦ elim (isDigit (classOf (getD t at 0))) [ true ↦ digitsFrom (drop at t) at 0 | false ↦ None ]
+    ]
+
+abbrev pub numbered : Number → ℕ → Parsed
+numbered None limit = Bad
+numbered (Is v next) limit = Good next (ltb v limit) true
+
+abbrev pub counted : Number → Parsed
+counted None = Bad
+counted (Is v next) = Good next true true
+
+unfoldable pub intAt : Bytes → ℕ → Parsed
+intAt t at =
+    elim (eqb (getD t at 0) 45) [
+      | true ↦ elim (eqb (getD t (at + 1) 0) 48) [ true ↦ Bad | false ↦ numbered (numberAt t (at + 1)) (number-bound + 1) ]
+      | false ↦ numbered (numberAt t at) number-bound
+    ]
+
+-- ---- tables of words
+
+unfoldable pub lookup-key : {A : Type 0} → List (ℕ × A) → A → ℕ → A
+lookup-key [] other k = other
+lookup-key (e ∷ table) other k = elim (eqb k (e .0)) [ true ↦ e .1 | false ↦ lookup-key table other k ]
+
+unfoldable pub ops : List (ℕ × Op)
+ops =
+    (key (bytes "n"), Op.Name) ∷ (key (bytes "f"), Op.Field) ∷ (key (bytes "ix"), Op.Index) ∷ (key (bytes "if"), Op.If)
+    ∷ (key (bytes "all"), Op.All) ∷ (key (bytes "neg"), Op.Unary) ∷ (key (bytes "not"), Op.Unary) ∷ (key (bytes "clog2"), Op.Unary)
+    ∷ (key (bytes "add"), Op.Binary) ∷ (key (bytes "sub"), Op.Binary) ∷ (key (bytes "mul"), Op.Binary) ∷ (key (bytes "eq"), Op.Binary)
+    ∷ (key (bytes "ne"), Op.Binary) ∷ (key (bytes "lt"), Op.Binary) ∷ (key (bytes "le"), Op.Binary) ∷ (key (bytes "gt"), Op.Binary)
+    ∷ (key (bytes "ge"), Op.Binary) ∷ (key (bytes "and"), Op.Binary) ∷ (key (bytes "or"), Op.Binary) ∷ (key (bytes "shl"), Op.Bitwise)
+    ∷ (key (bytes "shr"), Op.Bitwise) ∷ (key (bytes "band"), Op.Bitwise) ∷ (key (bytes "bor"), Op.Bitwise)
+    ∷ (key (bytes "bxor"), Op.Bitwise) ∷ []
+
+unfoldable pub opOf : ℕ → Op
+opOf k = lookup-key ops Op.Other k
+
+unfoldable pub kind-numbers : List (ℕ × ℕ)
+kind-numbers =
+    (key (bytes "in"), 1) ∷ (key (bytes "out"), 2) ∷ (key (bytes "wire"), 3) ∷ (key (bytes "reg"), 4) ∷ (key (bytes "mem"), 5)
+    ∷ (key (bytes "inst"), 6) ∷ []
+
+unfoldable pub kindOf : ℕ → ℕ
+kindOf k = lookup-key kind-numbers 0 k
+
+unfoldable pub either : ℕ → ℕ → ℕ → Bool
+either k a b = elim (eqb k a) [ true ↦ true | false ↦ eqb k b ]
+
+abbrev pub worded : Bool → ℕ → Parsed
+worded true next = Good next true true
+worded false next = Bad
+
+-- ---- shapes
+
+abbrev pub behind : ℕ → Cat → Cat → Cat → Cat → Cat → Shape
+behind n a b c d l = record { need = n; a = a; b = b; c = c; d = d; last = l; fine = true }
+
+abbrev pub fixed : ℕ → Cat → Cat → Cat → Cat → Shape
+fixed n a b c d = behind n a b c d Nothing
+
+abbrev pub no-shape : Shape
+no-shape = fixed 1 Nothing Nothing Nothing Nothing
+
+abbrev pub bitwise : Cat → Bool → Shape
+bitwise e fine = record { need = 2; a = e; b = e; c = Nothing; d = Nothing; last = Nothing; fine = fine }
+
+abbrev pub inner : Mode → Mode
+inner Read = Read
+inner Field = Read
+inner Constant = Constant
+
+abbrev pub under-field : Mode → Mode
+under-field Read = Field
+under-field Field = Field
+under-field Constant = Constant
+
+abbrev pub index-mode : Mode → Bool → Mode
+index-mode Read named = Read
+index-mode Field true = Constant
+index-mode Field false = Read
+index-mode Constant named = Constant
+
+abbrev pub free : Mode → Bool
+free Read = true
+free Field = true
+free Constant = false
+
+abbrev pub expr-shape : Mode → Op → Bool → Shape
+expr-shape m Op.Name named = fixed 1 Name Nothing Nothing Nothing
+expr-shape m Op.Field named = fixed 2 (E (under-field m)) Name Nothing Nothing
+expr-shape m Op.Index named = fixed 2 (E (inner m)) (E (index-mode m named)) Nothing Nothing
+expr-shape m Op.If named = fixed 3 (E (inner m)) (E (inner m)) (E (inner m)) Nothing
+expr-shape m Op.All named = behind 0 (E (inner m)) (E (inner m)) (E (inner m)) (E (inner m)) (E (inner m))
+expr-shape m Op.Unary named = fixed 1 (E (inner m)) Nothing Nothing Nothing
+expr-shape m Op.Binary named = fixed 2 (E (inner m)) (E (inner m)) Nothing Nothing
+expr-shape m Op.Bitwise named = bitwise (E (inner m)) (free m)
+expr-shape m Op.Other named = no-shape
+
+unfoldable pub lone : ℕ → ℕ → Shape → Shape
+lone k head q = elim (eqb k head) [ true ↦ q | false ↦ no-shape ]
+
+unfoldable pub widths : List (ℕ × Shape)
+widths =
+    (key (bytes "bits"), fixed 1 (E Constant) Nothing Nothing Nothing) ∷ (key (bytes "signed"), fixed 1 (E Constant) Nothing Nothing Nothing) ∷ []
+
+unfoldable pub width-shape : ℕ → Shape
+width-shape k = lookup-key widths no-shape k
+
+unfoldable pub stmts : List (ℕ × Shape)
+stmts =
+    (key (bytes "set"), fixed 2 Name Start Nothing Nothing) ∷ (key (bytes "default"), fixed 1 Name Nothing Nothing Nothing)
+    ∷ (key (bytes "loop"), behind 0 S S S S S) ∷ (key (bytes "when"), fixed 2 ThenS ElseS Nothing Nothing) ∷ []
+
+unfoldable pub stmt-shape : ℕ → Shape
+stmt-shape k = lookup-key stmts no-shape k
+
+unfoldable pub items : List (ℕ × Shape)
+items =
+    (key (bytes "port"), fixed 4 Dir Name T Start) ∷ (key (bytes "wire"), fixed 3 Name (E Read) Start Nothing)
+    ∷ (key (bytes "reg"), fixed 2 Name Start Nothing Nothing) ∷ (key (bytes "mem"), fixed 2 Name Start Nothing Nothing)
+    ∷ (key (bytes "const"), fixed 2 Name (E Constant) Nothing Nothing) ∷ (key (bytes "drive"), fixed 2 Lv (E Read) Nothing Nothing)
+    ∷ (key (bytes "on"), behind 1 Start S S S S) ∷ (key (bytes "inst"), behind 4 Name X Mod Start C)
+    ∷ (key (bytes "repeat"), behind 3 Name (E Constant) (E Constant) I I) ∷ (key (bytes "constif"), fixed 3 (E Constant) ThenI ElseI Nothing) ∷ []
+
+unfoldable pub item-shape : ℕ → Shape
+item-shape k = lookup-key items no-shape k
+
+unfoldable pub headers : List (ℕ × Shape)
+headers =
+    (key (bytes "module"), fixed 2 Count Bound Nothing Nothing) ∷ (key (bytes "kind"), fixed 2 Name Kind Nothing Nothing)
+    ∷ (key (bytes "val"), fixed 2 Name Int Nothing Nothing) ∷ []
+
+unfoldable pub line-shape : ℕ → Shape
+line-shape k = lookup-key headers (item-shape k) k
+
+abbrev pub shape : Cat → ℕ → Bool → Shape
+shape Name k named = no-shape
+shape Start k named = no-shape
+shape Mod k named = no-shape
+shape Count k named = no-shape
+shape Int k named = no-shape
+shape Kind k named = no-shape
+shape Dir k named = no-shape
+shape Bound k named = no-shape
+shape (E m) k named = expr-shape m (opOf k) named
+shape X k named = expr-shape Constant (opOf k) named
+shape T k named = width-shape k
+shape Lv k named = lone k (key (bytes "lv")) (fixed 2 Name Start (E Constant) (E Constant))
+shape C k named = lone k (key (bytes "conn")) (fixed 2 Name (E Read) Nothing Nothing)
+shape S k named = stmt-shape k
+shape I k named = item-shape k
+shape ThenS k named = lone k (key (bytes "then")) (behind 0 S S S S S)
+shape ElseS k named = lone k (key (bytes "else")) (behind 0 S S S S S)
+shape ThenI k named = lone k (key (bytes "then")) (behind 0 I I I I I)
+shape ElseI k named = lone k (key (bytes "else")) (behind 0 I I I I I)
+shape L k named = line-shape k
+shape Nothing k named = no-shape
+
+abbrev pub shift : Shape → Shape
+shift q = record { need = q .need - 1; a = q .b; b = q .c; c = q .d; d = q .last; last = q .last; fine = q .fine }
+
+-- ---- parts
+
+unfoldable pub literal : Bytes → ℕ → Parsed
+literal t at =
+    elim (isDigit (classOf (getD t at 0))) [
+      | true ↦ numbered (numberAt t at) number-bound
+      | false ↦ worded (either (wordAt t at .key) (key (bytes "true")) (key (bytes "false"))) (wordAt t at .next)
+    ]
+
+abbrev pub atom : Cat → Bytes → ℕ → Parsed
+atom Name t at = numbered (numberAt t at) name-bound
+atom Start t at = numbered (numberAt t at) number-bound
+atom Mod t at = numbered (numberAt t at) module-bound
+atom Count t at = counted (numberAt t at)
+atom Int t at = intAt t at
+atom Kind t at = worded (not (eqb (kindOf (wordAt t at .key)) 0)) (wordAt t at .next)
+atom Dir t at = worded (either (wordAt t at .key) (key (bytes "in")) (key (bytes "out"))) (wordAt t at .next)
+atom Bound t at = worded (either (wordAt t at .key) (key (bytes "bound")) (key (bytes "unbound"))) (wordAt t at .next)
+atom (E m) t at = literal t at
+atom X t at = elim (eqb (getD t at 0) 45) [ true ↦ Good (at + 1) true true | false ↦ literal t at ]
+atom T t at = worded (either (wordAt t at .key) (key (bytes "bit")) (key (bytes "opaque"))) (wordAt t at .next)
+atom Lv t at = Bad
+atom C t at = Bad
+atom S t at = Bad
+atom I t at = Bad
+atom ThenS t at = Bad
+atom ElseS t at = Bad
+atom ThenI t at = Bad
+atom ElseI t at = Bad
+atom L t at = Bad
+atom Nothing t at = Bad
+
+-- the parts of a form from i on, of which q is left, with `f` for a part; at most `left` of them
+unfoldable pub parts-at : (Cat → ℕ → Parsed) → ℕ → Bytes → Shape → ℕ → Bool → Bool → Parsed
+parts-at f zero t q i range places = Bad
+parts-at f (suc left) t q i range places =
+    elim (eqb (getD t i 0) 41) [
+      | true ↦ elim (eqb (q .need) 0) [ true ↦ Good (i + 1) range places | false ↦ Bad ]
+      | false ↦ elim (eqb (getD t i 0) 32) [
+        | true ↦ elim (f (q .a) (i + 1)) [ Bad ↦ Bad | Good j r p ↦ parts-at f left t (shift q) j (range && r) (places && p) ]
+        | false ↦ Bad
+      ]
+    ]
+
+unfoldable pub form-at : (Cat → ℕ → Parsed) → Cat → Bytes → ℕ → Parsed
+form-at f c t at =
+    let w = wordAt t (at + 1) in
+    let q = shape c (w .key) (peekAt t (w .next)) in
+    parts-at f (length t) t q (w .next) true (q .fine)
+
+unfoldable pub scan : ℕ → Cat → Bytes → ℕ → Parsed
+scan zero c t at = elim (eqb (getD t at 0) 40) [ true ↦ Bad | false ↦ atom c t at ]
+scan (suc d) c t at = elim (eqb (getD t at 0) 40) [ true ↦ form-at (λ k i. scan d k t i) c t at | false ↦ atom c t at ]

@@ -1,0 +1,661 @@
+// One line's grammar, in one pass. A form is a head word and parts; what parts it may have is a `Shape`: the categories of the next
+// parts and how many are still needed. `part` reads one part of a category, brackets at most `depth` deep.
+ghost use mathlib.Core.Path.{_≡_};
+ghost use mathlib.Core.Bool.{_&&_};
+ghost use lib.ListN.{drop};
+ghost use Prim.Native.Nat.{_-_};
+ghost use Rattle.lines.specs.Parse.{wordAt, peekAt, moreDigit, digitsFrom, numberAt, numbered, counted, intAt, opOf, kindOf, either, worded, no-shape, fixed, behind, inner, under-field, index-mode, free, bitwise, expr-shape, lone, width-shape, stmt-shape, item-shape, line-shape, shape, shift, literal, atom, scan};
+use crate::bytes::at8;
+use crate::bytes::digit;
+use crate::bytes::wordly;
+use crate::keys;
+
+// Names and MOD are below 256; START and literals below 2,147,483,648.
+pub const NAMES: u64 = 256;
+
+pub const MODS: u64 = 256;
+
+pub const NUMBERS: u64 = 2147483648;
+
+// How an expression stands: read, read directly under `f`, or in a constant place.
+pub enum Mode {
+    Read,
+    Field,
+    Constant,
+}
+
+// What a part is: a number or a word of a kind, an expression, X, T, LV, C, S, I, `(then ..)` and `(else ..)`, a line, or none.
+pub enum Cat {
+    Name,
+    Start,
+    Mod,
+    Count,
+    Int,
+    Kind,
+    Dir,
+    Bound,
+    E(Mode),
+    X,
+    T,
+    Lv,
+    C,
+    S,
+    I,
+    ThenS,
+    ElseS,
+    ThenI,
+    ElseI,
+    L,
+    Nothing,
+}
+
+// The categories of the next four parts and of all behind them, how many parts are still needed, and whether 8 is avoided so far.
+pub struct Shape {
+    pub need: u8,
+    pub a: Cat,
+    pub b: Cat,
+    pub c: Cat,
+    pub d: Cat,
+    pub last: Cat,
+    pub fine: bool,
+}
+
+// A part that was read: where it ends, whether its numbers are in range (5), whether its constant places are fine (8).
+pub enum Parsed {
+    Bad,
+    Good {
+        next: usize,
+        range: bool,
+        places: bool,
+    },
+}
+
+pub struct Word {
+    pub key: u64,
+    pub next: usize,
+}
+
+// A number, where it is too large some number above 2^32.
+pub enum Number {
+    None,
+    Is { value: u64, next: usize },
+}
+
+// The heads of E.
+pub enum Op {
+    Name,
+    Field,
+    Index,
+    If,
+    All,
+    Unary,
+    Binary,
+    Bitwise,
+    Other,
+}
+
+fn both(a: bool, b: bool) -> bool
+    ensures { λ r. ⌜ r ≡ a && b ⌝ }
+{
+    if a { b } else { false }
+}
+
+// The word at a position, of at most 7 letters.
+pub fn word_at(s: &[u8], at: usize) -> Word
+    ensures { λ r. ⌜ r ≡ wordAt (now (s .entry)) at ⌝ }
+{
+    let mut i = at;
+    let mut code: u64 = 0;
+    let mut k: u64 = 0;
+    while k < 8 {
+        let c = at8(s, i);
+        if !wordly(c) {
+            return Word {
+                key: code * 16 + k,
+                next: i,
+            };
+        }
+        code = code * 256 + c as u64;
+        i += 1;
+        k += 1;
+    }
+    Word { key: 0, next: i }
+}
+
+// Whether a space and a form of head `n` follow.
+fn peek(s: &[u8], at: usize) -> bool
+    ensures { λ r. ⌜ r ≡ peekAt (now (s .entry)) at ⌝ }
+{
+    if at8(s, at) != b' ' {
+        return false;
+    }
+    if at8(s, at + 1) != b'(' {
+        return false;
+    }
+    if at8(s, at + 2) != b'n' {
+        return false;
+    }
+    at8(s, at + 3) == b' '
+}
+
+// One digit more, while the number is below 2^32.
+fn more(a: u64, d: u8) -> u64
+    ensures { λ r. ⌜ r ≡ moreDigit a d ⌝ }
+{
+    if a < 4294967296 { a * 10 + d as u64 } else { a }
+}
+
+// The digits from a position on, behind the number a.
+fn digits(s: &[u8], at: usize) -> Number
+    ensures { λ r. ⌜ r ≡ digitsFrom (drop at (now (s .entry))) at 0 ⌝ }
+{
+    let mut i = at;
+    let mut a: u64 = 0;
+    while i < s.len() {
+        let c = s[i];
+        if !digit(c) {
+            return Number::Is { value: a, next: i };
+        }
+        a = more(a, c - b'0');
+        i += 1;
+    }
+    Number::Is { value: a, next: i }
+}
+
+// The number at a position: 0, or a digit that is not 0 and all digits behind it.
+pub fn number_at(s: &[u8], at: usize) -> Number
+    ensures { λ r. ⌜ r ≡ numberAt (now (s .entry)) at ⌝ }
+{
+    let c = at8(s, at);
+    if c == b'0' {
+        return Number::Is {
+            value: 0,
+            next: at + 1,
+        };
+    }
+    if !digit(c) {
+        return Number::None;
+    }
+    digits(s, at)
+}
+
+fn numbered(n: Number, limit: u64) -> Parsed
+    ensures { λ r. ⌜ r ≡ numbered n limit ⌝ }
+{
+    match n {
+        Number::None => Parsed::Bad,
+        Number::Is { value, next } => Parsed::Good {
+            next,
+            range: value < limit,
+            places: true,
+        },
+    }
+}
+
+fn counted(n: Number) -> Parsed
+    ensures { λ r. ⌜ r ≡ counted n ⌝ }
+{
+    match n {
+        Number::None => Parsed::Bad,
+        Number::Is { value: _, next } => Parsed::Good {
+            next,
+            range: true,
+            places: true,
+        },
+    }
+}
+
+// INT: a number, or a minus and a number that is not 0.
+fn int(s: &[u8], at: usize) -> Parsed
+    ensures { λ r. ⌜ r ≡ intAt (now (s .entry)) at ⌝ }
+{
+    if at8(s, at) != b'-' {
+        return numbered(number_at(s, at), NUMBERS);
+    }
+    if at8(s, at + 1) == b'0' {
+        return Parsed::Bad;
+    }
+    numbered(number_at(s, at + 1), NUMBERS + 1)
+}
+
+// ---- words
+
+pub fn op_of(key: u64) -> Op
+    ensures { λ r. ⌜ r ≡ opOf key ⌝ }
+{
+    match key {
+        keys::N => Op::Name,
+        keys::F => Op::Field,
+        keys::IX => Op::Index,
+        keys::IF => Op::If,
+        keys::ALL => Op::All,
+        keys::NEG => Op::Unary,
+        keys::NOT => Op::Unary,
+        keys::CLOG2 => Op::Unary,
+        keys::ADD => Op::Binary,
+        keys::SUB => Op::Binary,
+        keys::MUL => Op::Binary,
+        keys::EQ => Op::Binary,
+        keys::NE => Op::Binary,
+        keys::LT => Op::Binary,
+        keys::LE => Op::Binary,
+        keys::GT => Op::Binary,
+        keys::GE => Op::Binary,
+        keys::AND => Op::Binary,
+        keys::OR => Op::Binary,
+        keys::SHL => Op::Bitwise,
+        keys::SHR => Op::Bitwise,
+        keys::BAND => Op::Bitwise,
+        keys::BOR => Op::Bitwise,
+        keys::BXOR => Op::Bitwise,
+        _ => Op::Other,
+    }
+}
+
+// The number of a kind, and 0 for no kind.
+pub fn kind_of(key: u64) -> u8
+    ensures { λ r. ⌜ r ≡ kindOf key ⌝ }
+{
+    match key {
+        keys::IN => 1,
+        keys::OUT => 2,
+        keys::WIRE => 3,
+        keys::REG => 4,
+        keys::MEM => 5,
+        keys::INST => 6,
+        _ => 0,
+    }
+}
+
+fn either(key: u64, a: u64, b: u64) -> bool
+    ensures { λ r. ⌜ r ≡ either key a b ⌝ }
+{
+    if key == a {
+        return true;
+    }
+    key == b
+}
+
+fn worded(ok: bool, next: usize) -> Parsed
+    ensures { λ r. ⌜ r ≡ worded ok next ⌝ }
+{
+    if ok {
+        Parsed::Good {
+            next,
+            range: true,
+            places: true,
+        }
+    } else {
+        Parsed::Bad
+    }
+}
+
+// ---- shapes
+
+fn no_shape() -> Shape
+    ensures { λ r. ⌜ r ≡ no-shape ⌝ }
+{
+    Shape {
+        need: 1,
+        a: Cat::Nothing,
+        b: Cat::Nothing,
+        c: Cat::Nothing,
+        d: Cat::Nothing,
+        last: Cat::Nothing,
+        fine: true,
+    }
+}
+
+fn fixed(need: u8, a: Cat, b: Cat, c: Cat, d: Cat) -> Shape
+    ensures { λ r. ⌜ r ≡ fixed need a b c d ⌝ }
+{
+    Shape {
+        need,
+        a,
+        b,
+        c,
+        d,
+        last: Cat::Nothing,
+        fine: true,
+    }
+}
+
+fn behind(need: u8, a: Cat, b: Cat, c: Cat, d: Cat, last: Cat) -> Shape
+    ensures { λ r. ⌜ r ≡ behind need a b c d last ⌝ }
+{
+    Shape {
+        need,
+        a,
+        b,
+        c,
+        d,
+        last,
+        fine: true,
+    }
+}
+
+// The mode of a part, of the first part of `f`, of the second of `ix`, and whether a bitwise operator may stand here.
+fn inner(m: Mode) -> Mode
+    ensures { λ r. ⌜ r ≡ inner m ⌝ }
+{
+    match m {
+        Mode::Read => Mode::Read,
+        Mode::Field => Mode::Read,
+        Mode::Constant => Mode::Constant,
+    }
+}
+
+fn under_field(m: Mode) -> Mode
+    ensures { λ r. ⌜ r ≡ under-field m ⌝ }
+{
+    match m {
+        Mode::Read => Mode::Field,
+        Mode::Field => Mode::Field,
+        Mode::Constant => Mode::Constant,
+    }
+}
+
+fn index_mode(m: Mode, named: bool) -> Mode
+    ensures { λ r. ⌜ r ≡ index-mode m named ⌝ }
+{
+    match m {
+        Mode::Read => Mode::Read,
+        Mode::Field => { if named { Mode::Constant } else { Mode::Read } }
+        Mode::Constant => Mode::Constant,
+    }
+}
+
+fn free(m: Mode) -> bool
+    ensures { λ r. ⌜ r ≡ free m ⌝ }
+{
+    match m {
+        Mode::Read => true,
+        Mode::Field => true,
+        Mode::Constant => false,
+    }
+}
+
+fn bitwise(e: Cat, fine: bool) -> Shape
+    ensures { λ r. ⌜ r ≡ bitwise e fine ⌝ }
+{
+    Shape {
+        need: 2,
+        a: e,
+        b: e,
+        c: Cat::Nothing,
+        d: Cat::Nothing,
+        last: Cat::Nothing,
+        fine,
+    }
+}
+
+// The parts of E; `named`: the first is `(n NAME)`.
+fn expr_shape(m: Mode, op: Op, named: bool) -> Shape
+    ensures { λ r. ⌜ r ≡ expr-shape m op named ⌝ }
+{
+    let no = Cat::Nothing;
+    let e = Cat::E(inner(m));
+    match op {
+        Op::Name => fixed(1, Cat::Name, no, no, no),
+        Op::Field => fixed(2, Cat::E(under_field(m)), Cat::Name, no, no),
+        Op::Index => fixed(2, e, Cat::E(index_mode(m, named)), no, no),
+        Op::If => fixed(3, e, e, e, no),
+        Op::All => behind(0, e, e, e, e, e),
+        Op::Unary => fixed(1, e, no, no, no),
+        Op::Binary => fixed(2, e, e, no, no),
+        Op::Bitwise => bitwise(e, free(m)),
+        Op::Other => no_shape(),
+    }
+}
+
+// One head only: `q` where it stands, and no shape otherwise.
+fn lone(key: u64, head: u64, q: Shape) -> Shape
+    ensures { λ r. ⌜ r ≡ lone key head q ⌝ }
+{
+    if key == head { q } else { no_shape() }
+}
+
+fn width_shape(key: u64) -> Shape
+    ensures { λ r. ⌜ r ≡ width-shape key ⌝ }
+{
+    let no = Cat::Nothing;
+    let e = Cat::E(Mode::Constant);
+    match key {
+        keys::BITS => fixed(1, e, no, no, no),
+        keys::SIGNED => fixed(1, e, no, no, no),
+        _ => no_shape(),
+    }
+}
+
+fn stmt_shape(key: u64) -> Shape
+    ensures { λ r. ⌜ r ≡ stmt-shape key ⌝ }
+{
+    let no = Cat::Nothing;
+    let s = Cat::S;
+    match key {
+        keys::SET => fixed(2, Cat::Name, Cat::Start, no, no),
+        keys::DEFAULT => fixed(1, Cat::Name, no, no, no),
+        keys::LOOP => behind(0, s, s, s, s, s),
+        keys::WHEN => fixed(2, Cat::ThenS, Cat::ElseS, no, no),
+        _ => no_shape(),
+    }
+}
+
+fn item_shape(key: u64) -> Shape
+    ensures { λ r. ⌜ r ≡ item-shape key ⌝ }
+{
+    let no = Cat::Nothing;
+    let e = Cat::E(Mode::Read);
+    let k = Cat::E(Mode::Constant);
+    match key {
+        keys::PORT => fixed(4, Cat::Dir, Cat::Name, Cat::T, Cat::Start),
+        keys::WIRE => fixed(3, Cat::Name, e, Cat::Start, no),
+        keys::REG => fixed(2, Cat::Name, Cat::Start, no, no),
+        keys::MEM => fixed(2, Cat::Name, Cat::Start, no, no),
+        keys::CONST => fixed(2, Cat::Name, k, no, no),
+        keys::DRIVE => fixed(2, Cat::Lv, e, no, no),
+        keys::ON => behind(1, Cat::Start, Cat::S, Cat::S, Cat::S, Cat::S),
+        keys::INST => behind(4, Cat::Name, Cat::X, Cat::Mod, Cat::Start, Cat::C),
+        keys::REPEAT => behind(3, Cat::Name, k, k, Cat::I, Cat::I),
+        keys::CONSTIF => fixed(3, k, Cat::ThenI, Cat::ElseI, no),
+        _ => no_shape(),
+    }
+}
+
+fn line_shape(key: u64) -> Shape
+    ensures { λ r. ⌜ r ≡ line-shape key ⌝ }
+{
+    let no = Cat::Nothing;
+    match key {
+        keys::MODULE => fixed(2, Cat::Count, Cat::Bound, no, no),
+        keys::KIND => fixed(2, Cat::Name, Cat::Kind, no, no),
+        keys::VAL => fixed(2, Cat::Name, Cat::Int, no, no),
+        _ => item_shape(key),
+    }
+}
+
+// The parts behind a head word of a form of a category.
+pub fn shape_of(cat: Cat, key: u64, named: bool) -> Shape
+    ensures { λ r. ⌜ r ≡ shape cat key named ⌝ }
+{
+    let no = Cat::Nothing;
+    let k = Cat::E(Mode::Constant);
+    match cat {
+        Cat::Name => no_shape(),
+        Cat::Start => no_shape(),
+        Cat::Mod => no_shape(),
+        Cat::Count => no_shape(),
+        Cat::Int => no_shape(),
+        Cat::Kind => no_shape(),
+        Cat::Dir => no_shape(),
+        Cat::Bound => no_shape(),
+        Cat::E(m) => expr_shape(m, op_of(key), named),
+        Cat::X => expr_shape(Mode::Constant, op_of(key), named),
+        Cat::T => width_shape(key),
+        Cat::Lv => lone(key, keys::LV, fixed(2, Cat::Name, Cat::Start, k, k)),
+        Cat::C => lone(
+            key,
+            keys::CONN,
+            fixed(2, Cat::Name, Cat::E(Mode::Read), no, no),
+        ),
+        Cat::S => stmt_shape(key),
+        Cat::I => item_shape(key),
+        Cat::ThenS => lone(
+            key,
+            keys::THEN,
+            behind(0, Cat::S, Cat::S, Cat::S, Cat::S, Cat::S),
+        ),
+        Cat::ElseS => lone(
+            key,
+            keys::ELSE,
+            behind(0, Cat::S, Cat::S, Cat::S, Cat::S, Cat::S),
+        ),
+        Cat::ThenI => lone(
+            key,
+            keys::THEN,
+            behind(0, Cat::I, Cat::I, Cat::I, Cat::I, Cat::I),
+        ),
+        Cat::ElseI => lone(
+            key,
+            keys::ELSE,
+            behind(0, Cat::I, Cat::I, Cat::I, Cat::I, Cat::I),
+        ),
+        Cat::L => line_shape(key),
+        Cat::Nothing => no_shape(),
+    }
+}
+
+fn fewer(n: u8) -> u8
+    ensures { λ r. ⌜ r ≡ n - 1 ⌝ }
+{
+    if n == 0 { 0 } else { n - 1 }
+}
+
+// What is left of a shape behind one part.
+fn shift(q: Shape) -> Shape
+    ensures { λ r. ⌜ r ≡ shift q ⌝ }
+{
+    let need = fewer(q.need);
+    let a = q.b;
+    let b = q.c;
+    let c = q.d;
+    let d = q.last;
+    Shape {
+        need,
+        a,
+        b,
+        c,
+        d,
+        last: d,
+        fine: q.fine,
+    }
+}
+
+// ---- parts
+
+fn literal(s: &[u8], at: usize) -> Parsed
+    ensures { λ r. ⌜ r ≡ literal (now (s .entry)) at ⌝ }
+{
+    if digit(at8(s, at)) {
+        return numbered(number_at(s, at), NUMBERS);
+    }
+    let w = word_at(s, at);
+    worded(either(w.key, keys::TRUE, keys::FALSE), w.next)
+}
+
+// A part with no brackets.
+fn atom(s: &[u8], at: usize, cat: Cat) -> Parsed
+    ensures { λ r. ⌜ r ≡ atom cat (now (s .entry)) at ⌝ }
+{
+    match cat {
+        Cat::Name => numbered(number_at(s, at), NAMES),
+        Cat::Start => numbered(number_at(s, at), NUMBERS),
+        Cat::Mod => numbered(number_at(s, at), MODS),
+        Cat::Count => counted(number_at(s, at)),
+        Cat::Int => int(s, at),
+        Cat::Kind => {
+            let w = word_at(s, at);
+            worded(kind_of(w.key) != 0, w.next)
+        }
+        Cat::Dir => {
+            let w = word_at(s, at);
+            worded(either(w.key, keys::IN, keys::OUT), w.next)
+        }
+        Cat::Bound => {
+            let w = word_at(s, at);
+            worded(either(w.key, keys::BOUND, keys::UNBOUND), w.next)
+        }
+        Cat::E(_) => literal(s, at),
+        Cat::X => {
+            if at8(s, at) == b'-' {
+                worded(true, at + 1)
+            } else {
+                literal(s, at)
+            }
+        }
+        Cat::T => {
+            let w = word_at(s, at);
+            worded(either(w.key, keys::BIT, keys::OPAQUE), w.next)
+        }
+        Cat::Lv => Parsed::Bad,
+        Cat::C => Parsed::Bad,
+        Cat::S => Parsed::Bad,
+        Cat::I => Parsed::Bad,
+        Cat::ThenS => Parsed::Bad,
+        Cat::ElseS => Parsed::Bad,
+        Cat::ThenI => Parsed::Bad,
+        Cat::ElseI => Parsed::Bad,
+        Cat::L => Parsed::Bad,
+        Cat::Nothing => Parsed::Bad,
+    }
+}
+
+// The part of a category at a position, at most `depth` brackets deep.
+pub fn part(s: &[u8], at: usize, cat: Cat, depth: u32) -> Parsed
+    ensures { λ r. ⌜ r ≡ scan depth cat (now (s .entry)) at ⌝ }
+{
+    if at8(s, at) != b'(' {
+        return atom(s, at, cat);
+    }
+    if depth == 0 {
+        return Parsed::Bad;
+    }
+    let w = word_at(s, at + 1);
+    let mut i = w.next;
+    let mut q = shape_of(cat, w.key, peek(s, i));
+    let mut range = true;
+    let mut places = q.fine;
+    let mut left = s.len();
+    while 0 < left {
+        left -= 1;
+        let c = at8(s, i);
+        if c == b')' {
+            if q.need == 0 {
+                return Parsed::Good {
+                    next: i + 1,
+                    range,
+                    places,
+                };
+            }
+            return Parsed::Bad;
+        }
+        if c != b' ' {
+            return Parsed::Bad;
+        }
+        let a = q.a;
+        match part(s, i + 1, a, depth - 1) {
+            Parsed::Bad => return Parsed::Bad,
+            Parsed::Good {
+                next,
+                range: r,
+                places: p,
+            } => {
+                i = next;
+                range = both(range, r);
+                places = both(places, p);
+                q = shift(q);
+            }
+        }
+    }
+    Parsed::Bad
+}
