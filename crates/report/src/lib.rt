@@ -106,7 +106,12 @@ pub fn count_walk_node(n: Node) -> usize
 {
     match n {
         Node::Signal(name) => 1 + count_number(name),
-        Node::Output { inst, indexed, index, out } => {
+        Node::Output {
+            inst,
+            indexed,
+            index,
+            out,
+        } => {
             let a = count_number(inst);
             let b = count_index(indexed, index);
             let c = count_number(out);
@@ -277,7 +282,12 @@ fn write_walk_node(buf: &mut [u8], at: usize, n: Node) -> usize
 {
     match n {
         Node::Signal(name) => write_field(buf, at, name),
-        Node::Output { inst, indexed, index, out } => write_output(buf, at, inst, indexed, index, out),
+        Node::Output {
+            inst,
+            indexed,
+            index,
+            out,
+        } => write_output(buf, at, inst, indexed, index, out),
     }
 }
 
