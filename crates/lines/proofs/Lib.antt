@@ -1,3 +1,13 @@
-pub mod PartLaws
-pub mod WordLaws
+pub mod Atoms
+pub mod Built
+pub mod Complete
+pub mod Formed
+pub mod Laws
+pub mod Made
+pub mod MadeItems
 pub mod NumberLaws
+pub mod PartLaws
+pub mod Sound
+pub mod Spelled
+pub mod Trees
+pub mod WordLaws

@@ -1,3 +1,5 @@
+pub mod Bytes
+pub mod Numbers
+pub mod Parse
 pub mod Parts
 pub mod Words
-pub mod Numbers
