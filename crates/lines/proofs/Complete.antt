@@ -29,7 +29,7 @@ abbrev pub Reads : ℕ → Bytes → (Cat → ℕ → Parsed) → Type 0
 Reads d t f = (c : Cat) (x : Tree c) (i : ℕ) (r : Bytes) → drop i t ≡ show c x ++ r → Stops r → depth c x ≤ d → f c i ≡ Good (i + length (show c x)) (range c x) (places c x)
 
 -- what follows a part of a form stops it
-rest-stops : (xs : List Bytes) (r : Bytes) → Stops (show-rest xs ++ r)
+pub rest-stops : (xs : List Bytes) (r : Bytes) → Stops (show-rest xs ++ r)
 unfolding show-rest classOf
 rest-stops [] r = refl
 rest-stops (x ∷ xs) r = refl

@@ -1,5 +1,4 @@
 pub mod Bytes
-pub mod Numbers
 pub mod Parse
-pub mod Parts
-pub mod Words
+pub mod Read
+pub mod Verdict

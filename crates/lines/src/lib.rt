@@ -1,7 +1,5 @@
-// The line format: character classes, parts of a form, head words, numbers, and the grammar of a line.
+// The reader of the text: refusals 1 to 8.
 pub mod bytes;
 pub mod keys;
-pub mod numbers;
 pub mod parse;
-pub mod parts;
-pub mod words;
+pub mod read;

@@ -1,0 +1,4 @@
+pub mod Rows
+pub mod Added
+pub mod Pairs
+pub mod Sites

@@ -1,0 +1,129 @@
+-- Sites in the table, and the search for a conflict. Assumes nothing.
+use mathlib.Core.Path.{_≡_, refl, sym, ap, _∙_}
+use mathlib.Core.Bool.{Bool, true, false, _&&_}
+use mathlib.Core.List.{List, [], _∷_}
+use mathlib.Core.Option.{Option, some, none}
+use Prim.Native.Nat.{ℕ, zero, suc, _+_, _*_, _-_, _<_, _≤_}
+use native.Mathlib.Omega.{arith}
+use native.Mathlib.Numerals.{add-one}
+use lib.Dec.{eqb, leb}
+use lib.ListN.{length, getD}
+use borrow.Author.Tests.{eq-eqb, ne-eqb, lt-leb, le-leb}
+use Rattle.spec.specs.Site.{Extent, Whole, Range, Dynamic, Unknown, Site, meets, sites-of, meets-any, first-conflict}
+use Rattle.sites.specs.declared.Extent as declared
+use Rattle.sites.specs.declared.Extent.the-variants as extent
+use Rattle.sites.specs.Own.{extent-of, extent-from, run, row, site-table, site-from, before, hits}
+use Rattle.sites.proofs.Rows.{run-step, run-end, row-at}
+use Rattle.sites.proofs.Pairs.{row-name}
+
+-- an extent by its code
+pub extent-whole : {c : ℕ} (l h : ℕ) → c ≡ 0 → extent-of extent.Whole ≡ extent-from c l h
+unfolding extent-from
+extent-whole l h e = sym (rw (eq-eqb _ _ e, extent-from))
+
+pub extent-range : {c : ℕ} (l h : ℕ) → ¬ (c ≡ 0) → c ≡ 1 → extent-of (extent.Range l h) ≡ extent-from c l h
+unfolding extent-from
+extent-range l h z e = sym (rw (ne-eqb _ _ z, eq-eqb _ _ e, extent-from))
+
+pub extent-dynamic : {c : ℕ} (l h : ℕ) → ¬ (c ≡ 0) → ¬ (c ≡ 1) → c ≡ 2 → extent-of extent.Dynamic ≡ extent-from c l h
+unfolding extent-from
+extent-dynamic l h z y e = sym (rw (ne-eqb _ _ z, ne-eqb _ _ y, eq-eqb _ _ e, extent-from))
+
+pub extent-unknown : {c : ℕ} (l h : ℕ) → ¬ (c ≡ 0) → ¬ (c ≡ 1) → ¬ (c ≡ 2) → extent-of extent.Unknown ≡ extent-from c l h
+unfolding extent-from
+extent-unknown l h z y x = sym (rw (ne-eqb _ _ z, ne-eqb _ _ y, ne-eqb _ _ x, extent-from))
+
+-- a site that is asked for
+pub hits-other : (n : ℕ) (x : Extent) (s : Site) → ¬ (s .name ≡ n) → hits n x s ≡ false
+unfolding hits
+hits-other n x s d = rw (ne-eqb n (s .name) (λ e. d (sym e)), hits)
+
+pub hits-own : (n : ℕ) (x : Extent) (s : Site) → s .name ≡ n → hits n x s ≡ meets (s .extent) x
+unfolding hits
+hits-own n x s e = rw (eq-eqb n (s .name) (sym e), hits)
+
+pub ranges-apart : (l h l′ h′ : ℕ) → h′ < l → (leb l h′ && leb l′ h) ≡ false
+ranges-apart l h l′ h′ e = rw (lt-leb l h′ e)
+
+pub ranges-from : (l h l′ h′ : ℕ) → l ≤ h′ → (leb l h′ && leb l′ h) ≡ leb l′ h
+ranges-from l h l′ h′ e = rw (le-leb l h′ e)
+
+-- earlier sites, the newest first
+module _ (n : ℕ) (f : ℕ → Site) where
+  before-own : (k : ℕ) → f k .name ≡ n → before n f (k + 1) ≡ f k ∷ before n f k
+  unfolding before
+  before-own k e = rw (add-one k, eq-eqb n (f k .name) (sym e), before)
+
+  before-other : (k : ℕ) → ¬ (f k .name ≡ n) → before n f (k + 1) ≡ before n f k
+  unfolding before
+  before-other k d = rw (add-one k, ne-eqb n (f k .name) (λ e. d (sym e)), before)
+
+  any-step : (k : ℕ) (x : Extent) (b : Bool) → eqb n (f k .name) ≡ b → hits n x (f k) ≡ false → meets-any (before n f (suc k)) x ≡ meets-any (before n f k) x
+  unfolding before hits meets-any
+  any-step k x true e h = rw (e, before) (rw ((rw (e, hits) at h), meets-any))
+  any-step k x false e h = rw (e, before)
+
+  any-found : (k : ℕ) (x : Extent) (b : Bool) → eqb n (f k .name) ≡ b → hits n x (f k) ≡ true → meets-any (before n f (suc k)) x ≡ true
+  unfolding before hits meets-any
+  any-found k x true e h = rw (e, before) (rw ((rw (e, hits) at h), meets-any))
+  any-found k x false e h = let z : _≡_ {A = Bool} false true = rw (e, hits) at h in absurd (no-eq z)
+    where
+      no-eq : _≡_ {A = Bool} false true → ⊥
+      no-eq z = let y : _≡_ {A = ℕ} 0 1 = cc in omega arith
+
+  pub any-none : (x : Extent) → meets-any (before n f 0) x ≡ false
+  unfolding before meets-any
+  any-none x = refl
+
+  pub any-miss : (k : ℕ) (x : Extent) → 0 < k → hits n x (f (k - 1)) ≡ false → meets-any (before n f (k - 1)) x ≡ meets-any (before n f k) x
+  any-miss k x p h = let e : suc (k - 1) ≡ k = omega arith in sym (any-step (k - 1) x (eqb n (f (k - 1) .name)) refl h) ∙ ap (λ (j : ℕ). meets-any (before n f j) x) e
+
+  pub any-hit : (k : ℕ) (x : Extent) → 0 < k → hits n x (f (k - 1)) ≡ true → meets-any (before n f k) x ≡ true
+  any-hit k x p h = let e : suc (k - 1) ≡ k = omega arith in ap (λ (j : ℕ). meets-any (before n f j) x) (sym e) ∙ any-found (k - 1) x (eqb n (f (k - 1) .name)) refl h
+
+  -- the search from a place on
+  abbrev pub search-from : ℕ → ℕ → Option ℕ
+  search-from i m = first-conflict (before n f i) (sites-of n (run f i (m - i)))
+
+  here-own : (i m : ℕ) → i < m → f i .name ≡ n → sites-of n (run f i (m - i)) ≡ f i ∷ sites-of n (run f (i + 1) (m - (i + 1)))
+  unfolding sites-of
+  here-own i m h e = ap (sites-of n) (run-step f i m h) ∙ rw (eq-eqb n (f i .name) (sym e), sites-of)
+
+  here-other : (i m : ℕ) → i < m → ¬ (f i .name ≡ n) → sites-of n (run f i (m - i)) ≡ sites-of n (run f (i + 1) (m - (i + 1)))
+  unfolding sites-of
+  here-other i m h d = ap (sites-of n) (run-step f i m h) ∙ rw (ne-eqb n (f i .name) (λ e. d (sym e)), sites-of)
+
+  pub conflict-skip : (i m : ℕ) → i < m → ¬ (f i .name ≡ n) → search-from (i + 1) m ≡ search-from i m
+  conflict-skip i m h d = rw (before-other i d, here-other i m h d)
+
+  pub conflict-hit : (i m : ℕ) → i < m → f i .name ≡ n → meets-any (before n f i) (f i .extent) ≡ true → some (f i .start) ≡ search-from i m
+  unfolding first-conflict
+  conflict-hit i m h e a = sym (ap (first-conflict (before n f i)) (here-own i m h e) ∙ rw (a, first-conflict))
+
+  pub conflict-miss : (i m : ℕ) → i < m → f i .name ≡ n → meets-any (before n f i) (f i .extent) ≡ false → search-from (i + 1) m ≡ search-from i m
+  unfolding first-conflict
+  conflict-miss i m h e a =
+      ap (λ l. first-conflict l (sites-of n (run f (i + 1) (m - (i + 1))))) (before-own i e)
+      ∙ sym (ap (first-conflict (before n f i)) (here-own i m h e) ∙ rw (a, first-conflict))
+
+  pub conflict-end : (i m : ℕ) → m ≤ i → none ≡ search-from i m
+  unfolding first-conflict sites-of
+  conflict-end i m h = sym (rw (run-end f i m h))
+
+  pub conflict-start : (m : ℕ) → search-from 0 m ≡ first-conflict [] (sites-of n (run f 0 m))
+  unfolding before
+  conflict-start m = let e : m - 0 ≡ m = omega arith in ap (λ (k : ℕ). first-conflict [] (sites-of n (run f 0 k))) e
+
+-- a site as it stands in its row
+pub site-read : (own : List ℕ) (i : ℕ) (x : declared.Extent) → extent-of x ≡ extent-from (getD own (8 + 5 * i + 1) 0) (getD own (8 + 5 * i + 2) 0) (getD own (8 + 5 * i + 3) 0)
+    → _≡_ {A = Site} (record { name = getD own (8 + 5 * i) 0; extent = extent-of x; start = getD own (8 + 5 * i + 4) 0 }) (site-from (row site-table own i))
+site-read own i x e =
+    let a = row-at site-table own i 1 (omega arith) in
+    let b = row-at site-table own i 2 (omega arith) in
+    let c = row-at site-table own i 3 (omega arith) in
+    let d = row-at site-table own i 4 (omega arith) in
+    λ j. record {
+      name = sym (row-name site-table own i (omega arith)) j;
+      extent = (e ∙ (λ k. extent-from (sym a k) (sym b k) (sym c k))) j;
+      start = sym d j;
+    }

@@ -1,0 +1,262 @@
+-- The tables of a module's own check, all in one run of numbers, and what it means. 01: The site; The block.
+-- Assumes nothing: these are definitions.
+use mathlib.Core.Bool.{Bool, true, false, _&&_, _||_}
+use mathlib.Core.List.{List, [], _∷_, _++_}
+use mathlib.Core.Option.{Option, some, none}
+use Prim.Native.Nat.{ℕ, zero, suc, _+_, _*_, _-_, _≤_, _<_, min}
+use lib.IntN.{ℤ, pos, negsuc}
+use lib.Dec.{eqb, ltb, leb}
+use lib.ListN.{length, getD, set, take, drop}
+use lib.Seq.{sets}
+use Rattle.spec.specs.Refusal.{has-name}
+use Rattle.spec.specs.Value.{Value, known, missing}
+use Rattle.spec.specs.Site as site
+use Rattle.spec.specs.Site.{Misused, Conflict}
+use Rattle.spec.specs.Block.{Pair, Storage, has-pair}
+use Rattle.sites.specs.declared.Extent.{Extent}
+use Rattle.sites.specs.declared.Extent.the-variants as extent
+use Rattle.sites.specs.declared.Site.{Site}
+use Rattle.sites.specs.declared.Misuse.{Misuse}
+use Rattle.sites.specs.declared.Misuse.the-variants as misuse
+use Rattle.sites.specs.declared.Found.{Found}
+use Rattle.sites.specs.declared.Found.the-variants as found
+use Rattle.sites.specs.declared.Stored.{Stored}
+use Rattle.sites.specs.declared.Stored.the-variants as stored
+
+-- what the code's records mean
+abbrev pub extent-of : Extent → site.Extent
+extent-of extent.Whole = site.Whole
+extent-of (extent.Range l h) = site.Range l h
+extent-of extent.Dynamic = site.Dynamic
+extent-of extent.Unknown = site.Unknown
+
+abbrev pub site-of : Site → site.Site
+site-of s = record { name = s .name; extent = extent-of (s .extent); start = s .start }
+
+abbrev pub misuse-of : Misuse → site.Misuse
+misuse-of misuse.Wire = site.wire-driven
+misuse-of misuse.Reg = site.reg-driven
+misuse-of misuse.Mem = site.mem-driven
+misuse-of misuse.Arrow = site.arrow
+
+-- a table: where its count stands, where its rows begin, how many numbers a row has, and how many rows there are at most
+pub record Table : Type 0 where
+  pub count : ℕ
+  pub base : ℕ
+  pub width : ℕ
+  pub limit : ℕ
+
+-- how many names there are at most
+abbrev pub names : ℕ
+names = 256
+
+abbrev pub site-table : Table
+site-table = record { count = 0; base = 8; width = 5; limit = 1024 }
+
+abbrev pub pair-table : Table
+pair-table = record { count = 1; base = 5128; width = 2; limit = 512 }
+
+abbrev pub port-table : Table
+port-table = record { count = 2; base = 6152; width = 4; limit = names }
+
+abbrev pub reg-table : Table
+reg-table = record { count = 3; base = 6152 + 4 * names; width = 2; limit = names }
+
+abbrev pub mem-table : Table
+mem-table = record { count = 4; base = 6152 + 6 * names; width = 2; limit = names }
+
+abbrev pub misuse-table : Table
+misuse-table = record { count = 5; base = 6152 + 8 * names; width = 3; limit = names }
+
+abbrev pub conflict-table : Table
+conflict-table = record { count = 6; base = 6152 + 11 * names; width = 2; limit = 1024 }
+
+-- how many numbers hold all the tables
+abbrev pub places : ℕ
+places = 8200 + 11 * names
+
+-- what f gives for i, i + 1 and so on, n in all
+unfoldable pub run : {A : Type 0} → (ℕ → A) → ℕ → ℕ → List A
+run f i zero = []
+run f i (suc n) = f i ∷ run f (suc i) n
+
+unfoldable pub row : Table → List ℕ → ℕ → List ℕ
+row t own i = take (t .width) (drop (t .base + t .width * i) own)
+
+-- how many rows a table has; a count past the limit counts as the limit
+unfoldable pub rows-in : Table → List ℕ → ℕ
+rows-in t own = min (getD own (t .count) 0) (t .limit)
+
+abbrev pub items : {A : Type 0} → (List ℕ → A) → Table → List ℕ → List A
+items f t own = run (λ i. f (row t own i)) 0 (rows-in t own)
+
+-- a table by its numbers, and what it takes to work on one
+abbrev pub table : ℕ → ℕ → ℕ → ℕ → Table
+table c b w l = record { count = c; base = b; width = w; limit = l }
+
+pub record Shape (t : Table) (own : List ℕ) : Type 0 where
+  pub inside : t .base + t .width * t .limit ≤ length own
+  pub before : t .count < t .base
+  pub some : 0 < t .width
+  pub narrow : t .width ≤ 5
+  pub few : t .limit ≤ 65536
+
+-- one row more, and its count
+abbrev pub stored-row : Table → List ℕ → ℕ → List ℕ → List ℕ
+stored-row t own n vs = set (sets own (t .base + t .width * n) vs) (t .count) (n + 1)
+
+unfoldable pub pushed : Table → List ℕ → List ℕ → List ℕ
+pushed t own vs = elim (ltb (rows-in t own) (t .limit)) [ true ↦ stored-row t own (rows-in t own) vs | false ↦ own ]
+
+unfoldable pub push-answer : Table → List ℕ → Stored
+push-answer t own = elim (ltb (rows-in t own) (t .limit)) [ true ↦ stored.Done | false ↦ stored.Full ]
+
+-- the names of a table's rows, each the first of its row
+unfoldable pub row-names : Table → List ℕ → List ℕ
+row-names t own = run (λ i. getD own (t .base + t .width * i) 0) 0 (rows-in t own)
+
+-- one row more, where no row has its name
+unfoldable pub first-row : Table → List ℕ → List ℕ → List ℕ
+first-row t own vs = elim (has-name (getD vs 0 0) (row-names t own)) [ true ↦ own | false ↦ pushed t own vs ]
+
+-- rows as records
+unfoldable pub extent-from : ℕ → ℕ → ℕ → site.Extent
+extent-from code low high =
+    elim (eqb code 0) [
+      | true ↦ site.Whole
+      | false ↦ elim (eqb code 1) [
+        | true ↦ site.Range low high
+        | false ↦ elim (eqb code 2) [ true ↦ site.Dynamic | false ↦ site.Unknown ]
+      ]
+    ]
+
+unfoldable pub misuse-from : ℕ → site.Misuse
+misuse-from code =
+    elim (eqb code 0) [
+      | true ↦ site.wire-driven
+      | false ↦ elim (eqb code 1) [
+        | true ↦ site.reg-driven
+        | false ↦ elim (eqb code 2) [ true ↦ site.mem-driven | false ↦ site.arrow ]
+      ]
+    ]
+
+abbrev pub site-from : List ℕ → site.Site
+site-from r = record { name = getD r 0 0; extent = extent-from (getD r 1 0) (getD r 2 0) (getD r 3 0); start = getD r 4 0 }
+
+abbrev pub pair-from : List ℕ → Pair
+pair-from r = record { name = getD r 0 0; block = getD r 1 0 }
+
+-- an output: its first collected `port out` line, and where its width stands in the text
+pub record Port : Type 0 where
+  pub name : ℕ
+  pub start : ℕ
+  pub from : ℕ
+  pub to : ℕ
+
+abbrev pub port-from : List ℕ → Port
+port-from r = record { name = getD r 0 0; start = getD r 1 0; from = getD r 2 0; to = getD r 3 0 }
+
+abbrev pub storage-from : List ℕ → Storage
+storage-from r = record { name = getD r 0 0; start = getD r 1 0 }
+
+abbrev pub misused-from : List ℕ → Misused
+misused-from r = record { name = getD r 0 0; start = getD r 1 0; misuse = misuse-from (getD r 2 0) }
+
+abbrev pub conflict-from : List ℕ → Conflict
+conflict-from r = record { start = getD r 1 0; name = getD r 0 0 }
+
+-- the tables of one module
+pub record Own : Type 0 where
+  pub sites : List site.Site
+  pub pairs : List Pair
+  pub outputs : List Port
+  pub regs : List Storage
+  pub mems : List Storage
+  pub misuses : List Misused
+  pub conflicts : List Conflict
+
+-- what a run of numbers means, whatever stands in it
+unfoldable pub own-of : List ℕ → Own
+own-of own =
+    record {
+      sites = items site-from site-table own;
+      pairs = items pair-from pair-table own;
+      outputs = items port-from port-table own;
+      regs = items storage-from reg-table own;
+      mems = items storage-from mem-table own;
+      misuses = items misused-from misuse-table own;
+      conflicts = items conflict-from conflict-table own;
+    }
+
+-- what an addition answers, and the tables that it leaves
+pub record Added : Type 0 where
+  pub answer : Stored
+  pub own : Own
+
+abbrev pub added : Stored → Own → Added
+added r o = record { answer = r; own = o }
+
+-- one more at the end, where there is room
+unfoldable pub grown : {A : Type 0} → ℕ → A → List A → List A
+grown limit x l = elim (ltb (length l) limit) [ true ↦ l ++ x ∷ [] | false ↦ l ]
+
+abbrev pub room : {A : Type 0} → ℕ → List A → Stored
+room limit l = elim (ltb (length l) limit) [ true ↦ stored.Done | false ↦ stored.Full ]
+
+unfoldable pub names-of : {A : Type 0} → (A → ℕ) → List A → List ℕ
+names-of f [] = []
+names-of f (x ∷ l) = f x ∷ names-of f l
+
+-- the first of each name is kept, at most `names` of them
+unfoldable pub first-kept : {A : Type 0} → (A → ℕ) → A → List A → List A
+first-kept f x l = elim (has-name (f x) (names-of f l)) [ true ↦ l | false ↦ grown names x l ]
+
+-- 01, Refused because of the state: 1,024 sites, 512 pairs of name and block
+unfoldable pub add-site : site.Site → Own → Added
+add-site s o =
+    added (room 1024 (o .sites))
+    (record { sites = grown 1024 s (o .sites); pairs = o .pairs; outputs = o .outputs; regs = o .regs; mems = o .mems; misuses = o .misuses; conflicts = o .conflicts })
+
+abbrev pub with-pairs : List Pair → Own → Own
+with-pairs ps o = record { sites = o .sites; pairs = ps; outputs = o .outputs; regs = o .regs; mems = o .mems; misuses = o .misuses; conflicts = o .conflicts }
+
+unfoldable pub add-pair : Pair → Own → Added
+add-pair p o =
+    elim (has-pair p (o .pairs)) [
+      | true ↦ added stored.Done o
+      | false ↦ added (room 512 (o .pairs)) (with-pairs (grown 512 p (o .pairs)) o)
+    ]
+
+unfoldable pub add-output : Port → Own → Own
+add-output x o = record { sites = o .sites; pairs = o .pairs; outputs = first-kept (λ p. p .name) x (o .outputs); regs = o .regs; mems = o .mems; misuses = o .misuses; conflicts = o .conflicts }
+
+unfoldable pub add-reg : Storage → Own → Own
+add-reg x o = record { sites = o .sites; pairs = o .pairs; outputs = o .outputs; regs = first-kept (λ p. p .name) x (o .regs); mems = o .mems; misuses = o .misuses; conflicts = o .conflicts }
+
+unfoldable pub add-mem : Storage → Own → Own
+add-mem x o = record { sites = o .sites; pairs = o .pairs; outputs = o .outputs; regs = o .regs; mems = first-kept (λ p. p .name) x (o .mems); misuses = o .misuses; conflicts = o .conflicts }
+
+unfoldable pub add-misuse : Misused → Own → Own
+add-misuse x o = record { sites = o .sites; pairs = o .pairs; outputs = o .outputs; regs = o .regs; mems = o .mems; misuses = first-kept (λ p. p .name) x (o .misuses); conflicts = o .conflicts }
+
+-- the whole number that is held as v + 2147483648
+unfoldable pub unbiased : ℕ → ℤ
+unbiased v = elim (ltb v 2147483648) [ true ↦ negsuc (2147483647 - v) | false ↦ pos (v - 2147483648) ]
+
+-- a value that is known, or not (01 takes one outside INT for 20 before this matters)
+abbrev pub value-of : Bool → ℕ → Value
+value-of true v = known (unbiased v)
+value-of false v = missing
+
+abbrev pub found-of : Found → Option ℕ
+found-of (found.At x) = some x
+found-of found.Nothing = none
+
+-- the sites of a name among the first k, the newest first
+unfoldable pub before : ℕ → (ℕ → site.Site) → ℕ → List site.Site
+before n f zero = []
+before n f (suc k) = elim (eqb n (f k .name)) [ true ↦ f k ∷ before n f k | false ↦ before n f k ]
+
+-- whether a site is one of a name and meets an extent
+unfoldable pub hits : ℕ → site.Extent → site.Site → Bool
+hits n x s = elim (eqb n (s .name)) [ true ↦ site.meets (s .extent) x | false ↦ false ]

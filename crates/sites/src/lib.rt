@@ -1,0 +1,383 @@
+// What is said of outputs, registers and memories of one module: drive sites, pairs of name and block, and what their lines are.
+// All tables stand in one lent run of numbers, `own`, with a fixed layout: seven counts, then the rows of each table.
+ghost use mathlib.Core.Path.{_≡_};
+ghost use Prim.Native.Nat.{_+_, _*_, _≤_, _<_, min};
+ghost use mathlib.Core.List.{List, [], _∷_};
+ghost use lib.ListN.{length, getD, take};
+ghost use lib.Seq.{sets};
+ghost use lib.Dec.{leb};
+ghost use mathlib.Core.Bool.{_&&_};
+ghost use Rattle.spec.specs.Site as site;
+ghost use Rattle.spec.specs.Refusal.{has-name};
+ghost use Rattle.spec.specs.Block.{has-pair};
+ghost use Rattle.sites.specs.Own.{extent-of, site-of, misuse-of, extent-from, misuse-from, pair-from, row, rows-in, pair-table, site-table, site-from, found-of, hits, table, Shape, pushed, push-answer, first-row, places, run, own-of, added, add-site, add-pair, add-output, add-reg, add-mem, add-misuse};
+
+// How many names there are at most.
+pub const NAMES: usize = 256;
+
+pub const SITE_LIMIT: usize = 1024;
+
+pub const PAIR_LIMIT: usize = 512;
+
+const SITES: usize = 8;
+
+const PAIRS: usize = SITES + 5 * SITE_LIMIT;
+
+const OUTPUTS: usize = PAIRS + 2 * PAIR_LIMIT;
+
+const REGS: usize = OUTPUTS + 4 * NAMES;
+
+const MEMS: usize = REGS + 2 * NAMES;
+
+const MISUSES: usize = MEMS + 2 * NAMES;
+
+const CONFLICTS: usize = MISUSES + 3 * NAMES;
+// How many numbers hold all the tables.
+pub const OWN: usize = CONFLICTS + 2 * SITE_LIMIT;
+
+pub enum Extent {
+    Whole,
+    Range { low: u32, high: u32 },
+    Dynamic,
+    Unknown,
+}
+
+pub struct Site {
+    pub name: u32,
+    pub extent: Extent,
+    pub start: u32,
+}
+
+pub enum Misuse {
+    Wire,
+    Reg,
+    Mem,
+    Arrow,
+}
+
+// Whether there was room.
+pub enum Stored {
+    Done,
+    Full,
+}
+
+// The count at a place, and `limit` where it is past that.
+fn count_at(own: &[u32], place: usize, limit: usize) -> usize
+    requires { ⌜ place < length (now own) ⌝ }
+    ensures { λ r. ⌜ r ≡ min (getD (now (own .entry)) place 0) limit ⌝ }
+{
+    let n = own[place] as usize;
+    if n < limit {
+        return n;
+    }
+    limit
+}
+
+// The first numbers of a row, from a place on.
+fn put_row(own: &mut [u32], at: usize, width: usize, row: [u32; 5])
+    requires { ⌜ (at + width ≤ length (now own)) × (width ≤ 5) ⌝ }
+    ensures { λ _. ⌜ now (own .exit) ≡ sets (now (own .entry)) at (take width row) ⌝ }
+{
+    let mut k: usize = 0;
+    while k < width {
+        own[at + k] = row[k];
+        k += 1;
+    }
+}
+
+// Whether one of n rows has a name. The rows begin at a place, each with its name.
+fn has_row(own: &[u32], at: usize, width: usize, n: usize, name: u32) -> bool
+    requires { ⌜ (at + width * n ≤ length (now own)) × (0 < width) ⌝ }
+    ensures { λ r. ⌜ r ≡ has-name name (run (λ i. getD (now (own .entry)) (at + width * i) 0) 0 n) ⌝ }
+{
+    let mut i: usize = 0;
+    while i < n {
+        if own[at + width * i] == name {
+            return true;
+        }
+        i += 1;
+    }
+    false
+}
+
+// One row more at the end of a table, where there is room.
+fn push(
+    own: &mut [u32],
+    place: usize,
+    base: usize,
+    width: usize,
+    limit: usize,
+    row: [u32; 5],
+) -> Stored
+    requires { ⌜ Shape (table place base width limit) (now own) ⌝ }
+    ensures { λ r. ⌜ (now (own .exit) ≡ pushed (table place base width limit) (now (own .entry)) (take width row))
+        × (r ≡ push-answer (table place base width limit) (now (own .entry))) ⌝ }
+{
+    let n = count_at(own, place, limit);
+    if limit <= n {
+        return Stored::Full;
+    }
+    put_row(own, base + width * n, width, row);
+    own[place] = (n + 1) as u32;
+    Stored::Done
+}
+
+// One row more, where no row has its name.
+fn push_first(own: &mut [u32], place: usize, base: usize, width: usize, limit: usize, row: [u32; 5])
+    requires { ⌜ Shape (table place base width limit) (now own) ⌝ }
+    ensures { λ _. ⌜ now (own .exit) ≡ first-row (table place base width limit) (now (own .entry)) (take width row) ⌝ }
+{
+    let n = count_at(own, place, limit);
+    let name = row[0];
+    if has_row(own, base, width, n, name) {
+        return;
+    }
+    push(own, place, base, width, limit, row);
+}
+
+// An extent as three numbers.
+struct Coded {
+    code: u32,
+    low: u32,
+    high: u32,
+}
+
+fn extent_code(e: Extent) -> Coded
+    ensures { λ r. ⌜ extent-from (r .code) (r .low) (r .high) ≡ extent-of e ⌝ }
+{
+    match e {
+        Extent::Whole => Coded {
+            code: 0,
+            low: 0,
+            high: 0,
+        },
+        Extent::Range { low, high } => Coded { code: 1, low, high },
+        Extent::Dynamic => Coded {
+            code: 2,
+            low: 0,
+            high: 0,
+        },
+        Extent::Unknown => Coded {
+            code: 3,
+            low: 0,
+            high: 0,
+        },
+    }
+}
+
+fn misuse_code(m: Misuse) -> u32
+    ensures { λ r. ⌜ misuse-from r ≡ misuse-of m ⌝ }
+{
+    match m {
+        Misuse::Wire => 0,
+        Misuse::Reg => 1,
+        Misuse::Mem => 2,
+        Misuse::Arrow => 3,
+    }
+}
+
+// A drive site of an output; one past 1,024 gives Full.
+pub fn add_site(own: &mut [u32], s: Site) -> Stored
+    requires { ⌜ length (now own) ≡ places ⌝ }
+    ensures { λ r. ⌜ added r (own-of (now (own .exit))) ≡ add-site (site-of s) (own-of (now (own .entry))) ⌝ }
+{
+    let e = s.extent;
+    let x = extent_code(e);
+    push(
+        own,
+        0,
+        SITES,
+        5,
+        SITE_LIMIT,
+        [s.name, x.code, x.low, x.high, s.start],
+    )
+}
+
+// An output's first collected line; its width stands at from..to of the text.
+pub fn add_output(own: &mut [u32], name: u32, start: u32, from: u32, to: u32)
+    requires { ⌜ length (now own) ≡ places ⌝ }
+    ensures { λ _. ⌜ own-of (now (own .exit))
+        ≡ add-output (record { name = name; start = start; from = from; to = to }) (own-of (now (own .entry))) ⌝ }
+{
+    push_first(own, 2, OUTPUTS, 4, NAMES, [name, start, from, to, 0]);
+}
+
+// A register's first collected line.
+pub fn add_reg(own: &mut [u32], name: u32, start: u32)
+    requires { ⌜ length (now own) ≡ places ⌝ }
+    ensures { λ _. ⌜ own-of (now (own .exit)) ≡ add-reg (record { name = name; start = start }) (own-of (now (own .entry))) ⌝ }
+{
+    push_first(own, 3, REGS, 2, NAMES, [name, start, 0, 0, 0]);
+}
+
+// A memory's first collected line.
+pub fn add_mem(own: &mut [u32], name: u32, start: u32)
+    requires { ⌜ length (now own) ≡ places ⌝ }
+    ensures { λ _. ⌜ own-of (now (own .exit)) ≡ add-mem (record { name = name; start = start }) (own-of (now (own .entry))) ⌝ }
+{
+    push_first(own, 4, MEMS, 2, NAMES, [name, start, 0, 0, 0]);
+}
+
+// The first misuse of a name, which poisons it.
+pub fn add_misuse(own: &mut [u32], name: u32, start: u32, kind: Misuse)
+    requires { ⌜ length (now own) ≡ places ⌝ }
+    ensures { λ _. ⌜ own-of (now (own .exit))
+        ≡ add-misuse (record { name = name; start = start; misuse = misuse-of kind }) (own-of (now (own .entry))) ⌝ }
+{
+    let code = misuse_code(kind);
+    push_first(own, 5, MISUSES, 3, NAMES, [name, start, code, 0, 0]);
+}
+
+// Whether a pair of name and block is there.
+fn has_pair(own: &[u32], n: usize, name: u32, block: u32) -> bool
+    requires { ⌜ (length (now own) ≡ places) × (n ≤ 512) ⌝ }
+    ensures { λ r. ⌜ r ≡ has-pair (record { name = name; block = block }) (run (λ i. pair-from (row pair-table (now (own .entry)) i)) 0 n) ⌝ }
+{
+    let mut i: usize = 0;
+    while i < n {
+        if own[PAIRS + 2 * i] == name {
+            if own[PAIRS + 2 * i + 1] == block {
+                return true;
+            }
+            i += 1;
+            continue;
+        }
+        i += 1;
+    }
+    false
+}
+
+// A pair of name and block, where it is a new one; one past 512 gives Full.
+pub fn add_pair(own: &mut [u32], name: u32, block: u32) -> Stored
+    requires { ⌜ length (now own) ≡ places ⌝ }
+    ensures { λ r. ⌜ added r (own-of (now (own .exit))) ≡ add-pair (record { name = name; block = block }) (own-of (now (own .entry))) ⌝ }
+{
+    let n = count_at(own, 1, PAIR_LIMIT);
+    if has_pair(own, n, name, block) {
+        return Stored::Done;
+    }
+    push(own, 1, PAIRS, 2, PAIR_LIMIT, [name, block, 0, 0, 0])
+}
+
+// What is looked for, or nothing.
+pub enum Found {
+    At(u32),
+    Nothing,
+}
+
+fn extent_from(code: u32, low: u32, high: u32) -> Extent
+    ensures { λ r. ⌜ extent-of r ≡ extent-from code low high ⌝ }
+{
+    if code == 0 {
+        return Extent::Whole;
+    }
+    if code == 1 {
+        return Extent::Range { low, high };
+    }
+    if code == 2 {
+        return Extent::Dynamic;
+    }
+    Extent::Unknown
+}
+
+// How many sites there are.
+pub fn site_count(own: &[u32]) -> usize
+    requires { ⌜ length (now own) ≡ places ⌝ }
+    ensures { λ r. ⌜ (r ≡ rows-in site-table (now (own .entry))) × (r ≤ 1024) ⌝ }
+{
+    count_at(own, 0, SITE_LIMIT)
+}
+
+// The site in row i.
+pub fn site_at(own: &[u32], i: usize) -> Site
+    requires { ⌜ (length (now own) ≡ places) × (i < 1024) ⌝ }
+    ensures { λ r. ⌜ site-of r ≡ site-from (row site-table (now (own .entry)) i) ⌝ }
+{
+    let at = SITES + 5 * i;
+    let extent = extent_from(own[at + 1], own[at + 2], own[at + 3]);
+    Site {
+        name: own[at],
+        extent,
+        start: own[at + 4],
+    }
+}
+
+// Whether two extents have a bit in common, as far as that is known.
+pub fn meets(a: Extent, b: Extent) -> bool
+    ensures { λ r. ⌜ r ≡ site.meets (extent-of a) (extent-of b) ⌝ }
+{
+    match a {
+        Extent::Unknown => false,
+        Extent::Whole => match b {
+            Extent::Unknown => false,
+            Extent::Whole => true,
+            Extent::Dynamic => true,
+            Extent::Range { low: _, high: _ } => true,
+        },
+        Extent::Dynamic => match b {
+            Extent::Unknown => false,
+            Extent::Whole => true,
+            Extent::Dynamic => true,
+            Extent::Range { low: _, high: _ } => true,
+        },
+        Extent::Range { low, high } => match b {
+            Extent::Unknown => false,
+            Extent::Whole => true,
+            Extent::Dynamic => true,
+            Extent::Range {
+                low: from,
+                high: to,
+            } => ranges_meet(low, high, from, to),
+        },
+    }
+}
+
+fn ranges_meet(low: u32, high: u32, from: u32, to: u32) -> bool
+    ensures { λ r. ⌜ r ≡ (leb low to && leb from high) ⌝ }
+{
+    if to < low {
+        return false;
+    }
+    from <= high
+}
+
+// Whether the site in row i is one of the name and meets the extent.
+fn meets_at(own: &[u32], i: usize, name: u32, x: Extent) -> bool
+    requires { ⌜ (length (now own) ≡ places) × (i < 1024) ⌝ }
+    ensures { λ r. ⌜ r ≡ hits name (extent-of x) (site-from (row site-table (now (own .entry)) i)) ⌝ }
+{
+    let s = site_at(own, i);
+    if s.name != name {
+        return false;
+    }
+    let y = s.extent;
+    meets(y, x)
+}
+
+// The START of the first later site of a name that meets an earlier one.
+pub fn first_conflict(own: &[u32], name: u32) -> Found
+    requires { ⌜ length (now own) ≡ places ⌝ }
+    ensures { λ r. ⌜ found-of r ≡ site.first-conflict [] (site.sites-of name (own-of (now (own .entry)) .sites)) ⌝ }
+{
+    let n = site_count(own);
+    let mut found = Found::Nothing;
+    let mut later: usize = 0;
+    'search: while later < n {
+        let s = site_at(own, later);
+        if s.name != name {
+            later += 1;
+            continue;
+        }
+        let x = s.extent;
+        let mut earlier = later;
+        while 0 < earlier {
+            earlier -= 1;
+            if meets_at(own, earlier, name, x) {
+                found = Found::At(s.start);
+                break 'search;
+            }
+        }
+        later += 1;
+    }
+    found
+}
