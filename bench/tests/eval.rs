@@ -13,6 +13,9 @@ const DAMAGED: u64 = 30_000;
 const DEEPEST: u64 = 30;
 const SEED: u64 = 1;
 
+/// Bytes that a text of the format has at most.
+const LONGEST: usize = 32_768;
+
 /// Names come from these, so that some come twice in a table.
 const NAME_BOUND: u64 = 20;
 
@@ -293,9 +296,10 @@ fn any_depth(rng: &mut Rng) -> u32 {
 /// An answer on any bytes, at any depth, over any table; what lies behind the slices is not read.
 #[test]
 fn damaged_bytes() {
-    let (mut known, mut missing, mut outside) = (0, 0, 0);
+    let (mut known, mut missing, mut outside, mut longest) = (0, 0, 0, 0);
     for i in 0..DAMAGED {
         let bytes = damaged(i);
+        longest = longest.max(bytes.len());
         let mut rng = Rng::new("tables", SEED, i);
         let depth = any_depth(&mut rng);
         let names: Vec<u32> = (0..rng.below(9)).map(|_| rng.below(300) as u32).collect();
@@ -319,8 +323,22 @@ fn damaged_bytes() {
             Err(code) => panic!("{i}: the code {code} means nothing: {bytes:?} {depth}"),
         }
     }
-    println!(
-        "{DAMAGED:>8}  damaged: {known} with a value, {missing} without, {outside} outside INT"
-    );
+    println!("{DAMAGED:>8}  damaged, to {longest} bytes, at any depth");
+    println!("{known:>8}  with a value, {missing} without, {outside} outside INT");
     assert!(known > 0 && missing > 0 && outside > 0);
+}
+
+/// As long as a text of the format can be, and as deep: one piece again and again.
+#[test]
+fn long_bytes() {
+    let mut done = 0;
+    for (k, piece) in PIECES.iter().enumerate() {
+        for depth in [0, 1, 2, 31, DEPTH] {
+            let bytes: Vec<u8> = piece.iter().copied().cycle().take(LONGEST - k).collect();
+            let answer = archive::eval(&bytes, depth, &[], 0);
+            assert!(answer.is_ok(), "{k} {depth}: {answer:?}");
+            done += 1;
+        }
+    }
+    println!("{done:>8}  damaged, about {LONGEST} bytes, to depth {DEPTH}");
 }

@@ -21,6 +21,9 @@ extern "C" {
 
 /// The code of the value of the expression `e`, at most `depth` brackets deep, under the first
 /// `used` pairs of `names`: a name and its value as `biased` has it, the newest pair last.
+///
+/// The archive goes into brackets by recursion, as far as `depth` lets it: about 370 bytes of stack
+/// for each level. The format needs 32; a `depth` of thousands on bytes as deep ends the process.
 pub fn code(e: &[u8], depth: u32, names: &[u32], used: usize) -> u64 {
     // SAFETY: both slices are passed with their own lengths, the archive only reads them, and it
     // keeps neither pointer.

@@ -1,5 +1,8 @@
-// The reader of the text: refusals 1 to 8.
+// The line format: character classes, parts of a form, head words, numbers, the grammar of a line, and the reader.
 pub mod bytes;
 pub mod keys;
+pub mod numbers;
 pub mod parse;
+pub mod parts;
 pub mod read;
+pub mod words;

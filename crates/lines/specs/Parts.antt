@@ -1,0 +1,104 @@
+-- Where the parts of a form begin and end in its bytes.
+-- Assumes nothing: these are definitions.
+use mathlib.Core.Bool.{Bool, true, false}
+use mathlib.Core.List.{List, [], _∷_}
+use Prim.Native.Nat.{ℕ, zero, suc, _+_, _-_}
+use lib.ListN.{take, drop, getD}
+use lib.Dec.{eqb}
+use Rattle.spec.specs.Bytes.{Bytes, parts-from}
+use Rattle.lines.specs.declared.parts.Operands.{Operands}
+use Rattle.lines.specs.declared.parts.Operands.the-variants.{Zero, One, Two, Three, Four, More}
+use Rattle.lines.specs.declared.parts.Single.{Single}
+use Rattle.lines.specs.declared.parts.Single.the-variants.{Is, Not as not-one}
+use Rattle.lines.specs.declared.parts.Pair.{Pair}
+use Rattle.lines.specs.declared.parts.Pair.the-variants.{Are as two, Not as not-two}
+use Rattle.lines.specs.declared.parts.Triple.{Triple}
+use Rattle.lines.specs.declared.parts.Triple.the-variants.{Are as three, Not as not-three}
+
+-- how many bytes there are to the end of the part that stands first, k brackets being open in it
+unfoldable pub scan : ℕ → Bytes → ℕ
+scan k [] = 0
+scan k (c ∷ s) =
+    elim (eqb c 40) [
+      | true ↦ suc (scan (suc k) s)
+      | false ↦ elim (eqb c 41) [
+        | true ↦ elim k [ zero ↦ 0 | suc j ↦ suc (scan j s) ]
+        | false ↦ elim (eqb c 32) [
+          | true ↦ elim k [ zero ↦ 0 | suc j ↦ suc (scan (suc j) s) ]
+          | false ↦ suc (scan k s)
+        ]
+      ]
+    ]
+
+-- the end of the part that starts at `at`
+abbrev pub part-end : Bytes → ℕ → ℕ
+part-end s at = at + scan 0 (drop at s)
+
+-- the bytes behind the one at `before`, up to `end`
+unfoldable pub piece : Bytes → ℕ → ℕ → Bytes
+piece s before end = take (end - (before + 1)) (drop (before + 1) s)
+
+-- whether another part stands behind the one that ends here
+abbrev pub follows : Bytes → ℕ → Bool
+follows s end = eqb (getD s end 0) 32
+
+-- the end of the part that stands behind the byte at `before`
+unfoldable pub next-end : Bytes → ℕ → ℕ
+next-end s before = part-end s (before + 1)
+
+-- the parts that stand behind the byte at `before`, and those behind the part that ends at `end`
+unfoldable pub parts-behind : Bytes → ℕ → List Bytes
+parts-behind s before = parts-from 0 (drop (before + 1) s)
+
+unfoldable pub others : Bytes → ℕ → List Bytes
+others s end = elim (follows s end) [ true ↦ parts-behind s end | false ↦ [] ]
+
+-- those parts by their number, each by its end; a, b, c and d are the ends of those that were found
+unfoldable pub four-or-more : Bytes → ℕ → ℕ → ℕ → ℕ → Operands
+four-or-more s a b c d = elim (follows s d) [ true ↦ More | false ↦ Four a b c d ]
+
+unfoldable pub three-or-more : Bytes → ℕ → ℕ → ℕ → Operands
+three-or-more s a b c = elim (follows s c) [ true ↦ four-or-more s a b c (next-end s c) | false ↦ Three a b c ]
+
+unfoldable pub two-or-more : Bytes → ℕ → ℕ → Operands
+two-or-more s a b = elim (follows s b) [ true ↦ three-or-more s a b (next-end s b) | false ↦ Two a b ]
+
+unfoldable pub one-or-more : Bytes → ℕ → Operands
+one-or-more s a = elim (follows s a) [ true ↦ two-or-more s a (next-end s a) | false ↦ One a ]
+
+unfoldable pub operands-of : Bytes → ℕ → Operands
+operands-of s end = elim (follows s end) [ true ↦ one-or-more s (next-end s end) | false ↦ Zero ]
+
+-- just one, two or three of them
+abbrev pub to-single : Operands → Single
+to-single Zero = not-one
+to-single (One a) = Is a
+to-single (Two a b) = not-one
+to-single (Three a b c) = not-one
+to-single (Four a b c d) = not-one
+to-single More = not-one
+
+abbrev pub to-pair : Operands → Pair
+to-pair Zero = not-two
+to-pair (One a) = not-two
+to-pair (Two a b) = two a b
+to-pair (Three a b c) = not-two
+to-pair (Four a b c d) = not-two
+to-pair More = not-two
+
+abbrev pub to-triple : Operands → Triple
+to-triple Zero = not-three
+to-triple (One a) = not-three
+to-triple (Two a b) = not-three
+to-triple (Three a b c) = three a b c
+to-triple (Four a b c d) = not-three
+to-triple More = not-three
+
+unfoldable pub single-of : Bytes → ℕ → Single
+single-of s end = to-single (operands-of s end)
+
+unfoldable pub pair-of : Bytes → ℕ → Pair
+pair-of s end = to-pair (operands-of s end)
+
+unfoldable pub triple-of : Bytes → ℕ → Triple
+triple-of s end = to-triple (operands-of s end)
