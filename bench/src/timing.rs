@@ -5,9 +5,18 @@ use std::time::Instant;
 /// A job that is timed: calls do the same again and again.
 pub type Job<'a> = &'a mut dyn FnMut();
 
-/// Calls a second of each job: the median of `samples` samples that take `goal` seconds each or a
-/// little more. The jobs take turns, so that what else the machine does falls on all of them.
-pub fn rates(jobs: &mut [Job], goal: f64, samples: usize) -> Vec<f64> {
+/// Calls a second.
+#[derive(Clone, Copy, Debug)]
+pub struct Rate {
+    /// Of the middle sample.
+    pub median: f64,
+    /// Of the fastest sample, on which other work on the machine tells least.
+    pub best: f64,
+}
+
+/// The rate of each job, from `samples` samples that take `goal` seconds each or a little more. The
+/// jobs take turns, so that what else the machine does falls on all of them.
+pub fn rates(jobs: &mut [Job], goal: f64, samples: usize) -> Vec<Rate> {
     let rounds: Vec<u64> = jobs.iter_mut().map(|job| rounds_for(job, goal)).collect();
     let mut times = vec![Vec::with_capacity(samples); jobs.len()];
     for _ in 0..samples {
@@ -15,8 +24,8 @@ pub fn rates(jobs: &mut [Job], goal: f64, samples: usize) -> Vec<f64> {
             times.push(seconds(job, *rounds));
         }
     }
-    let rate = |(times, rounds): (&mut Vec<f64>, &u64)| *rounds as f64 / median(times);
-    times.iter_mut().zip(&rounds).map(rate).collect()
+    let both = times.iter_mut().zip(&rounds);
+    both.map(|(times, rounds)| rate(times, *rounds)).collect()
 }
 
 /// How many calls of a job take `goal` seconds.
@@ -36,8 +45,15 @@ fn seconds(job: &mut Job, rounds: u64) -> f64 {
     start.elapsed().as_secs_f64()
 }
 
-/// The middle one of the times, not below a nanosecond; 1 where there is none.
-fn median(times: &mut [f64]) -> f64 {
+fn rate(times: &mut [f64], rounds: u64) -> Rate {
     times.sort_by(f64::total_cmp);
-    times.get(times.len() / 2).map_or(1.0, |t| t.max(1e-9))
+    Rate {
+        median: rounds as f64 / time_at(times, times.len() / 2),
+        best: rounds as f64 / time_at(times, 0),
+    }
+}
+
+/// The time at a place, not below a nanosecond; 1 second where there is none.
+fn time_at(times: &[f64], at: usize) -> f64 {
+    times.get(at).map_or(1.0, |t| t.max(1e-9))
 }

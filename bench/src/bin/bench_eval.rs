@@ -5,7 +5,7 @@ use bench::consteval::make::{Maker, MOODS};
 use bench::consteval::names::Names;
 use bench::consteval::tree::Tree;
 use bench::consteval::{archive, original, read, Answer, DEPTH};
-use bench::timing;
+use bench::timing::{self, Rate};
 use compare::gen::rng::Rng;
 use mimz::ast::Expr;
 use mimz::checker::consteval;
@@ -46,9 +46,13 @@ const SHAPES: [Shape; 4] = [
 ];
 
 fn main() -> ExitCode {
-    match SHAPES.iter().map(row).collect::<Result<Vec<_>, _>>() {
+    match SHAPES.iter().map(measure).collect::<Result<Vec<_>, _>>() {
         Ok(rows) => {
-            print!("{HEAD}{}", rows.concat());
+            println!(
+                "Median of {SAMPLES} samples:\n{}",
+                table(&rows, |r| r.median)
+            );
+            println!("Fastest sample:\n{}", table(&rows, |r| r.best));
             println!(
                 "Load: {}",
                 load().unwrap_or_else(|| "not known".to_string())
@@ -60,6 +64,18 @@ fn main() -> ExitCode {
             ExitCode::FAILURE
         }
     }
+}
+
+/// The figures of one shape: mean bytes, and the rates of rounds over all expressions.
+struct Row {
+    name: &'static str,
+    bytes: u64,
+    rates: Vec<Rate>,
+}
+
+fn table(rows: &[Row], of: fn(&Rate) -> f64) -> String {
+    let lines: String = rows.iter().map(|row| line(row, of)).collect();
+    format!("\n{HEAD}{lines}")
 }
 
 /// The load of the last minute, with which the figures are to be read.
@@ -95,7 +111,7 @@ fn expressions(shape: &Shape, names: &Names) -> Vec<Vec<u8>> {
 }
 
 /// Measures one shape, after both gave the same values.
-fn row(shape: &Shape) -> Result<String, String> {
+fn measure(shape: &Shape) -> Result<Row, String> {
     let (names, env) = (names(), original::env(&names()));
     let texts = expressions(shape, &names);
     let trees: Vec<Expr> = texts
@@ -130,7 +146,11 @@ fn row(shape: &Shape) -> Result<String, String> {
         SAMPLES,
     );
     let bytes = texts.iter().map(Vec::len).sum::<usize>() as u64 / EXPRESSIONS;
-    Ok(line(shape.name, bytes, &rates))
+    Ok(Row {
+        name: shape.name,
+        bytes,
+        rates,
+    })
 }
 
 fn same(text: &[u8], archive: Result<Answer, u64>, original: Answer) -> Result<(), String> {
@@ -143,14 +163,16 @@ fn same(text: &[u8], archive: Result<Answer, u64>, original: Answer) -> Result<(
     }
 }
 
-/// Rates are of rounds over all expressions.
-fn line(name: &str, bytes: u64, rates: &[f64]) -> String {
-    let [archive, built, from_bytes] = rates else {
+fn line(row: &Row, of: fn(&Rate) -> f64) -> String {
+    let rates: Vec<f64> = row.rates.iter().map(of).collect();
+    let [archive, built, from_bytes] = rates[..] else {
         return String::new();
     };
-    let shown = |rate: &f64| format!("{:.0}", rate * EXPRESSIONS as f64);
+    let shown = |rate: f64| format!("{:.0}", rate * EXPRESSIONS as f64);
     format!(
-        "| {name} | {bytes} | {} | {} | {:.2} | {} | {:.2} |\n",
+        "| {} | {} | {} | {} | {:.2} | {} | {:.2} |\n",
+        row.name,
+        row.bytes,
         shown(archive),
         shown(built),
         archive / built,
