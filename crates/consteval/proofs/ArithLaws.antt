@@ -100,10 +100,10 @@ sub-law x y =
     ∙ sym (sub-add x 2147483648 2147483648 y) ∙ ap (λ (z : ℤ). signed x +ℤ z) (sym (sub-neg y 2147483648)))
 
 -- a whole number by its amount and its sign
-signed-low : (x : ℕ) → x < 2147483648 → signed x ≡ negsuc (2147483648 - suc x)
+pub signed-low : (x : ℕ) → x < 2147483648 → signed x ≡ negsuc (2147483648 - suc x)
 signed-low x h = rw (lt-ltb x 2147483648 h)
 
-signed-high : (x : ℕ) → 2147483648 ≤ x → signed x ≡ pos (x - 2147483648)
+pub signed-high : (x : ℕ) → 2147483648 ≤ x → signed x ≡ pos (x - 2147483648)
 signed-high x h = rw (le-ltb x 2147483648 h)
 
 amount : (x : ℕ) → x < 2147483648 → suc (2147483648 - suc x) ≡ 2147483648 - x

@@ -210,7 +210,7 @@ decode-form : (d : ℕ) (s : Bytes) → is-form s ≡ true → decode-expr (suc 
 unfolding decode-expr
 decode-form d s e = rw (e, decode-expr)
 
-head-parts : {A H : Type 0} (table : List (Bytes × H)) (other : H) (z : A) (f : H → List Bytes → A) (s : Bytes) {w : Bytes} {ps : List Bytes} → parts s ≡ w ∷ ps → by-head table other z f s ≡ f (lookup-word table other w) ps
+pub head-parts : {A H : Type 0} (table : List (Bytes × H)) (other : H) (z : A) (f : H → List Bytes → A) (s : Bytes) {w : Bytes} {ps : List Bytes} → parts s ≡ w ∷ ps → by-head table other z f s ≡ f (lookup-word table other w) ps
 unfolding by-head
 head-parts table other z f s e = rw (e, by-head)
 

@@ -1,2 +1,4 @@
 pub mod ArithLaws
 pub mod EvalLaws
+pub mod FillLaws
+pub mod TableLaws

@@ -17,7 +17,7 @@ pub fn positive(n: u64) -> Value
     Value::Outside
 }
 
-fn negative(n: u64) -> Value
+pub fn negative(n: u64) -> Value
     ensures { λ r. ⌜ worth r ≡ within (negℤ (pos n)) ⌝ }
 {
     if n <= 2147483648 {

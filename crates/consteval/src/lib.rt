@@ -15,6 +15,7 @@ ghost use Rattle.spec.specs.Value.{within, value};
 ghost use Rattle.consteval.specs.Worth.{worth, names-of};
 
 pub mod arith;
+pub mod fill;
 pub mod names;
 pub mod shape;
 

@@ -1,0 +1,17 @@
+pub mod Fold
+pub mod Tables
+pub mod Limits
+pub mod Lines
+pub mod Fused
+pub mod Run
+pub mod Inside
+pub mod Items
+pub mod Text
+pub mod Sound
+pub mod Alike
+pub mod Ends
+pub mod ReadLaws
+pub mod ExprLaws
+pub mod Room
+pub mod InstLaws
+pub mod FieldLaws

@@ -1,0 +1,60 @@
+-- What reading leaves in the graph of a module: the reads of an expression behind those that the head has already, or a limit passed or
+-- an index outside INT. 01: The edge.
+-- Assumes nothing: these are definitions and statements.
+use mathlib.Core.Path.{_≡_}
+use mathlib.Core.Bool.{Bool, true, false, _||_}
+use mathlib.Core.List.{List, [], _∷_, _++_}
+use mathlib.Core.Option.{Option, some, none}
+use Prim.Native.Nat.{ℕ, zero, suc}
+use lib.ListN.{getD}
+use Rattle.spec.specs.Bytes.{Bytes, number}
+use Rattle.spec.specs.Syntax.{Kind, in-kind, out-kind, wire-kind, reg-kind, mem-kind, inst-kind, Header}
+use Rattle.spec.specs.Decode.{with-one, with-two, with-three, ExprHead, name-head, field-head, index-head, if-head, all-head, no-expr, unary-head, binary-head, decode-expr}
+use Rattle.spec.specs.Value.{Names}
+use Rattle.spec.specs.Site.{kind-of}
+use Rattle.spec.specs.Edge.{Node, Reads, no-reads, and-reads, name-reads, expr-reads, Head, Heads, over-graph}
+use Rattle.graph.specs.Stands.{Stands, Heading, head-of}
+
+-- what a byte of the table of kinds says
+abbrev pub kind-word : ℕ → Option Kind
+kind-word zero = none
+kind-word (suc zero) = some in-kind
+kind-word (suc (suc zero)) = some out-kind
+kind-word (suc (suc (suc zero))) = some wire-kind
+kind-word (suc (suc (suc (suc zero)))) = some reg-kind
+kind-word (suc (suc (suc (suc (suc zero))))) = some mem-kind
+kind-word (suc (suc (suc (suc (suc (suc n)))))) = some inst-kind
+
+-- a module's table of kinds, a byte for each name, says what its header says
+abbrev pub KindsOf : List ℕ → List Header → Type 0
+KindsOf kinds hs = (n : ℕ) → kind-word (getD kinds n 0) ≡ kind-of hs n
+
+-- reading q leaves the graph g: the head n, which read rs before, reads q too (true); or an index was outside INT, or a limit is passed
+abbrev pub ReadAll : Bool → List ℕ → List Head → Node → ℕ → List Node → ℕ → Reads → Type 0
+ReadAll true g hs n start rs i q = Heading g hs n start (rs ++ q .nodes) i × (q .out ≡ false)
+ReadAll false g hs n start rs i q = q .out || over-graph (hs ++ head-of n start (rs ++ q .nodes) ∷ []) ≡ true
+
+-- a whole line's heads leave the graph g
+abbrev pub HeadAll : Bool → List ℕ → List Head → Heads → Type 0
+HeadAll true g hs h = Stands g (hs ++ h .heads) × (h .out ≡ false)
+HeadAll false g hs h = h .out || over-graph (hs ++ h .heads) ≡ true
+
+-- the reads of some parts one behind the other
+unfoldable pub parts-read : (Bytes → Reads) → List Bytes → Reads
+parts-read f [] = no-reads
+parts-read f (x ∷ xs) = and-reads (f x) (parts-read f xs)
+
+-- the reads of a form by its head, f being what a part reads and fields what an `f` of a part reads
+unfoldable pub head-reads : List Header → (Bytes → Reads) → (Bytes → ℕ → Reads) → ExprHead → List Bytes → Reads
+head-reads hs f fields name-head ps = with-one no-reads (λ n. name-reads (kind-of hs (number n)) (number n)) ps
+head-reads hs f fields field-head ps = with-two no-reads (λ x n. fields x (number n)) ps
+head-reads hs f fields index-head ps = with-two no-reads (λ a b. and-reads (f a) (f b)) ps
+head-reads hs f fields if-head ps = with-three no-reads (λ a b c. and-reads (f a) (and-reads (f b) (f c))) ps
+head-reads hs f fields all-head ps = parts-read f ps
+head-reads hs f fields no-expr ps = no-reads
+head-reads hs f fields (unary-head o) ps = with-one no-reads f ps
+head-reads hs f fields (binary-head o) ps = with-two no-reads (λ a b. and-reads (f a) (f b)) ps
+
+-- what the bytes of an expression read, d being how deep its brackets may go
+unfoldable pub bytes-read : List Header → Names → ℕ → Bytes → Reads
+bytes-read hs names d s = expr-reads (decode-expr d s) hs names

@@ -1,0 +1,349 @@
+-- What the filled table is: the specification's name table of the module, where its lines are in range.
+-- Assumes nothing.
+use mathlib.Core.Path.{_≡_, refl, sym, ap, ap₂, subst, _∙_}
+use mathlib.Core.Bool.{Bool, true, false, _&&_, _||_, not as opposite}
+use mathlib.Core.List.{List, [], _∷_}
+use Prim.Native.Nat.{ℕ, zero, suc, _+_, _-_, _/_, _≤_, _<_, min}
+use native.Mathlib.Omega.{arith}
+use lib.IntN.{ℤ, pos, negsuc, negℤ, _+ℤ_, _-ℤ_, _*ℤ_}
+use lib.ListN.{length, set, length-set}
+use lib.Seq.{getD-set-same, getD-set-other}
+use lib.Dec.{eqb, ltb}
+use borrow.Author.Tests.{lt-ltb, ltb-true, ltb-false}
+use Rattle.spec.specs.Bytes.{Bytes}
+use Rattle.spec.specs.Syntax.{Unary, neg, not, clog2, Binary, add, sub, mul, eq, ne, lt, le, gt, ge, and, or, shl, shr, band, bor, bxor, Expr, lit, truth, name, field, index, if-else, unary, binary, all, Item, Items, port, wire, reg, mem, const, drive, on, inst, repeat, const-if, Header, kind, val, Line, module-line, header-line, item-line}
+use Rattle.spec.specs.Decode.{decode-line}
+use Rattle.spec.specs.Refusal.{lines, decode-lines, in-int, line-in-range, item-in-range, expr-in-range}
+use Rattle.spec.specs.Value.{Value, known, missing, outside, Names, value-of-name, within, is-zero, int-eq, int-lt, truth-value, clog2-bits, clog2-value, unary-value, binary-value, and-then, value, Table, val-names, with-value, const-names, name-table, own-vals}
+use Rattle.spec.proofs.Numbers.{if-case}
+use Rattle.lines.specs.Numbers.{biased}
+use Rattle.consteval.specs.Worth.{signed, pairs, names-of, room, pushed}
+use Rattle.consteval.specs.Fill.{held, val-of-line, const-of-item, const-of-line, Filling, by-entry, vals-of, consts-of, then-consts, fill-of, headers-of, items-of, all-in-range, Right, Fills}
+use Rattle.consteval.proofs.ArithLaws.{signed-low, signed-high}
+use Rattle.consteval.proofs.FillLaws.{pushed-length, put-in, put-full}
+use Rattle.consteval.specs.declared.fill.Filled.{Filled}
+use Rattle.consteval.specs.declared.fill.Entry.{Entry}
+use Rattle.consteval.specs.declared.fill.Entry.the-variants.{Put, Bad}
+use Rattle.consteval.specs.declared.fill.Filled.the-variants.{Used, Outside as Left, Short, Bad as Wrong}
+
+-- ---- a pair more
+
+-- the pairs below a place that is written stay
+pairs-below : (t : List ℕ) (k i v : ℕ) → k + k ≤ i → pairs (set t i v) k ≡ pairs t k
+unfolding pairs
+pairs-below t zero i v h = refl
+pairs-below t (suc k) i v h =
+    ap₂ (λ (e : ℕ × ℤ) (l : Names). e ∷ l)
+    (ap₂ (λ (a b : ℕ). (a, signed b)) (getD-set-other t i (k + k) v 0 (λ e. omega arith)) (getD-set-other t i (k + k + 1) v 0 (λ e. omega arith)))
+    (pairs-below t k i v (omega arith))
+
+pushed-in : (t : List ℕ) (used n v : ℕ) → room t used ≡ true → pushed t used n v ≡ set (set t (used + used) n) (used + used + 1) v
+unfolding pushed
+pushed-in t used n v r = rw (r, pushed)
+
+top-pair : (t : List ℕ) (u n v : ℕ) → u + u + 1 < length t → pairs (set (set t (u + u) n) (u + u + 1) v) (suc u) ≡ (n, signed v) ∷ pairs t u
+unfolding pairs
+top-pair t u n v h =
+    ap₂ (λ (e : ℕ × ℤ) (l : Names). e ∷ l)
+    (ap₂ (λ (a b : ℕ). (a, signed b))
+    (getD-set-other (set t (u + u) n) (u + u + 1) (u + u) v 0 (λ e. omega arith) ∙ getD-set-same t (u + u) n 0 (omega arith))
+    (getD-set-same (set t (u + u) n) (u + u + 1) v 0 (omega (arith, length-set t (u + u) n))))
+    (pairs-below (set t (u + u) n) u (u + u + 1) v (omega arith) ∙ pairs-below t u (u + u) n (omega arith))
+
+names-set : (t : List ℕ) (u n v : ℕ) → u < length t / 2 → names-of (set (set t (u + u) n) (u + u + 1) v) (u + 1) ≡ (n, signed v) ∷ names-of t u
+unfolding names-of
+names-set t u n v h =
+    ap (pairs (set (set t (u + u) n) (u + u + 1) v)) (let m : min (u + 1) (length (set (set t (u + u) n) (u + u + 1) v) / 2) ≡ suc u = omega (arith, length-set t (u + u) n, length-set (set t (u + u) n) (u + u + 1) v) in m)
+    ∙ top-pair t u n v (omega arith)
+    ∙ ap (λ (k : ℕ). (n, signed v) ∷ pairs t k) (let k : u ≡ min u (length t / 2) = omega arith in k)
+
+pub names-pushed : (t : List ℕ) (used n v : ℕ) → room t used ≡ true → names-of (pushed t used n v) (used + 1) ≡ (n, signed v) ∷ names-of t used
+names-pushed t used n v r = ap (λ (x : List ℕ). names-of x (used + 1)) (pushed-in t used n v r) ∙ names-set t used n v (ltb-true used (length t / 2) r)
+
+pairs-length : (t : List ℕ) (k : ℕ) → length (pairs t k) ≡ k
+unfolding pairs
+pairs-length t zero = refl
+pairs-length t (suc k) = ap suc (pairs-length t k)
+
+names-length : (t : List ℕ) (used : ℕ) → length (names-of t used) ≡ min used (length t / 2)
+unfolding names-of
+names-length t used = pairs-length t (min used (length t / 2))
+
+-- ---- a known value is in INT
+abbrev InInt : Value → Type 0
+InInt (known z) = in-int z ≡ true
+InInt missing = Unit {0}
+InInt outside = Unit {0}
+
+abbrev AllIn : Names → Type 0
+AllIn [] = Unit {0}
+AllIn (e ∷ names) = (in-int (e .1) ≡ true) × AllIn names
+
+within-in : (z : ℤ) → InInt (within z)
+unfolding within
+within-in z = if-case InInt (in-int z) (known z) outside (λ e. e) (λ e. tt)
+
+truth-in : (b : Bool) → InInt (truth-value b)
+unfolding in-int
+truth-in true = refl
+truth-in false = refl
+
+then-in : (v : Value) (f : ℤ → Value) → ((x : ℤ) → InInt (f x)) → InInt (and-then v f)
+then-in (known x) f g = g x
+then-in missing f g = tt
+then-in outside f g = tt
+
+name-in : (names : Names) → AllIn names → (n : ℕ) → InInt (value-of-name names n)
+unfolding value-of-name
+name-in [] a n = tt
+name-in (e ∷ names) a n = if-case InInt (eqb (e .0) n) (known (e .1)) (value-of-name names n) (λ _. a .0) (λ _. name-in names (a .1) n)
+
+clog2-in : (z : ℤ) → InInt (clog2-value z)
+unfolding clog2-value
+clog2-in (pos zero) = tt
+clog2-in (pos (suc n)) = within-in (pos (clog2-bits (suc n)))
+clog2-in (negsuc n) = tt
+
+unary-in : (o : Unary) (x : ℤ) → InInt (unary-value o x)
+unfolding unary-value
+unary-in neg x = within-in (negℤ x)
+unary-in not x = truth-in (is-zero x)
+unary-in clog2 x = clog2-in x
+
+binary-in : (o : Binary) (x y : ℤ) → InInt (binary-value o x y)
+unfolding binary-value
+binary-in add x y = within-in (x +ℤ y)
+binary-in sub x y = within-in (x -ℤ y)
+binary-in mul x y = within-in (x *ℤ y)
+binary-in eq x y = truth-in (int-eq x y)
+binary-in ne x y = truth-in (opposite (int-eq x y))
+binary-in lt x y = truth-in (int-lt x y)
+binary-in le x y = truth-in (opposite (int-lt y x))
+binary-in gt x y = truth-in (int-lt y x)
+binary-in ge x y = truth-in (opposite (int-lt x y))
+binary-in and x y = truth-in (opposite (is-zero x) && opposite (is-zero y))
+binary-in or x y = truth-in (opposite (is-zero x) || opposite (is-zero y))
+binary-in shl x y = tt
+binary-in shr x y = tt
+binary-in band x y = tt
+binary-in bor x y = tt
+binary-in bxor x y = tt
+
+pub value-in : (names : Names) → AllIn names → (e : Expr) → InInt (value names e)
+unfolding value
+value-in names a (lit n) = within-in (pos n)
+value-in names a (truth b) = truth-in b
+value-in names a (name n) = name-in names a n
+value-in names a (field e n) = tt
+value-in names a (index e i) = tt
+value-in names a (if-else c x y) =
+    then-in (value names c) (λ z. elim (is-zero z) [ true ↦ value names y | false ↦ value names x ])
+    (branch (value-in names a x) (value-in names a y))
+  where
+    branch : InInt (value names x) → InInt (value names y) → (z : ℤ) → InInt (elim (is-zero z) as (λ _. Value) [ true ↦ value names y | false ↦ value names x ])
+    branch p q z = if-case InInt (is-zero z) (value names y) (value names x) (λ _. q) (λ _. p)
+value-in names a (unary o x) = then-in (value names x) (unary-value o) (unary-in o)
+value-in names a (binary o x y) =
+    then-in (value names x) (λ u. and-then (value names y) (binary-value o u)) (λ u. then-in (value names y) (binary-value o u) (binary-in o u))
+value-in names a (all es) = tt
+
+sign-bias : (z : ℤ) → in-int z ≡ true → signed (biased z) ≡ z
+unfolding in-int
+sign-bias (pos n) e = let h = ltb-true n 2147483648 e in signed-high (n + 2147483648) (omega arith) ∙ ap pos (let k : n + 2147483648 - 2147483648 ≡ n = omega arith in k)
+sign-bias (negsuc n) e = let h = ltb-true n 2147483648 e in signed-low (2147483648 - suc n) (omega arith) ∙ ap negsuc (let k : 2147483648 - suc (2147483648 - suc n) ≡ n = omega arith in k)
+
+-- ---- the specification's table grows, and what is outside stays so
+with-grows : (t : Table) (n : ℕ) (x : Value) → length (t .names) ≤ length (with-value n x t .names)
+unfolding with-value
+with-grows t n (known z) = omega arith
+with-grows t n missing = omega arith
+with-grows t n outside = omega arith
+
+grows : (t : Table) (is : Items) → length (t .names) ≤ length (const-names t is .names)
+unfolding const-names
+grows t Items.none = omega arith
+grows t (Items.more (port d n w s) is) = grows t is
+grows t (Items.more (wire n e s) is) = grows t is
+grows t (Items.more (reg n s) is) = grows t is
+grows t (Items.more (mem n s) is) = grows t is
+grows t (Items.more (const n e) is) = omega (arith, with-grows t n (value (t .names) e), grows (with-value n (value (t .names) e) t) is)
+grows t (Items.more (drive lv e) is) = grows t is
+grows t (Items.more (on s ss) is) = grows t is
+grows t (Items.more (inst i) is) = grows t is
+grows t (Items.more (repeat n l h js) is) = grows t is
+grows t (Items.more (const-if c js ks) is) = grows t is
+
+with-stays : (t : Table) (n : ℕ) (x : Value) → t .out ≡ true → with-value n x t .out ≡ true
+unfolding with-value
+with-stays t n (known z) e = e
+with-stays t n missing e = e
+with-stays t n outside e = refl
+
+stays : (t : Table) (is : Items) → t .out ≡ true → const-names t is .out ≡ true
+unfolding const-names
+stays t Items.none h = h
+stays t (Items.more (port d n w s) is) h = stays t is h
+stays t (Items.more (wire n e s) is) h = stays t is h
+stays t (Items.more (reg n s) is) h = stays t is h
+stays t (Items.more (mem n s) is) h = stays t is h
+stays t (Items.more (const n e) is) h = stays (with-value n (value (t .names) e) t) is (with-stays t n (value (t .names) e) h)
+stays t (Items.more (drive lv e) is) h = stays t is h
+stays t (Items.more (on s ss) is) h = stays t is h
+stays t (Items.more (inst i) is) h = stays t is h
+stays t (Items.more (repeat n l u js) is) h = stays t is h
+stays t (Items.more (const-if c js ks) is) h = stays t is h
+
+-- ---- the items' lines
+
+-- both halves of a test
+both : (a b : Bool) → a && b ≡ true → (a ≡ true) × (b ≡ true)
+both true b e = (refl, e)
+both false b e = absurd (let z : _≡_ {A = ℕ} 0 1 = cc in omega arith)
+
+abbrev so-far : List ℕ → ℕ → Table
+so-far t used = record { names = names-of t used; out = false }
+
+abbrev RightOf : Filling → Table → Type 0
+RightOf f T = Right (f .answer) (f .table) T
+
+-- what the lines behind give, on any table so far
+abbrev Goes : List Bytes → Type 0
+Goes ls = (t : List ℕ) (used : ℕ) → used ≤ length t / 2 → AllIn (names-of t used) → RightOf (consts-of ls t used) (const-names (so-far t used) (items-of (decode-lines ls)))
+
+pushed-fits : (t : List ℕ) (used n v : ℕ) → room t used ≡ true → used + 1 ≤ length (pushed t used n v) / 2
+pushed-fits t used n v r = omega (arith, ltb-true used (length t / 2) r, pushed-length t used n v (pushed t used n v) refl)
+
+module _ (ls : List Bytes) (go-on : Goes ls) (t : List ℕ) (used : ℕ) (fits : used ≤ length t / 2) (ints : AllIn (names-of t used)) where
+  abbrev rest : Items
+  rest = items-of (decode-lines ls)
+
+  -- a `const` with the value x
+  const-right : (n : ℕ) → n < 4294967296 → (x : Value) → InInt x → RightOf (by-entry (held n x) (consts-of ls) t used) (const-names (with-value n x (so-far t used)) rest)
+  unfolding with-value
+  const-right n h missing i = go-on t used fits ints
+  const-right n h outside i = stays (record { names = names-of t used; out = true }) rest refl
+  const-right n h (known z) i = put (ltb n 4294967296) (lt-ltb n 4294967296 h) (room t used) refl
+    where
+      here : (n, signed (biased z)) ∷ names-of t used ≡ (n, z) ∷ names-of t used
+      here = ap (λ (y : ℤ). (n, y) ∷ names-of t used) (sign-bias z i)
+
+      put : (a : Bool) → a ≡ true → (b : Bool) → room t used ≡ b →
+          RightOf (by-entry (elim a as (λ _. Entry) [ true ↦ Put n (biased z) | false ↦ Bad ]) (consts-of ls) t used) (const-names (record { names = (n, z) ∷ names-of t used; out = false }) rest)
+      put false e b r = absurd (let y : _≡_ {A = ℕ} 0 1 = cc in omega arith)
+      put true e true r =
+          let eq = names-pushed t used n (biased z) r ∙ here in
+          let next = go-on (pushed t used n (biased z)) (used + 1) (pushed-fits t used n (biased z) r) (subst (λ (x : Names). AllIn x) (sym eq) (i, ints)) in
+          subst (λ (f : Filling). RightOf f (const-names (record { names = (n, z) ∷ names-of t used; out = false }) rest)) (sym (put-in n (biased z) (consts-of ls) t used r))
+          (subst (λ (x : Names). RightOf (consts-of ls (pushed t used n (biased z)) (used + 1)) (const-names (record { names = x; out = false }) rest)) eq next)
+      put true e false r =
+          subst (λ (f : Filling). RightOf f (const-names (record { names = (n, z) ∷ names-of t used; out = false }) rest)) (sym (put-full n (biased z) (consts-of ls) t used r))
+          (let k : length t / 2 < length (const-names (record { names = (n, z) ∷ names-of t used; out = false }) rest .names) =
+          omega (arith, grows (record { names = (n, z) ∷ names-of t used; out = false }) rest, names-length t used, ltb-false used (length t / 2) r) in k)
+
+  item-right : (i : Item) → item-in-range i ≡ true → RightOf (by-entry (const-of-item (names-of t used) i) (consts-of ls) t used) (const-names (so-far t used) (Items.more i rest))
+  unfolding const-names item-in-range
+  item-right (port d n w s) e = go-on t used fits ints
+  item-right (wire n x s) e = go-on t used fits ints
+  item-right (reg n s) e = go-on t used fits ints
+  item-right (mem n s) e = go-on t used fits ints
+  item-right (const n x) e = const-right n (omega (arith, ltb-true n 256 (both (ltb n 256) (expr-in-range x) e .0))) (value (names-of t used) x) (value-in (names-of t used) ints x)
+  item-right (drive lv x) e = go-on t used fits ints
+  item-right (on s ss) e = go-on t used fits ints
+  item-right (inst i) e = go-on t used fits ints
+  item-right (repeat n l h js) e = go-on t used fits ints
+  item-right (const-if c js ks) e = go-on t used fits ints
+
+  line-right : (l : Line) → line-in-range l ≡ true → RightOf (by-entry (const-of-line (names-of t used) l) (consts-of ls) t used) (const-names (so-far t used) (items-of (l ∷ decode-lines ls)))
+  unfolding items-of line-in-range
+  line-right (module-line m b) e = go-on t used fits ints
+  line-right (header-line h) e = go-on t used fits ints
+  line-right (item-line i) e = item-right i e
+
+consts-right : (ls : List Bytes) → all-in-range (decode-lines ls) ≡ true → Goes ls
+unfolding consts-of decode-lines all-in-range items-of const-names
+consts-right [] a t used f i = (refl, refl, f)
+consts-right (s ∷ ls) a t used f i =
+    let p = both (line-in-range (decode-line s)) (all-in-range (decode-lines ls)) a in
+    line-right ls (consts-right ls (p .1)) t used f i (decode-line s) (p .0)
+
+-- ---- the header's lines
+abbrev RightVals : Filled → List ℕ → Names → Type 0
+RightVals (Used n) t vs = (names-of t n ≡ vs) × (n ≤ length t / 2) × AllIn (names-of t n)
+RightVals Left t vs = ⊥
+RightVals Short t vs = length t / 2 < length vs
+RightVals Wrong t vs = ⊥
+
+abbrev ValsOf : Filling → Names → Type 0
+ValsOf f vs = RightVals (f .answer) (f .table) vs
+
+abbrev GoesVals : List Bytes → Type 0
+GoesVals ls = (t : List ℕ) (used : ℕ) → used ≤ length t / 2 → AllIn (names-of t used) → ValsOf (vals-of ls t used) (val-names (names-of t used) (headers-of (decode-lines ls)))
+
+vals-grow : (names : Names) (hs : List Header) → length names ≤ length (val-names names hs)
+unfolding val-names
+vals-grow names [] = omega arith
+vals-grow names (kind n k ∷ hs) = vals-grow names hs
+vals-grow names (val n z ∷ hs) = let h = vals-grow ((n, z) ∷ names) hs in omega arith
+
+within-known : (z : ℤ) → in-int z ≡ true → within z ≡ known z
+unfolding within
+within-known z e = rw (e, within)
+
+module _ (ls : List Bytes) (go-on : GoesVals ls) (t : List ℕ) (used : ℕ) (fits : used ≤ length t / 2) (ints : AllIn (names-of t used)) where
+  abbrev after : Names → Names
+  after names = val-names names (headers-of (decode-lines ls))
+
+  val-put : (n : ℕ) (z : ℤ) → in-int z ≡ true → (b : Bool) → room t used ≡ b → ValsOf (by-entry (Put n (biased z)) (vals-of ls) t used) (after ((n, z) ∷ names-of t used))
+  val-put n z i true r =
+      let eq = names-pushed t used n (biased z) r ∙ ap (λ (y : ℤ). (n, y) ∷ names-of t used) (sign-bias z i) in
+      let next = go-on (pushed t used n (biased z)) (used + 1) (pushed-fits t used n (biased z) r) (subst (λ (x : Names). AllIn x) (sym eq) (i, ints)) in
+      subst (λ (f : Filling). ValsOf f (after ((n, z) ∷ names-of t used))) (sym (put-in n (biased z) (vals-of ls) t used r))
+      (subst (λ (x : Names). ValsOf (vals-of ls (pushed t used n (biased z)) (used + 1)) (after x)) eq next)
+  val-put n z i false r =
+      subst (λ (f : Filling). ValsOf f (after ((n, z) ∷ names-of t used))) (sym (put-full n (biased z) (vals-of ls) t used r))
+      (let k : length t / 2 < length (after ((n, z) ∷ names-of t used)) =
+      omega (arith, vals-grow ((n, z) ∷ names-of t used) (headers-of (decode-lines ls)), names-length t used, ltb-false used (length t / 2) r) in k)
+
+  val-right : (n : ℕ) (z : ℤ) → n < 4294967296 → in-int z ≡ true → ValsOf (by-entry (held n (within z)) (vals-of ls) t used) (after ((n, z) ∷ names-of t used))
+  val-right n z h i =
+      subst (λ (x : Entry). ValsOf (by-entry x (vals-of ls) t used) (after ((n, z) ∷ names-of t used)))
+      (sym (ap (held n) (within-known z i) ∙ hold (ltb n 4294967296) (lt-ltb n 4294967296 h))) (val-put n z i (room t used) refl)
+    where
+      hold : (b : Bool) → b ≡ true → elim b as (λ _. Entry) [ true ↦ Put n (biased z) | false ↦ Bad ] ≡ Put n (biased z)
+      hold b e = rw e
+
+  header-right : (l : Line) → line-in-range l ≡ true → ValsOf (by-entry (val-of-line l) (vals-of ls) t used) (val-names (names-of t used) (headers-of (l ∷ decode-lines ls)))
+  unfolding headers-of line-in-range val-names
+  header-right (module-line m b) e = go-on t used fits ints
+  header-right (header-line (kind n k)) e = go-on t used fits ints
+  header-right (header-line (val n z)) e = let p = both (ltb n 256) (in-int z) e in val-right n z (omega (arith, ltb-true n 256 (p .0))) (p .1)
+  header-right (item-line i) e = go-on t used fits ints
+
+vals-right : (ls : List Bytes) → all-in-range (decode-lines ls) ≡ true → GoesVals ls
+unfolding vals-of decode-lines all-in-range headers-of val-names
+vals-right [] a t used f i = (refl, f, i)
+vals-right (s ∷ ls) a t used f i =
+    let p = both (line-in-range (decode-line s)) (all-in-range (decode-lines ls)) a in
+    header-right ls (vals-right ls (p .1)) t used f i (decode-line s) (p .0)
+
+-- ---- both
+names-none : (t : List ℕ) → names-of t 0 ≡ []
+unfolding names-of pairs
+names-none t = let z : min 0 (length t / 2) ≡ 0 = omega arith in ap (pairs t) z
+
+both-right : (items : Bytes) → all-in-range (decode-lines (lines items)) ≡ true → (vs : Names) (a : Filled) (x : List ℕ) → RightVals a x vs →
+    RightOf (then-consts items a x) (const-names (record { names = vs; out = false }) (items-of (decode-lines (lines items))))
+both-right items e vs (Used n) x r =
+    subst (λ (y : Names). RightOf (consts-of (lines items) x n) (const-names (record { names = y; out = false }) (items-of (decode-lines (lines items))))) (r .0)
+    (consts-right (lines items) e x n (r .1) (r .2))
+both-right items e vs Left x r = absurd r
+both-right items e vs Short x r = omega (arith, grows (record { names = vs; out = false }) (items-of (decode-lines (lines items))), r)
+both-right items e vs Wrong x r = absurd r
+
+pub fills : Fills
+unfolding fill-of name-table own-vals
+fills = record {
+  right = λ bound header items t h i. both-right items i (val-names [] (headers-of (decode-lines (lines header)))) (vals-of (lines header) t 0 .answer) (vals-of (lines header) t 0 .table)
+      (subst (λ (y : Names). ValsOf (vals-of (lines header) t 0) (val-names y (headers-of (decode-lines (lines header))))) (names-none t)
+      (vals-right (lines header) h t 0 (omega arith) (subst (λ (y : Names). AllIn y) (sym (names-none t)) tt)));
+}

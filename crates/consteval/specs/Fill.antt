@@ -1,0 +1,189 @@
+-- The name table of a module as it is filled: what each line adds, line by line, until a line stops it.
+-- Assumes nothing: these are definitions.
+use mathlib.Core.Path.{_≡_}
+use mathlib.Core.Bool.{Bool, true, false, _&&_}
+use mathlib.Core.List.{List, [], _∷_}
+use Prim.Native.Nat.{ℕ, suc, _+_, _/_, _≤_, _<_}
+use lib.ListN.{length, drop}
+use lib.Dec.{eqb, ltb}
+use Rattle.spec.specs.Bytes.{Bytes}
+use Rattle.spec.specs.Syntax.{Item, Items, port, wire, reg, mem, const, drive, on, inst, repeat, const-if, Header, kind, val, Module, Line, module-line, header-line, item-line}
+use Rattle.spec.specs.Decode.{decode-line}
+use Rattle.spec.specs.Refusal.{lines, decode-lines, line-in-range}
+use Rattle.spec.specs.Value.{Value, known, missing, outside, Names, within, value, Table, name-table, own-vals}
+use Rattle.lines.specs.Numbers.{biased}
+use Rattle.lines.specs.declared.words.Word.{Word}
+use Rattle.lines.specs.declared.words.Word.the-variants.{N as N-word, F as F-word, Ix as Ix-word, If as If-word, All as All-word, Neg as Neg-word, Not as Not-word, Clog2 as Clog2-word, Add as Add-word, Sub as Sub-word, Mul as Mul-word, Eq as Eq-word, Ne as Ne-word, Lt as Lt-word, Le as Le-word, Gt as Gt-word, Ge as Ge-word, And as And-word, Or as Or-word, Shl as Shl-word, Shr as Shr-word, Band as Band-word, Bor as Bor-word, Bxor as Bxor-word, True as True-word, False as False-word, Bit as Bit-word, Opaque as Opaque-word, Bits as Bits-word, Signed as Signed-word, Lv as Lv-word, Set as Set-word, Default as Default-word, Loop as Loop-word, When as When-word, Then as Then-word, Else as Else-word, Conn as Conn-word, Dash as Dash-word, Port as Port-word, Wire as Wire-word, Reg as Reg-word, Mem as Mem-word, Const as Const-word, Drive as Drive-word, On as On-word, Inst as Inst-word, Repeat as Repeat-word, ConstIf as ConstIf-word, In as In-word, Out as Out-word, Module as Module-word, Kind as Kind-word, Val as Val-word, Bound as Bound-word, Unbound as Unbound-word, Other as Other-word}
+use Rattle.consteval.specs.Worth.{names-of, room, pushed}
+use Rattle.consteval.specs.declared.fill.Filled.{Filled}
+use Rattle.consteval.specs.declared.fill.Filled.the-variants.{Used, Outside as Left, Short, Bad as Wrong}
+use Rattle.consteval.specs.declared.fill.Entry.{Entry}
+use Rattle.consteval.specs.declared.fill.Entry.the-variants.{Skip, Put, Outside, Bad}
+use Rattle.consteval.specs.declared.fill.Role.{Role}
+use Rattle.consteval.specs.declared.fill.Role.the-variants.{Val, Const, Other}
+
+-- how many bytes there are before the line feed
+unfoldable pub feed : Bytes → ℕ
+feed [] = 0
+feed (c ∷ s) = elim (eqb c 10) [ true ↦ 0 | false ↦ suc (feed s) ]
+
+-- the end of the line that starts at `at`
+abbrev pub line-end : Bytes → ℕ → ℕ
+line-end s at = at + feed (drop at s)
+
+abbrev pub role : Word → Role
+role N-word = Other
+role F-word = Other
+role Ix-word = Other
+role If-word = Other
+role All-word = Other
+role Neg-word = Other
+role Not-word = Other
+role Clog2-word = Other
+role Add-word = Other
+role Sub-word = Other
+role Mul-word = Other
+role Eq-word = Other
+role Ne-word = Other
+role Lt-word = Other
+role Le-word = Other
+role Gt-word = Other
+role Ge-word = Other
+role And-word = Other
+role Or-word = Other
+role Shl-word = Other
+role Shr-word = Other
+role Band-word = Other
+role Bor-word = Other
+role Bxor-word = Other
+role True-word = Other
+role False-word = Other
+role Bit-word = Other
+role Opaque-word = Other
+role Bits-word = Other
+role Signed-word = Other
+role Lv-word = Other
+role Set-word = Other
+role Default-word = Other
+role Loop-word = Other
+role When-word = Other
+role Then-word = Other
+role Else-word = Other
+role Conn-word = Other
+role Dash-word = Other
+role Port-word = Other
+role Wire-word = Other
+role Reg-word = Other
+role Mem-word = Other
+role Const-word = Const
+role Drive-word = Other
+role On-word = Other
+role Inst-word = Other
+role Repeat-word = Other
+role ConstIf-word = Other
+role In-word = Other
+role Out-word = Other
+role Module-word = Other
+role Kind-word = Other
+role Val-word = Val
+role Bound-word = Other
+role Unbound-word = Other
+role Other-word = Other
+
+-- a name and its value, as they are held
+abbrev pub held : ℕ → Value → Entry
+held n (known z) = elim (ltb n 4294967296) [ true ↦ Put n (biased z) | false ↦ Bad ]
+held n missing = Skip
+held n outside = Outside
+
+-- what a line adds to the table: as a header line, and as an item line under the names so far
+abbrev pub val-of-line : Line → Entry
+val-of-line (module-line m b) = Skip
+val-of-line (header-line (kind n k)) = Skip
+val-of-line (header-line (val n z)) = held n (within z)
+val-of-line (item-line i) = Skip
+
+abbrev pub const-of-item : Names → Item → Entry
+const-of-item names (port d n w s) = Skip
+const-of-item names (wire n e s) = Skip
+const-of-item names (reg n s) = Skip
+const-of-item names (mem n s) = Skip
+const-of-item names (const n e) = held n (value names e)
+const-of-item names (drive lv e) = Skip
+const-of-item names (on s ss) = Skip
+const-of-item names (inst i) = Skip
+const-of-item names (repeat n l h is) = Skip
+const-of-item names (const-if c is js) = Skip
+
+abbrev pub const-of-line : Names → Line → Entry
+const-of-line names (module-line m b) = Skip
+const-of-line names (header-line h) = Skip
+const-of-line names (item-line i) = const-of-item names i
+
+-- an answer and the table that is left
+pub record Filling : Type 0 where
+  pub answer : Filled
+  pub table : List ℕ
+
+abbrev pub filling : Filled → List ℕ → Filling
+filling r t = record { answer = r; table = t }
+
+-- one entry, and what follows it
+abbrev pub by-entry : Entry → (List ℕ → ℕ → Filling) → List ℕ → ℕ → Filling
+by-entry Skip next t used = next t used
+by-entry (Put n v) next t used = elim (room t used) [ true ↦ next (pushed t used n v) (used + 1) | false ↦ filling Short t ]
+by-entry Outside next t used = filling Left t
+by-entry Bad next t used = filling Wrong t
+
+unfoldable pub vals-of : List Bytes → List ℕ → ℕ → Filling
+vals-of [] t used = filling (Used used) t
+vals-of (s ∷ ls) t used = by-entry (val-of-line (decode-line s)) (vals-of ls) t used
+
+unfoldable pub consts-of : List Bytes → List ℕ → ℕ → Filling
+consts-of [] t used = filling (Used used) t
+consts-of (s ∷ ls) t used = by-entry (const-of-line (names-of t used) (decode-line s)) (consts-of ls) t used
+
+abbrev pub then-consts : Bytes → Filled → List ℕ → Filling
+then-consts items (Used n) t = consts-of (lines items) t n
+then-consts items Left t = filling Left t
+then-consts items Short t = filling Short t
+then-consts items Wrong t = filling Wrong t
+
+-- the header's lines, then the items' lines
+unfoldable pub fill-of : Bytes → Bytes → List ℕ → Filling
+fill-of header items t = then-consts items (vals-of (lines header) t 0 .answer) (vals-of (lines header) t 0 .table)
+
+-- ---- what the table is of
+
+-- the module that the header's lines and the items' lines make; other lines among them count for nothing
+unfoldable pub headers-of : List Line → List Header
+headers-of [] = []
+headers-of (module-line m b ∷ ls) = headers-of ls
+headers-of (header-line h ∷ ls) = h ∷ headers-of ls
+headers-of (item-line i ∷ ls) = headers-of ls
+
+unfoldable pub items-of : List Line → Items
+items-of [] = Items.none
+items-of (module-line m b ∷ ls) = items-of ls
+items-of (header-line h ∷ ls) = items-of ls
+items-of (item-line i ∷ ls) = Items.more i (items-of ls)
+
+abbrev pub module-of : Bool → Bytes → Bytes → Module
+module-of bound header items = record { bound = bound; header = headers-of (decode-lines (lines header)); items = items-of (decode-lines (lines items)) }
+
+-- 01, Refused because of the text: no number of these lines is out of range
+unfoldable pub all-in-range : List Line → Bool
+all-in-range [] = true
+all-in-range (l ∷ ls) = line-in-range l && all-in-range ls
+
+-- an answer and the table that is left, against the specification's name table
+abbrev pub Right : Filled → List ℕ → Table → Type 0
+Right (Used n) t T = (names-of t n ≡ T .names) × (T .out ≡ false) × (n ≤ length t / 2)
+Right Left t T = T .out ≡ true
+Right Short t T = length t / 2 < length (T .names)
+Right Wrong t T = ⊥
+
+-- The theorem: of lines in range the table is the name table of their module, a constant is outside INT, or the table is too small.
+pub record Fills : Type 0 where
+  pub right : (bound : Bool) (header items : Bytes) (t : List ℕ) → all-in-range (decode-lines (lines header)) ≡ true → all-in-range (decode-lines (lines items)) ≡ true →
+      Right (fill-of header items t .answer) (fill-of header items t .table) (name-table (own-vals (module-of bound header items)) (module-of bound header items))
