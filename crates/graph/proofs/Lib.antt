@@ -5,3 +5,10 @@ pub mod Stands
 pub mod Limits
 pub mod Reaching
 pub mod Lifted
+pub mod Machine
+pub mod Sorting
+pub mod Turning
+pub mod Stepping
+pub mod Steps
+pub mod Falling
+pub mod Reports

@@ -12,7 +12,7 @@ use lib.Dec.{eqb}
 use borrow.Author.Tests.{eqb-true, eqb-false, eq-eqb, ne-eqb}
 use Rattle.spec.specs.Search.{among}
 use Rattle.spec.proofs.Numbers.{if-case}
-use Rattle.graph.specs.Table.{source, target, link, newest, edges-below, out, Linked, pushed}
+use Rattle.graph.specs.Table.{OnLinks, source, target, link, newest, edges-below, out, Linked, pushed}
 
 -- a choice whose test is known
 pub pick-true : {A : Type 0} (b : Bool) (x y : A) → b ≡ true → elim b as (λ _. A) [ true ↦ x | false ↦ y ] ≡ x
@@ -60,11 +60,6 @@ module _ (g : List ℕ) (b s : ℕ) where
           ≡ elim v as (λ _. List ℕ) [ true ↦ target g b k ∷ out s (edges-below g b k) | false ↦ out s (edges-below g b k) ]
       go true f i = out-own k (eqb-true (source g b k) s f)
       go false f i = i
-
--- the place e in the links of s: 0, or 1 more than the number of an edge of s
-pub record OnLinks (g : List ℕ) (b s n e : ℕ) : Type 0 where
-  pub within : e ≤ n
-  pub own : (k : ℕ) → e ≡ suc k → source g b k ≡ s
 
 module _ {g : List ℕ} {b n : ℕ} (l : Linked g b n) (s : ℕ) where
   -- where the links of s begin: all its targets are still to come

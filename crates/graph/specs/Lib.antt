@@ -1,3 +1,5 @@
 pub mod Table
 pub mod Stands
 pub mod Reach
+pub mod Machine
+pub mod Cycles

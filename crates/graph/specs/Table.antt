@@ -97,3 +97,8 @@ pub record Found (g : List ℕ) (n : Node) (r : ℕ) : Type 0 where
   pub within : r ≤ count g
   pub before : (i : ℕ) → i < r → ¬ (node-at g i ≡ n)
   pub here : r < count g → node-at g r ≡ n
+
+-- the place e in the links of s: 0, or 1 more than the number of an edge of s
+pub record OnLinks (g : List ℕ) (b s n e : ℕ) : Type 0 where
+  pub within : e ≤ n
+  pub own : (k : ℕ) → e ≡ suc k → source g b k ≡ s

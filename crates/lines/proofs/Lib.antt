@@ -1,6 +1,8 @@
+pub mod Answers
 pub mod Atoms
 pub mod Built
 pub mod Complete
+pub mod Filling
 pub mod Formed
 pub mod Laws
 pub mod Made
@@ -8,9 +10,11 @@ pub mod MadeItems
 pub mod NumberLaws
 pub mod PartLaws
 pub mod ReadLaws
+pub mod Said
 pub mod Sound
 pub mod Spelled
 pub mod Steps
+pub mod Tabled
 pub mod Trees
 pub mod Turns
 pub mod WordLaws

@@ -214,7 +214,7 @@ wrote-passes : (t : Bytes) (i j : ℕ) (l : Line) (b : Before) → Wrote t i j l
 wrote-passes t i j l b w e = record { span = w .span; feed = w .feed; deep = w .deep; clean = e }
 
 -- the word behind the bracket of a form, and what is behind the word
-headed : (t : Bytes) (i : ℕ) (w : Bytes) (xs : List Bytes) (z : Bytes) → word-fine w ≡ true → drop i t ≡ show-form w xs ++ z
+pub headed : (t : Bytes) (i : ℕ) (w : Bytes) (xs : List Bytes) (z : Bytes) → word-fine w ≡ true → drop i t ≡ show-form w xs ++ z
     → (wordAt t (i + 1) ≡ record { key = key w; next = i + 1 + length w }) × (drop (i + 1 + length w) t ≡ show-rest xs ++ z)
 unfolding show-form
 headed t i w xs z f e =

@@ -34,7 +34,7 @@ module _ (t : Bytes) (at feed : ℕ) (b : Before) (l : Line) (p : Passed t at fe
       let z : line-fault b (show-line l) ≡ 0 = shown-fault b l (p .deep) ∙ p .clean in
       ap (lines-fault b n) (rows t at feed b l p) ∙ rw (z, decode-show-line l (p .deep), lines-fault)
 
-  pass-lines : decode-lines (lines (drop at t)) ≡ l ∷ decode-lines (lines (drop (feed + 1) t))
+  pub pass-lines : decode-lines (lines (drop at t)) ≡ l ∷ decode-lines (lines (drop (feed + 1) t))
   unfolding decode-lines
   pass-lines = ap decode-lines (rows t at feed b l p) ∙ ap (λ (m : Line). m ∷ decode-lines (lines (drop (feed + 1) t))) (decode-show-line l (p .deep))
 
@@ -213,7 +213,7 @@ fine-set t n e z = go (set-fault t) refl (set-two t)
     go well-formed q w = q
     go (refused k m) q w = let u : 0 ≡ m = sym z ∙ e ∙ ap fault-line q in let y = w .1 in absurd (omega arith)
 
-ends-fine : (t : Bytes) → set-fault t ≡ well-formed → ends-in-feed t ≡ true
+pub ends-fine : (t : Bytes) → set-fault t ≡ well-formed → ends-in-feed t ≡ true
 unfolding set-fault
 ends-fine t q = go (byte-fault 1 t) refl (ends-in-feed t) refl
   where

@@ -1,7 +1,11 @@
 pub mod Bytes
+pub mod Filled
 pub mod Numbers
 pub mod Parse
 pub mod Parts
 pub mod Read
+pub mod Reader
+pub mod Saying
+pub mod Tables
 pub mod Verdict
 pub mod Words

@@ -5,4 +5,5 @@ pub mod numbers;
 pub mod parse;
 pub mod parts;
 pub mod read;
+pub mod tables;
 pub mod words;

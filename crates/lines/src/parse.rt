@@ -12,6 +12,8 @@ use crate::keys;
 
 // Names and MOD are below 256; START and literals below 2,147,483,648.
 pub const NAMES: u64 = 256;
+// A place for each name.
+pub const EACH_NAME: usize = NAMES as usize;
 
 pub const MODS: u64 = 256;
 

@@ -8,6 +8,8 @@ ghost use Rattle.lines.specs.Read.{closesAt, notWritten, setLine, number
 use crate::bytes::at8;
 use crate::keys;
 use crate::parse::Cat;
+use crate::parse::EACH_NAME;
+use crate::parse::NAMES;
 use crate::parse::Number;
 use crate::parse::Parsed;
 use crate::parse::number_at;
@@ -97,7 +99,7 @@ fn set_line(s: &[u8]) -> u32
 }
 
 // The number behind a space.
-fn number_after(s: &[u8], at: usize) -> Number
+pub fn number_after(s: &[u8], at: usize) -> Number
     ensures { λ r. ⌜ r ≡ numberAfter (now (s .entry)) at ⌝ }
 {
     if at8(s, at) != b' ' {
@@ -123,13 +125,13 @@ fn module_step(n: Number, modules: u32, feed: usize) -> Step
     }
 }
 
-fn kind_step(n: Number, seen: &[u8; 256], feed: usize) -> Step
+fn kind_step(n: Number, seen: &[u8; EACH_NAME], feed: usize) -> Step
     ensures { λ r. ⌜ r ≡ kindStep n (now (seen .entry)) feed ⌝ }
 {
     match n {
         Number::None => Step::Fault(4),
         Number::Is { value, next: _ } => {
-            if 256 <= value {
+            if NAMES <= value {
                 return Step::Fault(5);
             }
             let name = value as usize;
@@ -149,7 +151,7 @@ fn head_step(
     places: bool,
     modules: u32,
     items: bool,
-    seen: &[u8; 256],
+    seen: &[u8; EACH_NAME],
 ) -> Step
     ensures { λ r. ⌜ r ≡ headStep (now (s .entry)) at feed places modules items (now (seen .entry)) ⌝ }
 {
@@ -181,7 +183,7 @@ fn head_step(
 }
 
 // The line that starts at a position.
-pub fn line_step(s: &[u8], at: usize, modules: u32, items: bool, seen: &[u8; 256]) -> Step
+pub fn line_step(s: &[u8], at: usize, modules: u32, items: bool, seen: &[u8; EACH_NAME]) -> Step
     ensures { λ r. ⌜ r ≡ lineStep (now (s .entry)) at modules items (now (seen .entry)) ⌝ }
 {
     if at8(s, at) != b'(' {
@@ -220,14 +222,14 @@ fn by_line(s: &[u8]) -> Verdict
     let mut row: u32 = 1;
     let mut modules: u32 = 0;
     let mut items = false;
-    let mut seen = [0u8; 256];
+    let mut seen = [0u8; EACH_NAME];
     while at < s.len() {
         match line_step(s, at, modules, items, &seen) {
             Step::Fault(k) => return Verdict::Refused(k, row),
             Step::Module(feed) => {
                 modules += 1;
                 items = false;
-                seen = [0u8; 256];
+                seen = [0u8; EACH_NAME];
                 at = feed + 1;
                 row += 1;
             }

@@ -2,3 +2,5 @@ pub mod Rows
 pub mod Added
 pub mod Pairs
 pub mod Sites
+pub mod Coverage
+pub mod Marks

@@ -1,5 +1,6 @@
 -- The tables of a module's own check, all in one run of numbers, and what it means. 01: The site; The block.
 -- Assumes nothing: these are definitions.
+use mathlib.Core.Path.{_≡_}
 use mathlib.Core.Bool.{Bool, true, false, _&&_, _||_}
 use mathlib.Core.List.{List, [], _∷_, _++_}
 use mathlib.Core.Option.{Option, some, none}
@@ -20,6 +21,10 @@ use Rattle.sites.specs.declared.Misuse.{Misuse}
 use Rattle.sites.specs.declared.Misuse.the-variants as misuse
 use Rattle.sites.specs.declared.Found.{Found}
 use Rattle.sites.specs.declared.Found.the-variants as found
+use Rattle.sites.specs.declared.Blocks.{Blocks}
+use Rattle.sites.specs.declared.Blocks.the-variants as blocks
+use Rattle.sites.specs.declared.Cover.{Cover}
+use Rattle.sites.specs.declared.Cover.the-variants as cover
 use Rattle.sites.specs.declared.Stored.{Stored}
 use Rattle.sites.specs.declared.Stored.the-variants as stored
 
@@ -260,3 +265,37 @@ before n f (suc k) = elim (eqb n (f k .name)) [ true ↦ f k ∷ before n f k | 
 -- whether a site is one of a name and meets an extent
 unfoldable pub hits : ℕ → site.Extent → site.Site → Bool
 hits n x s = elim (eqb n (s .name)) [ true ↦ site.meets (s .extent) x | false ↦ false ]
+
+-- how many blocks set a name
+abbrev pub blocks-by : ℕ → Blocks
+blocks-by zero = blocks.None
+blocks-by (suc zero) = blocks.One
+blocks-by (suc (suc n)) = blocks.Several
+
+abbrev pub range-test : site.Extent → Bool
+range-test site.Whole = false
+range-test site.Dynamic = false
+range-test site.Unknown = false
+range-test (site.Range l h) = true
+
+-- what decides an output's coverage: it has no site, some that is no range, or ranges only
+unfoldable pub ranges-by : List site.Site → Cover
+ranges-by ss = elim (site.only-ranges ss) [ true ↦ cover.Ranges | false ↦ cover.Open ]
+
+abbrev pub cover-by : List site.Site → Cover
+cover-by [] = cover.Never
+cover-by (s ∷ ss) = ranges-by (s ∷ ss)
+
+-- the first of `count` places from b on that has no mark
+unfoldable pub unmarked-from : List ℕ → ℕ → ℕ → Option ℕ
+unmarked-from marks b zero = none
+unmarked-from marks b (suc count) = elim (eqb (getD marks b 0) 1) [ true ↦ unmarked-from marks (suc b) count | false ↦ some b ]
+
+-- whether a place lies at or behind the first and before the last
+abbrev pub within : ℕ → ℕ → ℕ → Bool
+within from end b = leb from b && ltb b end
+
+-- the places below `limit` that `has` says get a mark, and each other keeps what it has
+pub record Marked (limit : ℕ) (has : ℕ → Bool) (old new : List ℕ) : Type 0 where
+  pub size : length new ≡ length old
+  pub at : (b : ℕ) → b < limit → eqb (getD new b 0) 1 ≡ (has b || eqb (getD old b 0) 1)

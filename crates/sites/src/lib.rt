@@ -1,7 +1,7 @@
 // What is said of outputs, registers and memories of one module: drive sites, pairs of name and block, and what their lines are.
 // All tables stand in one lent run of numbers, `own`, with a fixed layout: seven counts, then the rows of each table.
 ghost use mathlib.Core.Path.{_≡_};
-ghost use Prim.Native.Nat.{_+_, _*_, _≤_, _<_, min};
+ghost use Prim.Native.Nat.{ℕ, _+_, _*_, _≤_, _<_, min};
 ghost use mathlib.Core.List.{List, [], _∷_};
 ghost use lib.ListN.{length, getD, take};
 ghost use lib.Seq.{sets};
@@ -9,8 +9,8 @@ ghost use lib.Dec.{leb};
 ghost use mathlib.Core.Bool.{_&&_};
 ghost use Rattle.spec.specs.Site as site;
 ghost use Rattle.spec.specs.Refusal.{has-name};
-ghost use Rattle.spec.specs.Block.{has-pair};
-ghost use Rattle.sites.specs.Own.{extent-of, site-of, misuse-of, extent-from, misuse-from, pair-from, row, rows-in, pair-table, site-table, site-from, found-of, hits, table, Shape, pushed, push-answer, first-row, places, run, own-of, added, add-site, add-pair, add-output, add-reg, add-mem, add-misuse};
+ghost use Rattle.spec.specs.Block.{has-pair, block-count};
+ghost use Rattle.sites.specs.Own.{extent-of, site-of, misuse-of, extent-from, misuse-from, pair-from, row, rows-in, pair-table, site-table, site-from, found-of, hits, value-of, blocks-by, cover-by, range-test, unmarked-from, within, Marked, table, Shape, pushed, push-answer, first-row, places, run, own-of, added, add-site, add-pair, add-output, add-reg, add-mem, add-misuse};
 
 // How many names there are at most.
 pub const NAMES: usize = 256;
@@ -380,4 +380,223 @@ pub fn first_conflict(own: &[u32], name: u32) -> Found
         later += 1;
     }
     found
+}
+
+fn no_range(bound: bool) -> Extent
+    ensures { λ r. ⌜ extent-of r ≡ site.no-range bound ⌝ }
+{
+    if bound {
+        return Extent::Dynamic;
+    }
+    Extent::Unknown
+}
+
+// The extent of one bit. Its value v, where it is known, is held as v + 2147483648.
+pub fn bit_extent(bound: bool, known: bool, v: u32) -> Extent
+    ensures { λ r. ⌜ extent-of r ≡ site.bit-extent bound (value-of known v) ⌝ }
+{
+    if !known {
+        return no_range(bound);
+    }
+    if v < 2147483648 {
+        return no_range(bound);
+    }
+    Extent::Range {
+        low: v - 2147483648,
+        high: v - 2147483648,
+    }
+}
+
+// The extent of the bits from high to low.
+pub fn range_extent(bound: bool, h: bool, high: u32, l: bool, low: u32) -> Extent
+    ensures { λ r. ⌜ extent-of r ≡ site.range-extent bound (value-of h high) (value-of l low) ⌝ }
+{
+    if !h {
+        return no_range(bound);
+    }
+    if !l {
+        return no_range(bound);
+    }
+    if low < 2147483648 {
+        return no_range(bound);
+    }
+    if high < low {
+        return no_range(bound);
+    }
+    Extent::Range {
+        low: low - 2147483648,
+        high: high - 2147483648,
+    }
+}
+
+pub enum Blocks {
+    None,
+    One,
+    Several,
+}
+
+// How many blocks set a name.
+pub fn block_count(own: &[u32], name: u32) -> usize
+    requires { ⌜ length (now own) ≡ places ⌝ }
+    ensures { λ r. ⌜ r ≡ block-count name (own-of (now (own .entry)) .pairs) ⌝ }
+{
+    let n = count_at(own, 1, PAIR_LIMIT);
+    let mut k: usize = 0;
+    let mut i: usize = 0;
+    while i < n {
+        if own[PAIRS + 2 * i] == name {
+            k += 1;
+            i += 1;
+            continue;
+        }
+        i += 1;
+    }
+    k
+}
+
+// Whether a name has no block, one, or several.
+pub fn blocks_of(own: &[u32], name: u32) -> Blocks
+    requires { ⌜ length (now own) ≡ places ⌝ }
+    ensures { λ r. ⌜ r ≡ blocks-by (block-count name (own-of (now (own .entry)) .pairs)) ⌝ }
+{
+    let k = block_count(own, name);
+    if k == 0 {
+        return Blocks::None;
+    }
+    if k == 1 {
+        return Blocks::One;
+    }
+    Blocks::Several
+}
+
+// What decides an output's coverage.
+pub enum Cover {
+    Never,
+    Open,
+    Ranges,
+}
+
+fn is_range(e: Extent) -> bool
+    ensures { λ r. ⌜ r ≡ range-test (extent-of e) ⌝ }
+{
+    match e {
+        Extent::Whole => false,
+        Extent::Range { low: _, high: _ } => true,
+        Extent::Dynamic => false,
+        Extent::Unknown => false,
+    }
+}
+
+// Whether an output has no site, one that is no range, or ranges only.
+pub fn cover_of(own: &[u32], name: u32) -> Cover
+    requires { ⌜ length (now own) ≡ places ⌝ }
+    ensures { λ r. ⌜ r ≡ cover-by (site.sites-of name (own-of (now (own .entry)) .sites)) ⌝ }
+{
+    let n = site_count(own);
+    let mut seen = false;
+    let mut i: usize = 0;
+    while i < n {
+        let s = site_at(own, i);
+        if s.name != name {
+            i += 1;
+            continue;
+        }
+        let e = s.extent;
+        if !is_range(e) {
+            return Cover::Open;
+        }
+        seen = true;
+        i += 1;
+    }
+    if seen {
+        return Cover::Ranges;
+    }
+    Cover::Never
+}
+
+fn least(a: usize, b: usize) -> usize
+    ensures { λ r. ⌜ r ≡ min a b ⌝ }
+{
+    if a < b {
+        return a;
+    }
+    b
+}
+
+// A mark at each place from..end.
+fn mark(marks: &mut [u8], from: usize, end: usize)
+    requires { ⌜ (from ≤ end) × (end ≤ length (now marks)) ⌝ }
+    ensures { λ _. ⌜ Marked (length (now (marks .entry))) (within from end) (now (marks .entry)) (now (marks .exit)) ⌝ }
+{
+    let mut b = from;
+    while b < end {
+        marks[b] = 1;
+        b += 1;
+    }
+}
+
+// A mark at each place below the limit that an extent covers.
+fn mark_extent(marks: &mut [u8], limit: usize, e: Extent)
+    requires { ⌜ limit ≤ length (now marks) ⌝ }
+    ensures { λ _. ⌜ Marked limit (site.covers (extent-of e)) (now (marks .entry)) (now (marks .exit)) ⌝ }
+{
+    match e {
+        Extent::Whole => {
+            mark(marks, 0, limit);
+            return;
+        }
+        Extent::Range { low, high } => {
+            let end = least(high as usize + 1, limit);
+            let from = least(low as usize, end);
+            mark(marks, from, end);
+            return;
+        }
+        Extent::Dynamic => return,
+        Extent::Unknown => return,
+    }
+}
+
+// A mark at each place below the limit that a site of the name covers.
+fn mark_sites(own: &[u32], name: u32, marks: &mut [u8], limit: usize)
+    requires { ⌜ (length (now own) ≡ places) × (limit ≤ length (now marks)) ⌝ }
+    ensures { λ _. ⌜ Marked limit (site.covered (site.sites-of name (own-of (now (own .entry)) .sites))) (now (marks .entry)) (now (marks .exit)) ⌝ }
+{
+    let n = site_count(own);
+    let mut i: usize = 0;
+    while i < n {
+        let s = site_at(own, i);
+        if s.name != name {
+            i += 1;
+            continue;
+        }
+        let e = s.extent;
+        mark_extent(marks, limit, e);
+        i += 1;
+    }
+}
+
+// The first place below the limit that has no mark.
+fn first_unmarked(marks: &[u8], limit: usize) -> Found
+    requires { ⌜ (limit ≤ length (now marks)) × (limit ≤ 4096) ⌝ }
+    ensures { λ r. ⌜ found-of r ≡ unmarked-from (now (marks .entry)) 0 limit ⌝ }
+{
+    let mut b: usize = 0;
+    while b < limit {
+        if marks[b] != 1 {
+            return Found::At(b as u32);
+        }
+        b += 1;
+    }
+    Found::Nothing
+}
+
+// The first of the lowest min(width, 4,096) bits that no site of the name covers.
+pub fn first_gap(own: &[u32], name: u32, width: u32) -> Found
+    requires { ⌜ length (now own) ≡ places ⌝ }
+    ensures { λ r. ⌜ found-of r ≡ site.first-gap (site.sites-of name (own-of (now (own .entry)) .sites)) width ⌝ }
+{
+    let mut marks = [0u8; 4096];
+    let limit = least(width as usize, 4096);
+    mark_sites(own, name, &mut marks, limit);
+    first_unmarked(&marks, limit)
 }

@@ -1,0 +1,81 @@
+-- The ways of `read_text`: tables too short, a text that is refused, a text that is accepted.
+-- Assumes nothing.
+use mathlib.Core.Path.{_≡_, refl, sym, ap, _∙_}
+use mathlib.Core.List.{List}
+use Prim.Native.Nat.{ℕ, _≤_, _<_}
+use native.Mathlib.Omega.{arith}
+use lib.ListN.{length, replicate, length-replicate}
+use borrow.Author.Tests.{lt-ltb, le-ltb}
+use Rattle.spec.specs.Bytes.{Bytes}
+use Rattle.spec.specs.Refusal.{Verdict, well-formed, refused, refusal, decode}
+use Rattle.lines.specs.Verdict.{told}
+use Rattle.lines.specs.Tables.{put-kinds, put-mods, Fitting}
+use Rattle.lines.specs.Reader.{by-verdict, by-room, read-as, kinds-after, mods-after}
+use Rattle.lines.specs.declared.read.Verdict.{Verdict as Answer}
+use Rattle.lines.specs.declared.read.Verdict.the-variants.{Refused as No, Formed}
+use Rattle.lines.specs.declared.tables.Read.{Read}
+use Rattle.lines.specs.declared.tables.Read.the-variants.{Short, Refused, Accepted}
+
+module _ {A : Type 0} (s f : A) (k m : ℕ) where
+  pub room-kinds : k < 8192 → s ≡ by-room s f k m
+  unfolding by-room
+  room-kinds h = rw (lt-ltb k 8192 h, by-room)
+
+  pub room-mods : 8192 ≤ k → m < 128 → s ≡ by-room s f k m
+  unfolding by-room
+  room-mods g h = rw (le-ltb k 8192 g, lt-ltb m 128 h, by-room)
+
+  pub room-fits : 8192 ≤ k → 128 ≤ m → f ≡ by-room s f k m
+  unfolding by-room
+  room-fits g h = rw (le-ltb k 8192 g, le-ltb m 128 h, by-room)
+
+told-refused : (v : Verdict) (c k n : ℕ) → No k n ≡ told v c → v ≡ refused k n
+told-refused well-formed c k n e = let z : _≡_ {A = ℕ} 0 1 = cc e in absurd (omega arith)
+told-refused (refused j m) c k n e = cc e
+
+told-formed : (v : Verdict) (c m : ℕ) → Formed m ≡ told v c → (v ≡ well-formed) × (m ≡ c)
+told-formed well-formed c m e = (refl, cc e)
+told-formed (refused j n) c m e = let z : _≡_ {A = ℕ} 0 1 = cc e in absurd (omega arith)
+
+module _ (t : Bytes) (kinds mods : List ℕ) where
+  abbrev Left : Read → List ℕ → List ℕ → Type 0
+  Left r ks ms = (r ≡ read-as (length kinds) (length mods) t) × ((ks ≡ kinds-after kinds (length mods) t) × (ms ≡ mods-after mods (length kinds) t))
+
+  pub short-kinds : length kinds < 8192 → Left Short kinds mods
+  unfolding read-as kinds-after mods-after
+  short-kinds h = (room-kinds _ _ (length kinds) (length mods) h, (room-kinds _ _ (length kinds) (length mods) h, room-kinds _ _ (length kinds) (length mods) h))
+
+  module _ (g : 8192 ≤ length kinds) where
+    pub short-mods : length mods < 128 → Left Short kinds mods
+    unfolding read-as kinds-after mods-after
+    short-mods h = (room-mods _ _ (length kinds) (length mods) g h, (room-mods _ _ (length kinds) (length mods) g h, room-mods _ _ (length kinds) (length mods) g h))
+
+    module _ (h : 128 ≤ length mods) (v : Answer) (e : v ≡ told (refusal t) (length (decode t))) (ks ms : List ℕ) (zk : ks ≡ replicate (length kinds) 0) (zm : ms ≡ replicate (length mods) 0) where
+      pub read-refused : (k n : ℕ) → v ≡ No k n → Left (Refused k n) ks ms
+      unfolding read-as kinds-after mods-after
+      read-refused k n q =
+          let r = told-refused (refusal t) (length (decode t)) k n (sym q ∙ e) in (
+            ap (by-verdict Refused (Accepted (length (decode t)))) (sym r) ∙ room-fits _ _ (length kinds) (length mods) g h,
+            (
+              zk ∙ ap (by-verdict (λ k n. replicate {A = ℕ} (length kinds) 0) (put-kinds 0 (decode t) (replicate (length kinds) 0))) (sym r) ∙ room-fits _ _ (length kinds) (length mods) g h,
+              zm ∙ ap (by-verdict (λ k n. replicate {A = ℕ} (length mods) 0) (put-mods 0 0 (decode t) (replicate (length mods) 0))) (sym r) ∙ room-fits _ _ (length kinds) (length mods) g h,
+            ),
+          )
+
+      pub read-fitting : (m : ℕ) → v ≡ Formed m → Fitting t ks ms
+      read-fitting m q = record {
+        formed = told-formed (refusal t) (length (decode t)) m (sym q ∙ e) .0;
+        kinds-fit = let a = ap length zk ∙ length-replicate {A = ℕ} (length kinds) 0 in omega arith;
+        mods-fit = let a = ap length zm ∙ length-replicate {A = ℕ} (length mods) 0 in omega arith;
+      }
+
+      pub read-accepted : (m : ℕ) → v ≡ Formed m → (ks′ ms′ : List ℕ) → ks′ ≡ put-kinds 0 (decode t) ks → ms′ ≡ put-mods 0 0 (decode t) ms → Left (Accepted m) ks′ ms′
+      unfolding read-as kinds-after mods-after
+      read-accepted m q ks′ ms′ wk wm =
+          let r = told-formed (refusal t) (length (decode t)) m (sym q ∙ e) in (
+            ap Accepted (r .1) ∙ ap (by-verdict Refused (Accepted (length (decode t)))) (sym (r .0)) ∙ room-fits _ _ (length kinds) (length mods) g h,
+            (
+              wk ∙ ap (put-kinds 0 (decode t)) zk ∙ ap (by-verdict (λ k n. replicate {A = ℕ} (length kinds) 0) (put-kinds 0 (decode t) (replicate (length kinds) 0))) (sym (r .0)) ∙ room-fits _ _ (length kinds) (length mods) g h,
+              wm ∙ ap (put-mods 0 0 (decode t)) zm ∙ ap (by-verdict (λ k n. replicate {A = ℕ} (length mods) 0) (put-mods 0 0 (decode t) (replicate (length mods) 0))) (sym (r .0)) ∙ room-fits _ _ (length kinds) (length mods) g h,
+            ),
+          )

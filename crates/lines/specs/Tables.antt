@@ -1,0 +1,83 @@
+-- The tables of a design: what the reader leaves in the lent slices of a text that it accepts.
+-- Assumes nothing: these are definitions.
+use mathlib.Core.Path.{_≡_}
+use mathlib.Core.Bool.{Bool, true, false}
+use mathlib.Core.List.{List, [], _∷_}
+use Prim.Native.Nat.{ℕ, suc, _+_, _*_, _≤_}
+use lib.Dec.{eqb}
+use lib.ListN.{length, getD, set}
+use Rattle.spec.specs.Bytes.{Bytes, bytes}
+use Rattle.spec.specs.Syntax.{Kind, in-kind, out-kind, wire-kind, reg-kind, mem-kind, inst-kind, Header, kind, val, Items, Design, module-line}
+use Rattle.spec.specs.Show.{show-line, show-lines, header-lines, item-lines}
+use Rattle.spec.specs.Refusal.{refusal, well-formed}
+use Rattle.lines.specs.Parse.{key, wordAt}
+use Rattle.lines.specs.Read.{numberAfter}
+use Rattle.lines.specs.declared.parse.Number.{Number}
+use Rattle.lines.specs.declared.parse.Number.the-variants.{None, Is}
+
+-- the number of a kind; 0 is no kind
+abbrev pub kind-number : Kind → ℕ
+kind-number in-kind = 1
+kind-number out-kind = 2
+kind-number wire-kind = 3
+kind-number reg-kind = 4
+kind-number mem-kind = 5
+kind-number inst-kind = 6
+
+abbrev pub flag : Bool → ℕ
+flag true = 1
+flag false = 0
+
+-- the kinds of module m: the kind of name n at m * 256 + n
+unfoldable pub put-header : ℕ → List Header → List ℕ → List ℕ
+put-header m [] table = table
+put-header m (kind n k ∷ hs) table = put-header m hs (set table (m * 256 + n) (kind-number k))
+put-header m (val n v ∷ hs) table = put-header m hs table
+
+unfoldable pub put-kinds : ℕ → Design → List ℕ → List ℕ
+put-kinds m [] table = table
+put-kinds m (k ∷ ms) table = put-kinds (suc m) ms (put-header m (k .header) table)
+
+-- the places of module m: whether it is bound, and where its header, its items and what is behind it begin
+abbrev pub entries : List ℕ → ℕ → ℕ → ℕ → ℕ → ℕ → List ℕ
+entries table m b h i e = set (set (set (set table (m * 4) b) (m * 4 + 1) h) (m * 4 + 2) i) (m * 4 + 3) e
+
+abbrev pub marked : List ℕ → ℕ → ℕ → ℕ → List ℕ
+marked table m i e = set (set table (m * 4 + 2) i) (m * 4 + 3) e
+
+-- how many bytes header lines and item lines are, with their line feeds
+unfoldable pub header-size : List Header → ℕ
+header-size hs = length (show-lines (header-lines hs []))
+
+unfoldable pub items-size : Items → ℕ
+items-size is = length (show-lines (item-lines is []))
+
+-- where the header of a module begins whose line is at o
+unfoldable pub header-at : ℕ → ℕ → Bool → ℕ
+header-at m o b = o + length (show-line (module-line m b)) + 1
+
+unfoldable pub put-mods : ℕ → ℕ → Design → List ℕ → List ℕ
+put-mods m o [] table = table
+put-mods m o (k ∷ ms) table =
+    let h = header-at m o (k .bound) in
+    let i = h + header-size (k .header) in
+    let e = i + items-size (k .items) in
+    put-mods (suc m) e ms (entries table m (flag (k .bound)) h i e)
+
+-- ---- what the code reads
+
+abbrev pub secondBehind : Number → Bytes → ℕ
+secondBehind None t = 0
+secondBehind (Is v j) t = elim (eqb (getD t j 0) 32) [ true ↦ wordAt t (j + 1) .key | false ↦ 0 ]
+
+unfoldable pub secondKey : Bytes → ℕ → ℕ
+secondKey t at = elim (eqb (getD t at 0) 40) [ true ↦ secondBehind (numberAfter t (wordAt t (at + 1) .next)) t | false ↦ 0 ]
+
+unfoldable pub flagOf : ℕ → ℕ
+flagOf k = elim (eqb k (key (bytes "bound"))) [ true ↦ 1 | false ↦ 0 ]
+
+-- a well formed text, and tables for 32 modules
+pub record Fitting (t : Bytes) (kinds mods : List ℕ) : Type 0 where
+  pub formed : refusal t ≡ well-formed
+  pub kinds-fit : 8192 ≤ length kinds
+  pub mods-fit : 128 ≤ length mods

@@ -1,0 +1,52 @@
+-- `sites::first_gap` meets its contract. Marks, and the first place without one. Assumes nothing.
+use mathlib.Core.Path.{_≡_, refl, sym, ap, subst, _∙_}
+use mathlib.Core.Bool.{Bool, true, false}
+use mathlib.Core.List.{List, [], _∷_}
+use Prim.Native.Nat.{ℕ, _+_, _*_, _-_, _≤_, _<_, min}
+use native.Mathlib.Omega.{arith}
+use borrow.Author.Needs.{needs}
+use lib.ListN.{length, getD, set, take, length-set}
+use Rattle.sites.specs.Own.{extent-from, misuse-from, extent-of, misuse-of, site-of, site-from, pair-from, row, rows-in, run, items, own-of, added, pair-table, site-table}
+use mathlib.Core.Option.{none, some}
+use lib.Dec.{eqb, ltb, leb}
+use lib.ListN.{replicate}
+use Rattle.sites.specs.Own.{Marked, within, unmarked-from, found-of}
+use Rattle.spec.specs.Site as site
+use Rattle.sites.proofs.Rows.{run-all}
+use Rattle.sites.proofs.Marks.{mark-start, mark-more, mark-done, mark-nothing, mark-whole, mark-range, Going, going-start, going-skip, going-own, going-end, unmarked-end, unmarked-gap, unmarked-more, unmarked-start, gap-found, fresh}
+use Rattle.sites.proofs.first_gap.Statement.{statement}
+use Rattle.sites.proofs.first_gap.Tie as tie
+use Rattle.sites.proofs.first_gap.Reads as reads
+use Rattle.sites.proofs.first_gap.Lts as lts
+use Rattle.sites.proofs.first_unmarked.Reads as first-unmarked-reads
+use Rattle.sites.proofs.least.Reads as least-reads
+use Rattle.sites.proofs.mark_sites.Reads as mark-sites-reads
+
+least-requires : tie.Need-least-requires
+least-requires c κs = search needs
+
+slice-aggregate-mark-sites : tie.Need-slice-aggregate-mark-sites
+slice-aggregate-mark-sites c = search needs
+
+mark-sites-requires : tie.Need-mark-sites-requires
+mark-sites-requires c κs = (c .before .before .before .pre, omega (arith, c .before .least .ensures))
+
+slice-aggregate-first-unmarked : tie.Need-slice-aggregate-first-unmarked
+slice-aggregate-first-unmarked c = search needs
+
+first-unmarked-requires : tie.Need-first-unmarked-requires
+first-unmarked-requires c κs = omega (arith, c .before .before .before .before .least .ensures, c .before .before .mark-sites .kept .1 .1 .0)
+
+returns : tie.Need-returns
+returns c = c .first-unmarked .ensures ∙ gap-found (replicate 4096 0) (c .before .before .before .mark-sites .last .1 .1 .0) (site.sites-of (c .before .before .before .before .before .before .before .args .name) (own-of (c .before .before .before .before .before .before .before .args .own .now) .sites)) (c .before .before .before .before .before .before .before .args .width) (c .before .before .before .before .before .least .result) (c .before .before .before .before .before .least .ensures) fresh (c .before .before .before .mark-sites .ensures)
+
+pub first-gap-spec : {M : Type 1} → statement M
+first-gap-spec =
+    tie.close
+    (tie.spec
+    least-requires
+    slice-aggregate-mark-sites
+    mark-sites-requires
+    slice-aggregate-first-unmarked
+    first-unmarked-requires
+    returns)
