@@ -1,16 +1,15 @@
 -- What each addition does to all the tables. Assumes nothing.
-use mathlib.Core.Path.{_≡_, refl, sym, ap, _∙_}
-use mathlib.Core.Bool.{Bool, true, false}
-use mathlib.Core.List.{List, [], _∷_}
+use mathlib.Core.Path.{_≡_, refl, sym}
+use mathlib.Core.Bool.{true, false}
+use mathlib.Core.List.{List, []}
 use Prim.Native.Nat.{ℕ}
 use native.Mathlib.Omega.{arith}
-use lib.ListN.{length, getD}
+use lib.ListN.{length}
 use Rattle.spec.specs.Site as site
-use Rattle.spec.specs.Site.{Misused, Conflict}
-use Rattle.spec.specs.Block.{Pair, Storage, has-pair}
+use Rattle.spec.specs.Block.{Pair, has-pair}
 use Rattle.sites.specs.declared.Stored.{Stored}
 use Rattle.sites.specs.declared.Stored.the-variants as stored
-use Rattle.sites.specs.Own.{Table, Shape, Own, Port, places, names, items, own-of, added, pushed, push-answer, first-row, grown, first-kept, add-site, add-pair, add-output, add-reg, add-mem, add-misuse, with-pairs, site-table, pair-table, port-table, reg-table, mem-table, misuse-table, conflict-table, site-from, pair-from, port-from, storage-from, misused-from, conflict-from}
+use Rattle.sites.specs.Own.{Shape, places, items, own-of, added, pushed, push-answer, first-row, add-site, add-pair, add-output, add-reg, add-mem, add-misuse, site-table, pair-table, port-table, reg-table, mem-table, misuse-table, conflict-table, site-from, pair-from, port-from, storage-from, misused-from, conflict-from}
 use Rattle.sites.proofs.Rows.{pushed-items, pushed-other, answer-items, first-items, first-other, same-own}
 
 pub site-shape : (own : List ℕ) → length own ≡ places → Shape site-table own

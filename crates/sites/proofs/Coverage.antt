@@ -1,23 +1,20 @@
 -- Extents of indexes, blocks, and coverage. Assumes nothing.
 use mathlib.Core.Path.{_≡_, refl, sym, ap, _∙_}
-use mathlib.Core.Bool.{Bool, true, false, _&&_, _||_}
+use mathlib.Core.Bool.{Bool, true, false}
 use mathlib.Core.List.{List, [], _∷_}
-use mathlib.Core.Option.{Option, some, none}
 use Prim.Native.Nat.{ℕ, zero, suc, _+_, _*_, _-_, _<_, _≤_}
 use native.Mathlib.Omega.{arith}
-use native.Mathlib.Numerals.{add-one}
 use lib.IntN.{ℤ, pos, negsuc}
-use lib.Dec.{eqb, ltb, leb}
-use lib.ListN.{length, getD, set}
+use lib.Dec.{ltb}
+use lib.ListN.{getD}
 use borrow.Author.Tests.{eq-eqb, ne-eqb, lt-ltb, le-ltb, ltb-true, ltb-false, lt-leb, le-leb}
-use Rattle.spec.specs.Value.{Value, known, missing}
-use Rattle.spec.specs.Site.{Extent, Whole, Range, Dynamic, Unknown, Site, no-range, bit-extent, range-extent, sites-of, only-ranges, covers, covered, gap-from}
+use Rattle.spec.specs.Value.{known, missing}
+use Rattle.spec.specs.Site.{Extent, Whole, Range, Dynamic, Unknown, Site, no-range, bit-extent, range-extent, sites-of, only-ranges}
 use Rattle.spec.specs.Block.{Pair, block-count}
 use Rattle.sites.specs.declared.Cover.{Cover}
 use Rattle.sites.specs.declared.Cover.the-variants as cover
-use Rattle.sites.specs.declared.Blocks.{Blocks}
 use Rattle.sites.specs.declared.Blocks.the-variants as blocks
-use Rattle.sites.specs.Own.{unbiased, value-of, run, row, pair-table, pair-from, blocks-by, ranges-by, cover-by, range-test}
+use Rattle.sites.specs.Own.{unbiased, run, row, pair-table, pair-from, blocks-by, ranges-by, cover-by, range-test}
 use Rattle.sites.proofs.Rows.{run-step, run-end}
 use Rattle.sites.proofs.Pairs.{row-name}
 

@@ -4,3 +4,4 @@ pub mod Pairs
 pub mod Sites
 pub mod Coverage
 pub mod Marks
+pub mod Conflicts

@@ -1,16 +1,16 @@
 -- Marks of covered bits, and the first without one. Assumes nothing.
 use mathlib.Core.Path.{_≡_, refl, sym, ap, _∙_}
-use mathlib.Core.Bool.{Bool, true, false, _&&_, _||_}
+use mathlib.Core.Bool.{Bool, true, false, _||_}
 use mathlib.Core.List.{List, [], _∷_}
-use mathlib.Core.Option.{Option, some, none}
-use Prim.Native.Nat.{ℕ, zero, suc, _+_, _*_, _-_, _<_, _≤_, min}
+use mathlib.Core.Option.{some, none}
+use Prim.Native.Nat.{ℕ, zero, suc, _+_, _-_, _<_, _≤_, min}
 use native.Mathlib.Omega.{arith}
 use native.Mathlib.Numerals.{add-one}
 use lib.Dec.{eqb, ltb, leb}
 use lib.ListN.{length, getD, set, length-set, replicate, getD-replicate}
 use lib.Seq.{getD-set-same, getD-set-other}
 use borrow.Author.Tests.{eq-eqb, ne-eqb, eqb-true, eqb-false, lt-ltb, le-ltb, ltb-true, ltb-false, lt-leb, le-leb, leb-true, leb-false}
-use Rattle.spec.specs.Site.{Extent, Whole, Range, Dynamic, Unknown, Site, covers, covered, sites-of, gap-from, first-gap}
+use Rattle.spec.specs.Site.{Whole, Range, Site, covers, covered, sites-of, gap-from, first-gap}
 use Rattle.sites.specs.Own.{run, within, Marked, unmarked-from}
 use Rattle.sites.proofs.Rows.{run-step, run-end}
 

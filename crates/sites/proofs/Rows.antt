@@ -10,9 +10,9 @@ use Rattle.spec.specs.Refusal.{has-name}
 use lib.Dec.{T, eqb, ltb, leb, ltb→lt, leb→le}
 use borrow.Author.Tests.{eq-eqb, ne-eqb, leb-true, lt-ltb, le-ltb, ltb-true, ltb-false}
 use Rattle.sites.specs.declared.Stored.the-variants as stored
-use lib.ListN.{length, getD, set, take, drop, length-set, length-take, drop-of-length-le}
+use lib.ListN.{length, getD, set, take, drop, length-take, length-drop, drop-of-length-le}
 use lib.Seq.{sets, drop-cons, sets-eq, length-sets, drop-set-lt, drop-set-add, take-set-le, drop-at, take-at, length-take-le, getD-set-same, getD-set-other, getD-take, getD-drop}
-use Rattle.sites.specs.Own.{Table, table, Shape, run, row, rows-in, items, stored-row, pushed, push-answer, row-names, first-row, names-of, grown, room, first-kept, names, Own}
+use Rattle.sites.specs.Own.{Table, Shape, run, row, rows-in, items, stored-row, pushed, push-answer, row-names, first-row, names-of, grown, room, first-kept, names, Own}
 
 -- runs
 pub run-ext : {A : Type 0} (f g : ℕ → A) (i n : ℕ) → ((j : ℕ) → i ≤ j → j < i + n → f j ≡ g j) → run f i n ≡ run g i n
@@ -45,6 +45,14 @@ module _ (t : Table) (own : List ℕ) where
   unfolding row
   row-below j i v h = ap (λ l. take (t .width) l) (drop-set-lt (t .base + t .width * j) own i v (omega arith))
 
+  row-before : (j i v : ℕ) → i < t .base + t .width * j → row t (set own i v) j ≡ row t own j
+  unfolding row
+  row-before j i v h = ap (λ l. take (t .width) l) (drop-set-lt (t .base + t .width * j) own i v h)
+
+  pub row-length : (j : ℕ) → length (row t own j) ≡ min (t .width) (length own - (t .base + t .width * j))
+  unfolding row
+  row-length j = length-take (t .width) (drop (t .base + t .width * j) own) ∙ ap (λ (k : ℕ). min (t .width) k) (length-drop (t .base + t .width * j) own)
+
   row-above : (j i v : ℕ) → t .base + t .width * j + t .width ≤ i → row t (set own i v) j ≡ row t own j
   unfolding row
   row-above j i v h =
@@ -54,7 +62,7 @@ module _ (t : Table) (own : List ℕ) where
       ∙ ap (λ l. take (t .width) l) (drop-set-add k own (i - k) v)
       ∙ take-set-le (t .width) (drop k own) (i - k) v (omega arith)
 
-row-sets-above : (t : Table) (own : List ℕ) (j i : ℕ) (vs : List ℕ) → t .base + t .width * j + t .width ≤ i → row t (sets own i vs) j ≡ row t own j
+pub row-sets-above : (t : Table) (own : List ℕ) (j i : ℕ) (vs : List ℕ) → t .base + t .width * j + t .width ≤ i → row t (sets own i vs) j ≡ row t own j
 row-sets-above t own j i [] h = refl
 row-sets-above t own j i (v ∷ vs) h = row-sets-above t (set own i v) j (suc i) vs (omega arith) ∙ row-above t own j i v h
 
@@ -62,8 +70,12 @@ row-sets-below : (t : Table) (own : List ℕ) (j i : ℕ) (vs : List ℕ) → i 
 row-sets-below t own j i [] h = refl
 row-sets-below t own j i (v ∷ vs) h = row-sets-below t (set own i v) j (suc i) vs (omega arith) ∙ row-below t own j i v (omega arith)
 
+pub row-sets-before : (t : Table) (own : List ℕ) (j i : ℕ) (vs : List ℕ) → i + length vs ≤ t .base + t .width * j → row t (sets own i vs) j ≡ row t own j
+row-sets-before t own j i [] h = refl
+row-sets-before t own j i (v ∷ vs) h = row-sets-before t (set own i v) j (suc i) vs (omega arith) ∙ row-before t own j i v (omega arith)
+
 -- what was stored as a row is read as that row
-row-sets-same : (t : Table) (own : List ℕ) (n : ℕ) (vs : List ℕ) → length vs ≡ t .width → t .base + t .width * n + t .width ≤ length own
+pub row-sets-same : (t : Table) (own : List ℕ) (n : ℕ) (vs : List ℕ) → length vs ≡ t .width → t .base + t .width * n + t .width ≤ length own
     → row t (sets own (t .base + t .width * n) vs) n ≡ vs
 unfolding row
 row-sets-same t own n vs e h =
@@ -73,7 +85,7 @@ row-sets-same t own n vs e h =
     ∙ take-at vs (drop (k + length vs) own) (t .width) e
 
 -- one row more
-getD-sets-below : (own : List ℕ) (c i : ℕ) (vs : List ℕ) → c < i → getD (sets own i vs) c 0 ≡ getD own c 0
+pub getD-sets-below : (own : List ℕ) (c i : ℕ) (vs : List ℕ) → c < i → getD (sets own i vs) c 0 ≡ getD own c 0
 getD-sets-below own c i [] h = refl
 getD-sets-below own c i (v ∷ vs) h = getD-sets-below (set own i v) c (suc i) vs (omega arith) ∙ getD-set-other own i c v 0 (λ e. omega arith)
 
@@ -262,7 +274,7 @@ names-items nm f t own q w =
 
 -- what pushing and keeping the first do to the records of a table, and to those of another
 module _ {A : Type 0} (f : List ℕ → A) (t : Table) (own vs : List ℕ) (s : Shape t own) (w : length vs ≡ t .width) where
-  grown-room : rows-in t own < t .limit → grown (t .limit) (f vs) (items f t own) ≡ items f t own ++ f vs ∷ []
+  pub grown-room : rows-in t own < t .limit → grown (t .limit) (f vs) (items f t own) ≡ items f t own ++ f vs ∷ []
   unfolding grown
   grown-room h =
       let l = run-length (λ i. f (row t own i)) 0 (rows-in t own) in

@@ -12,7 +12,7 @@ use lib.Seq.{sets}
 use Rattle.spec.specs.Refusal.{has-name}
 use Rattle.spec.specs.Value.{Value, known, missing}
 use Rattle.spec.specs.Site as site
-use Rattle.spec.specs.Site.{Misused, Conflict}
+use Rattle.spec.specs.Site.{Misused, Conflict, misused-names, conflict-names}
 use Rattle.spec.specs.Block.{Pair, Storage, has-pair}
 use Rattle.sites.specs.declared.Extent.{Extent}
 use Rattle.sites.specs.declared.Extent.the-variants as extent
@@ -299,3 +299,44 @@ within from end b = leb from b && ltb b end
 pub record Marked (limit : ℕ) (has : ℕ → Bool) (old new : List ℕ) : Type 0 where
   pub size : length new ≡ length old
   pub at : (b : ℕ) → b < limit → eqb (getD new b 0) 1 ≡ (has b || eqb (getD old b 0) 1)
+
+-- the names to skip at row k: those of the rows before it, and the poisoned ones
+unfoldable pub skip-at : List ℕ → (ℕ → site.Site) → ℕ → List ℕ
+skip-at poison f zero = poison
+skip-at poison f (suc k) = f k .name ∷ skip-at poison f k
+
+abbrev pub with-conflicts : List Conflict → Own → Own
+with-conflicts cs o = record { sites = o .sites; pairs = o .pairs; outputs = o .outputs; regs = o .regs; mems = o .mems; misuses = o .misuses; conflicts = cs }
+
+-- 01, The site: a name is poisoned by a misuse or a conflict
+unfoldable pub poisoned-names : Own → List ℕ
+poisoned-names o = conflict-names (o .conflicts) ++ misused-names (o .misuses)
+
+-- two runs of numbers differ in the table of conflicts alone
+pub record Front (old new : List ℕ) : Type 0 where
+  pub size : length new ≡ length old
+  pub at : (j : ℕ) → j < conflict-table .base → ¬ (j ≡ conflict-table .count) → getD new j 0 ≡ getD old j 0
+
+abbrev pub conflict-rows : List ℕ → List Conflict
+conflict-rows own = items conflict-from conflict-table own
+
+-- the sites, and the poisoned names, of a run of numbers
+abbrev pub site-row : List ℕ → ℕ → site.Site
+site-row own i = site-from (row site-table own i)
+
+abbrev pub misuse-poison : List ℕ → List ℕ
+misuse-poison own = misused-names (items misused-from misuse-table own)
+
+-- what the site in row k adds to the conflicts of the sites behind it
+unfoldable pub conflict-step : List ℕ → ℕ → List Conflict → List Conflict
+conflict-step own k cs =
+    elim (has-name (site-row own k .name) (skip-at (misuse-poison own) (site-row own) k)) [
+      | true ↦ cs
+      | false ↦ site.with-conflict (site-row own k .name) (site.first-conflict [] (site.sites-of (site-row own k .name) (items site-from site-table own))) cs
+    ]
+
+abbrev pub conflict-row : List ℕ → ℕ → Conflict
+conflict-row own i = conflict-from (row conflict-table own i)
+
+abbrev pub conflict-of : ℕ → ℕ → Conflict
+conflict-of start name = record { start = start; name = name }

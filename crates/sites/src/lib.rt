@@ -1,8 +1,8 @@
 // What is said of outputs, registers and memories of one module: drive sites, pairs of name and block, and what their lines are.
 // All tables stand in one lent run of numbers, `own`, with a fixed layout: seven counts, then the rows of each table.
 ghost use mathlib.Core.Path.{_≡_};
-ghost use Prim.Native.Nat.{ℕ, _+_, _*_, _≤_, _<_, min};
-ghost use mathlib.Core.List.{List, [], _∷_};
+ghost use Prim.Native.Nat.{_+_, _-_, _*_, _≤_, _<_, min};
+ghost use mathlib.Core.List.{[], _∷_, _++_};
 ghost use lib.ListN.{length, getD, take};
 ghost use lib.Seq.{sets};
 ghost use lib.Dec.{leb};
@@ -10,7 +10,7 @@ ghost use mathlib.Core.Bool.{_&&_};
 ghost use Rattle.spec.specs.Site as site;
 ghost use Rattle.spec.specs.Refusal.{has-name};
 ghost use Rattle.spec.specs.Block.{has-pair, block-count};
-ghost use Rattle.sites.specs.Own.{extent-of, site-of, misuse-of, extent-from, misuse-from, pair-from, row, rows-in, pair-table, site-table, site-from, found-of, hits, value-of, blocks-by, cover-by, range-test, unmarked-from, within, Marked, table, Shape, pushed, push-answer, first-row, places, run, own-of, added, add-site, add-pair, add-output, add-reg, add-mem, add-misuse};
+ghost use Rattle.sites.specs.Own.{extent-of, site-of, misuse-of, extent-from, misuse-from, pair-from, row, rows-in, pair-table, site-table, site-from, found-of, hits, value-of, blocks-by, cover-by, range-test, unmarked-from, within, Marked, conflict-of, conflict-row, conflict-rows, conflict-table, conflict-step, with-conflicts, poisoned-names, misuse-poison, row-names, skip-at, site-row, Front, table, Shape, pushed, push-answer, first-row, places, run, own-of, added, add-site, add-pair, add-output, add-reg, add-mem, add-misuse};
 
 // How many names there are at most.
 pub const NAMES: usize = 256;
@@ -599,4 +599,135 @@ pub fn first_gap(own: &[u32], name: u32, width: u32) -> Found
     let limit = least(width as usize, 4096);
     mark_sites(own, name, &mut marks, limit);
     first_unmarked(&marks, limit)
+}
+
+// Whether a conflict goes before another: by START, then by name.
+fn conflict_earlier(start: u32, name: u32, s: u32, n: u32) -> bool
+    ensures { λ r. ⌜ r ≡ site.conflict-before (conflict-of start name) (conflict-of s n) ⌝ }
+{
+    if start < s {
+        return true;
+    }
+    if start == s {
+        return name < n;
+    }
+    false
+}
+
+// The place of a conflict among the first n.
+fn conflict_place(own: &[u32], n: usize, start: u32, name: u32) -> usize
+    requires { ⌜ (length (now own) ≡ places) × (n ≤ 1024) ⌝ }
+    ensures { λ r. ⌜ (r ≤ n) × (run (conflict-row (now (own .entry))) 0 r ++ (conflict-of start name ∷ run (conflict-row (now (own .entry))) r (n - r))
+        ≡ site.insert-conflict (conflict-of start name) (run (conflict-row (now (own .entry))) 0 n)) ⌝ }
+{
+    let mut i: usize = 0;
+    while i < n {
+        let at = CONFLICTS + 2 * i;
+        if conflict_earlier(start, name, own[at + 1], own[at]) {
+            return i;
+        }
+        i += 1;
+    }
+    i
+}
+
+// One conflict more, in its place.
+fn insert_conflict(own: &mut [u32], start: u32, name: u32)
+    requires { ⌜ (length (now own) ≡ places) × (rows-in conflict-table (now own) < 1024) ⌝ }
+    ensures { λ _. ⌜ Front (now (own .entry)) (now (own .exit))
+        × (conflict-rows (now (own .exit)) ≡ site.insert-conflict (conflict-of start name) (conflict-rows (now (own .entry)))) ⌝ }
+{
+    let n = count_at(own, 6, SITE_LIMIT);
+    let mut i = conflict_place(own, n, start, name);
+    let mut a = name;
+    let mut s = start;
+    while i < n {
+        let at = CONFLICTS + 2 * i;
+        let b = own[at];
+        let t = own[at + 1];
+        put_row(own, at, 2, [a, s, 0, 0, 0]);
+        a = b;
+        s = t;
+        i += 1;
+    }
+    push(own, 6, CONFLICTS, 2, SITE_LIMIT, [a, s, 0, 0, 0]);
+}
+
+// Whether a name has a misuse.
+pub fn misused(own: &[u32], name: u32) -> bool
+    requires { ⌜ length (now own) ≡ places ⌝ }
+    ensures { λ r. ⌜ r ≡ has-name name (misuse-poison (now (own .entry))) ⌝ }
+{
+    let n = count_at(own, 5, NAMES);
+    has_row(own, MISUSES, 3, n, name)
+}
+
+// Whether a name has a conflict in the table.
+pub fn conflicted(own: &[u32], name: u32) -> bool
+    requires { ⌜ length (now own) ≡ places ⌝ }
+    ensures { λ r. ⌜ r ≡ has-name name (row-names conflict-table (now (own .entry))) ⌝ }
+{
+    let n = count_at(own, 6, SITE_LIMIT);
+    has_row(own, CONFLICTS, 2, n, name)
+}
+
+// Whether a name is poisoned, by a misuse or a conflict.
+pub fn poisoned(own: &[u32], name: u32) -> bool
+    requires { ⌜ length (now own) ≡ places ⌝ }
+    ensures { λ r. ⌜ r ≡ has-name name (poisoned-names (own-of (now (own .entry)))) ⌝ }
+{
+    if conflicted(own, name) {
+        return true;
+    }
+    misused(own, name)
+}
+
+// Whether a site before row k has the name, or a misuse.
+fn seen_before(own: &[u32], k: usize, name: u32) -> bool
+    requires { ⌜ (length (now own) ≡ places) × (k ≤ 1024) ⌝ }
+    ensures { λ r. ⌜ r ≡ has-name name (skip-at (misuse-poison (now (own .entry))) (site-row (now (own .entry))) k) ⌝ }
+{
+    let mut i = k;
+    while 0 < i {
+        i -= 1;
+        if own[SITES + 5 * i] == name {
+            return true;
+        }
+    }
+    misused(own, name)
+}
+
+// The conflict of the name of row k, where that row is the name's first.
+fn take_conflict(own: &mut [u32], k: usize)
+    requires { ⌜ (length (now own) ≡ places) × (k < 1024) × (rows-in conflict-table (now own) < 1024) ⌝ }
+    ensures { λ _. ⌜ Front (now (own .entry)) (now (own .exit))
+        × (conflict-rows (now (own .exit)) ≡ conflict-step (now (own .entry)) k (conflict-rows (now (own .entry)))) ⌝ }
+{
+    let site = site_at(own, k);
+    let name = site.name;
+    if seen_before(own, k, name) {
+        return;
+    }
+    match first_conflict(own, name) {
+        Found::At(start) => {
+            insert_conflict(own, start, name);
+            return;
+        }
+        Found::Nothing => return,
+    }
+}
+
+// The conflicts of the names that are not misused, by START, then by name, into their table.
+pub fn find_conflicts(own: &mut [u32])
+    requires { ⌜ length (now own) ≡ places ⌝ }
+    ensures { λ _. ⌜ own-of (now (own .exit)) ≡ with-conflicts (site.conflicts (misuse-poison (now (own .entry)))
+        (own-of (now (own .entry)) .sites) (own-of (now (own .entry)) .sites)) (own-of (now (own .entry))) ⌝ }
+{
+    own[6] = 0;
+    let n = site_count(own);
+    let mut k = n;
+    while 0 < k {
+        k -= 1;
+        take_conflict(own, k);
+    }
 }

@@ -1,18 +1,11 @@
 -- `sites::add_output` meets its contract. The first row of a name is kept. Assumes nothing.
-use mathlib.Core.Path.{_≡_, refl, sym, ap, subst, _∙_}
-use mathlib.Core.Bool.{Bool, true, false}
-use mathlib.Core.List.{List, [], _∷_}
-use Prim.Native.Nat.{ℕ, _+_, _*_, _-_, _≤_, _<_, min}
-use native.Mathlib.Omega.{arith}
+use mathlib.Core.Path.{refl, ap, _∙_}
+use mathlib.Core.List.{[], _∷_}
 use borrow.Author.Needs.{needs}
-use lib.ListN.{length, getD, set, take, length-set}
-use Rattle.sites.specs.Own.{extent-from, misuse-from, extent-of, misuse-of, site-of, site-from, pair-from, row, rows-in, run, items, own-of, added, pair-table, site-table}
-use Rattle.sites.proofs.Added.{site-added, pair-added, pair-seen, output-added, reg-added, mem-added, misuse-added}
+use Rattle.sites.specs.Own.{own-of}
+use Rattle.sites.proofs.Added.{output-added}
 use Rattle.sites.proofs.add_output.Statement.{statement}
 use Rattle.sites.proofs.add_output.Tie as tie
-use Rattle.sites.proofs.add_output.Reads as reads
-use Rattle.sites.proofs.add_output.Lts as lts
-use Rattle.sites.proofs.push_first.Reads as push-first-reads
 
 push-first-requires : tie.Need-push-first-requires
 push-first-requires c κs = search needs

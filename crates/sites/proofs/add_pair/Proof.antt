@@ -1,23 +1,15 @@
 -- `sites::add_pair` meets its contract. A pair that is there, or a row more. Assumes nothing.
-use mathlib.Core.Path.{_≡_, refl, sym, ap, subst, _∙_}
-use mathlib.Core.Bool.{Bool, true, false}
-use mathlib.Core.List.{List, [], _∷_}
-use Prim.Native.Nat.{ℕ, _+_, _*_, _-_, _≤_, _<_, min}
+use mathlib.Core.Path.{refl, _∙_}
+use mathlib.Core.List.{[], _∷_}
 use native.Mathlib.Omega.{arith}
 use borrow.Author.Needs.{needs}
-use lib.ListN.{length, getD, set, take, length-set}
-use Rattle.sites.specs.Own.{extent-from, misuse-from, extent-of, misuse-of, site-of, site-from, pair-from, row, rows-in, run, items, own-of, added, pair-table, site-table}
-use Rattle.sites.proofs.Added.{site-added, pair-added, pair-seen, output-added, reg-added, mem-added, misuse-added, added-by}
-use Rattle.sites.proofs.Pairs.{pair-here, pair-other-block, pair-other-name, pair-none, pairs-by}
-use Rattle.sites.proofs.Rows.{run-step, run-end, run-all, count-is}
-use Rattle.spec.specs.Block.{Pair, has-pair}
+use Rattle.sites.specs.Own.{pair-table}
+use Rattle.sites.proofs.Added.{pair-added, pair-seen, added-by}
+use Rattle.sites.proofs.Pairs.{pairs-by}
+use Rattle.sites.proofs.Rows.{count-is}
+use Rattle.spec.specs.Block.{has-pair}
 use Rattle.sites.proofs.add_pair.Statement.{statement}
 use Rattle.sites.proofs.add_pair.Tie as tie
-use Rattle.sites.proofs.add_pair.Reads as reads
-use Rattle.sites.proofs.add_pair.Lts as lts
-use Rattle.sites.proofs.count_at.Reads as count-at-reads
-use Rattle.sites.proofs.has_pair.Reads as has-pair-reads
-use Rattle.sites.proofs.push.Reads as push-reads
 
 count-at-requires : tie.Need-count-at-requires
 count-at-requires c κs = search needs

@@ -1,19 +1,11 @@
 -- `sites::add_site` meets its contract. A row is pushed. Assumes nothing.
-use mathlib.Core.Path.{_≡_, refl, sym, ap, subst, _∙_}
-use mathlib.Core.Bool.{Bool, true, false}
-use mathlib.Core.List.{List, [], _∷_}
-use Prim.Native.Nat.{ℕ, _+_, _*_, _-_, _≤_, _<_, min}
-use native.Mathlib.Omega.{arith}
+use mathlib.Core.Path.{refl, _∙_}
+use mathlib.Core.List.{[], _∷_}
 use borrow.Author.Needs.{needs}
-use lib.ListN.{length, getD, set, take, length-set}
-use Rattle.sites.specs.Own.{extent-from, misuse-from, extent-of, misuse-of, site-of, site-from, pair-from, row, rows-in, run, items, own-of, added, pair-table, site-table}
-use Rattle.sites.proofs.Added.{site-added, pair-added, pair-seen, output-added, reg-added, mem-added, misuse-added, added-by}
+use Rattle.sites.specs.Own.{site-of}
+use Rattle.sites.proofs.Added.{site-added, added-by}
 use Rattle.sites.proofs.add_site.Statement.{statement}
 use Rattle.sites.proofs.add_site.Tie as tie
-use Rattle.sites.proofs.add_site.Reads as reads
-use Rattle.sites.proofs.add_site.Lts as lts
-use Rattle.sites.proofs.extent_code.Reads as extent-code-reads
-use Rattle.sites.proofs.push.Reads as push-reads
 
 extent-code-requires : tie.Need-extent-code-requires
 extent-code-requires c κs = search needs

@@ -1,23 +1,11 @@
 -- `sites::bit_extent` meets its contract. By the value. Assumes nothing.
-use mathlib.Core.Path.{_≡_, refl, sym, ap, subst, _∙_}
-use mathlib.Core.Bool.{Bool, true, false}
-use mathlib.Core.List.{List, [], _∷_}
-use Prim.Native.Nat.{ℕ, _+_, _*_, _-_, _≤_, _<_, min}
-use native.Mathlib.Omega.{arith}
+use mathlib.Core.Path.{_∙_}
+use mathlib.Core.List.{[]}
 use borrow.Author.Needs.{needs}
-use lib.ListN.{length, getD, set, take, length-set}
-use Rattle.sites.specs.Own.{extent-from, misuse-from, extent-of, misuse-of, site-of, site-from, pair-from, row, rows-in, run, items, own-of, added, pair-table, site-table}
 use borrow.Author.Tests.{not-true, not-false}
-use Rattle.sites.specs.Own.{cover-by, blocks-by, range-test}
-use Rattle.spec.specs.Block.{Pair, block-count}
-use Rattle.spec.specs.Site as site
-use Rattle.sites.proofs.Rows.{run-all, count-is}
-use Rattle.sites.proofs.Coverage.{bit-low, bit-high, range-no-low, range-low, range-less, range-fits, pair-at, count-own, count-other, count-end, several, cover-from, cover-skip, cover-more, cover-open, cover-end, ranges-none}
+use Rattle.sites.proofs.Coverage.{bit-low, bit-high}
 use Rattle.sites.proofs.bit_extent.Statement.{statement}
 use Rattle.sites.proofs.bit_extent.Tie as tie
-use Rattle.sites.proofs.bit_extent.Reads as reads
-use Rattle.sites.proofs.bit_extent.Lts as lts
-use Rattle.sites.proofs.no_range.Reads as no-range-reads
 
 no-range-requires : tie.Need-no-range-requires
 no-range-requires c κs = search needs

@@ -1,22 +1,14 @@
 -- `sites::block_count` meets its contract. The invariant: the pairs counted and those that are left. Assumes nothing.
-use mathlib.Core.Path.{_≡_, refl, sym, ap, subst, _∙_}
-use mathlib.Core.Bool.{Bool, true, false}
-use mathlib.Core.List.{List, [], _∷_}
-use Prim.Native.Nat.{ℕ, _+_, _*_, _-_, _≤_, _<_, min}
+use mathlib.Core.Path.{_≡_, ap, _∙_}
+use mathlib.Core.List.{[]}
+use Prim.Native.Nat.{ℕ, _+_, _-_, _≤_}
 use native.Mathlib.Omega.{arith}
-use borrow.Author.Needs.{needs}
-use lib.ListN.{length, getD, set, take, length-set}
-use Rattle.sites.specs.Own.{extent-from, misuse-from, extent-of, misuse-of, site-of, site-from, pair-from, row, rows-in, run, items, own-of, added, pair-table, site-table}
-use Rattle.sites.specs.Own.{cover-by, blocks-by, range-test}
-use Rattle.spec.specs.Block.{Pair, block-count}
-use Rattle.spec.specs.Site as site
+use Rattle.sites.specs.Own.{run, own-of, pair-table}
+use Rattle.spec.specs.Block.{block-count}
 use Rattle.sites.proofs.Rows.{run-all, count-is}
-use Rattle.sites.proofs.Coverage.{bit-low, bit-high, range-no-low, range-low, range-less, range-fits, pair-at, count-own, count-other, count-end, several, cover-from, cover-skip, cover-more, cover-open, cover-end, ranges-none}
+use Rattle.sites.proofs.Coverage.{pair-at, count-own, count-other, count-end}
 use Rattle.sites.proofs.block_count.Statement.{statement}
 use Rattle.sites.proofs.block_count.Tie as tie
-use Rattle.sites.proofs.block_count.Reads as reads
-use Rattle.sites.proofs.block_count.Lts as lts
-use Rattle.sites.proofs.count_at.Reads as count-at-reads
 
 abbrev Inv-loop : tie.InvT-loop
 Inv-loop own name n k₀ i₀ k i = (i ≤ n) × (k ≤ i) × (k + block-count name (run (pair-at own name) i (n - i)) ≡ block-count name (own-of own .pairs))

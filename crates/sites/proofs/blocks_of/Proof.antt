@@ -1,23 +1,12 @@
 -- `sites::blocks_of` meets its contract. By the count. Assumes nothing.
-use mathlib.Core.Path.{_≡_, refl, sym, ap, subst, _∙_}
-use mathlib.Core.Bool.{Bool, true, false}
-use mathlib.Core.List.{List, [], _∷_}
-use Prim.Native.Nat.{ℕ, _+_, _*_, _-_, _≤_, _<_, min}
-use native.Mathlib.Omega.{arith}
+use mathlib.Core.Path.{sym, ap, _∙_}
+use mathlib.Core.List.{[]}
 use borrow.Author.Needs.{needs}
-use lib.ListN.{length, getD, set, take, length-set}
-use Rattle.sites.specs.Own.{extent-from, misuse-from, extent-of, misuse-of, site-of, site-from, pair-from, row, rows-in, run, items, own-of, added, pair-table, site-table}
-use borrow.Author.Tests.{not-true, not-false}
-use Rattle.sites.specs.Own.{cover-by, blocks-by, range-test}
-use Rattle.spec.specs.Block.{Pair, block-count}
-use Rattle.spec.specs.Site as site
-use Rattle.sites.proofs.Rows.{run-all, count-is}
-use Rattle.sites.proofs.Coverage.{bit-low, bit-high, range-no-low, range-low, range-less, range-fits, pair-at, count-own, count-other, count-end, several, cover-from, cover-skip, cover-more, cover-open, cover-end, ranges-none}
+use Rattle.sites.specs.Own.{blocks-by}
+use Rattle.spec.specs.Block.{block-count}
+use Rattle.sites.proofs.Coverage.{several}
 use Rattle.sites.proofs.blocks_of.Statement.{statement}
 use Rattle.sites.proofs.blocks_of.Tie as tie
-use Rattle.sites.proofs.blocks_of.Reads as reads
-use Rattle.sites.proofs.blocks_of.Lts as lts
-use Rattle.sites.proofs.block_count.Reads as block-count-reads
 
 block-count-requires : tie.Need-block-count-requires
 block-count-requires c κs = search needs

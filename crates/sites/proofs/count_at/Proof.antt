@@ -1,10 +1,7 @@
 -- `sites::count_at` meets its contract. Assumes nothing.
 use native.Mathlib.Omega.{arith}
-use borrow.Author.Needs.{needs}
 use Rattle.sites.proofs.count_at.Statement.{statement}
 use Rattle.sites.proofs.count_at.Tie as tie
-use Rattle.sites.proofs.count_at.Reads as reads
-use Rattle.sites.proofs.count_at.Lts as lts
 
 mul-n : tie.Need-mul-n
 mul-n c = omega arith

@@ -1,25 +1,18 @@
 -- `sites::cover_of` meets its contract. The invariant: the sites that are left decide what all decide. Assumes nothing.
-use mathlib.Core.Path.{_≡_, refl, sym, ap, subst, _∙_}
-use mathlib.Core.Bool.{Bool, true, false}
-use mathlib.Core.List.{List, [], _∷_}
-use Prim.Native.Nat.{ℕ, _+_, _*_, _-_, _≤_, _<_, min}
+use mathlib.Core.Path.{_≡_, sym, ap, _∙_}
+use mathlib.Core.Bool.{Bool}
+use mathlib.Core.List.{List, []}
+use Prim.Native.Nat.{ℕ, _-_, _≤_}
 use native.Mathlib.Omega.{arith}
 use borrow.Author.Needs.{needs}
-use lib.ListN.{length, getD, set, take, length-set}
-use Rattle.sites.specs.Own.{extent-from, misuse-from, extent-of, misuse-of, site-of, site-from, pair-from, row, rows-in, run, items, own-of, added, pair-table, site-table}
+use Rattle.sites.specs.Own.{site-from, row, run, own-of, site-table}
 use borrow.Author.Tests.{not-true, not-false}
-use Rattle.sites.specs.Own.{cover-by, blocks-by, range-test}
-use Rattle.spec.specs.Block.{Pair, block-count}
+use Rattle.sites.specs.Own.{cover-by, range-test}
 use Rattle.spec.specs.Site as site
-use Rattle.sites.proofs.Rows.{run-all, count-is}
-use Rattle.sites.proofs.Coverage.{bit-low, bit-high, range-no-low, range-low, range-less, range-fits, pair-at, count-own, count-other, count-end, several, cover-from, cover-skip, cover-more, cover-open, cover-end, ranges-none}
+use Rattle.sites.proofs.Rows.{run-all}
+use Rattle.sites.proofs.Coverage.{cover-from, cover-skip, cover-more, cover-open, cover-end, ranges-none}
 use Rattle.sites.proofs.cover_of.Statement.{statement}
 use Rattle.sites.proofs.cover_of.Tie as tie
-use Rattle.sites.proofs.cover_of.Reads as reads
-use Rattle.sites.proofs.cover_of.Lts as lts
-use Rattle.sites.proofs.is_range.Reads as is-range-reads
-use Rattle.sites.proofs.site_at.Reads as site-at-reads
-use Rattle.sites.proofs.site_count.Reads as site-count-reads
 
 abbrev Inv-loop : tie.InvT-loop
 Inv-loop own name n seen₀ i₀ seen i = (i ≤ n) × (cover-from seen (site.sites-of name (run (λ (j : ℕ). site-from (row site-table own j)) i (n - i))) ≡ cover-by (site.sites-of name (own-of own .sites)))

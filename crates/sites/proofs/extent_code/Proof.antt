@@ -1,16 +1,9 @@
 -- `sites::extent_code` meets its contract. Each arm has its code. Assumes nothing.
-use mathlib.Core.Path.{_≡_, refl, sym, ap, subst, _∙_}
-use mathlib.Core.Bool.{Bool, true, false}
-use mathlib.Core.List.{List, [], _∷_}
-use Prim.Native.Nat.{ℕ, _+_, _*_, _-_, _≤_, _<_, min}
-use native.Mathlib.Omega.{arith}
+use mathlib.Core.List.{[]}
 use borrow.Author.Needs.{needs}
-use lib.ListN.{length, getD, set, take, length-set}
-use Rattle.sites.specs.Own.{extent-from, misuse-from, extent-of, misuse-of, site-of, site-from, pair-from, row, rows-in, run, items, own-of, added, pair-table, site-table}
+use Rattle.sites.specs.Own.{extent-from}
 use Rattle.sites.proofs.extent_code.Statement.{statement}
 use Rattle.sites.proofs.extent_code.Tie as tie
-use Rattle.sites.proofs.extent_code.Reads as reads
-use Rattle.sites.proofs.extent_code.Lts as lts
 
 enum-told : tie.Need-enum-told
 enum-told c = search needs

@@ -1,20 +1,9 @@
 -- `sites::extent_from` meets its contract. By its code. Assumes nothing.
-use mathlib.Core.Path.{_≡_, refl, sym, ap, subst, _∙_}
-use mathlib.Core.Bool.{Bool, true, false}
-use mathlib.Core.List.{List, [], _∷_}
-use Prim.Native.Nat.{ℕ, _+_, _*_, _-_, _≤_, _<_, min}
-use native.Mathlib.Omega.{arith}
-use borrow.Author.Needs.{needs}
-use lib.ListN.{length, getD, set, take, length-set}
-use Rattle.sites.specs.Own.{extent-from, misuse-from, extent-of, misuse-of, site-of, site-from, pair-from, row, rows-in, run, items, own-of, added, pair-table, site-table}
-use Rattle.sites.specs.Own.{unbiased, value-of, found-of, before, hits}
-use Rattle.spec.specs.Site as site
-use Rattle.sites.proofs.Sites.{extent-whole, extent-range, extent-dynamic, extent-unknown, conflict-skip, conflict-hit, conflict-miss, conflict-end, any-hit, any-miss, any-none}
-use Rattle.sites.proofs.Rows.{run-step, run-end, run-all, count-is, row-at}
+use mathlib.Core.List.{[]}
+use Rattle.sites.specs.Own.{before}
+use Rattle.sites.proofs.Sites.{extent-whole, extent-range, extent-dynamic, extent-unknown}
 use Rattle.sites.proofs.extent_from.Statement.{statement}
 use Rattle.sites.proofs.extent_from.Tie as tie
-use Rattle.sites.proofs.extent_from.Reads as reads
-use Rattle.sites.proofs.extent_from.Lts as lts
 
 returns : tie.Need-returns
 returns c = extent-whole (c .before .args .low) (c .before .args .high) (c .if1 .taken)

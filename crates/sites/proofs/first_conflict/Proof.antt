@@ -1,25 +1,17 @@
 -- `sites::first_conflict` meets its contract. The outer invariant: the search from here gives what the whole gives. The inner one: the earlier sites that are left meet where all do. Assumes nothing.
-use mathlib.Core.Path.{_≡_, refl, sym, ap, subst, _∙_}
-use mathlib.Core.Bool.{Bool, true, false}
-use mathlib.Core.List.{List, [], _∷_}
-use Prim.Native.Nat.{ℕ, _+_, _*_, _-_, _≤_, _<_, min}
+use mathlib.Core.Path.{_≡_, refl, sym, ap, _∙_}
+use mathlib.Core.Bool.{true, false}
+use mathlib.Core.List.{[]}
+use Prim.Native.Nat.{ℕ, _-_, _≤_}
 use native.Mathlib.Omega.{arith}
-use borrow.Author.Needs.{needs}
-use lib.ListN.{length, getD, set, take, length-set}
-use Rattle.sites.specs.Own.{extent-from, misuse-from, extent-of, misuse-of, site-of, site-from, pair-from, row, rows-in, run, items, own-of, added, pair-table, site-table}
-use Rattle.sites.specs.Own.{unbiased, value-of, found-of, before, hits}
+use Rattle.sites.specs.Own.{site-from, row, run, own-of, site-table}
+use Rattle.sites.specs.Own.{found-of, before, hits}
 use Rattle.spec.specs.Site as site
-use Rattle.sites.proofs.Sites.{extent-whole, extent-range, extent-dynamic, extent-unknown, conflict-skip, conflict-hit, conflict-miss, conflict-end, any-hit, any-miss, any-none, ranges-apart, ranges-from, site-read, hits-other, hits-own, conflict-start}
-use Rattle.sites.proofs.Rows.{run-step, run-end, run-all, count-is, row-at}
+use Rattle.sites.proofs.Sites.{conflict-skip, conflict-hit, conflict-miss, conflict-end, any-hit, any-miss, any-none, conflict-start}
 use mathlib.Core.Option.{none, some}
 use Rattle.sites.proofs.Sites.{search-from}
 use Rattle.sites.proofs.first_conflict.Statement.{statement}
 use Rattle.sites.proofs.first_conflict.Tie as tie
-use Rattle.sites.proofs.first_conflict.Reads as reads
-use Rattle.sites.proofs.first_conflict.Lts as lts
-use Rattle.sites.proofs.meets_at.Reads as meets-at-reads
-use Rattle.sites.proofs.site_at.Reads as site-at-reads
-use Rattle.sites.proofs.site_count.Reads as site-count-reads
 
 abbrev Inv-loop : tie.InvT-loop
 Inv-loop own name n found₀ later s x earlier₀ found earlier = (earlier ≤ later) × (found-of found ≡ none) × (site.meets-any (before name (λ (j : ℕ). site-from (row site-table own j)) earlier) (site-from (row site-table own later) .extent) ≡ site.meets-any (before name (λ (j : ℕ). site-from (row site-table own j)) later) (site-from (row site-table own later) .extent))

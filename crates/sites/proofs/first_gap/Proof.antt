@@ -1,26 +1,14 @@
 -- `sites::first_gap` meets its contract. Marks, and the first place without one. Assumes nothing.
-use mathlib.Core.Path.{_≡_, refl, sym, ap, subst, _∙_}
-use mathlib.Core.Bool.{Bool, true, false}
-use mathlib.Core.List.{List, [], _∷_}
-use Prim.Native.Nat.{ℕ, _+_, _*_, _-_, _≤_, _<_, min}
+use mathlib.Core.Path.{_∙_}
+use mathlib.Core.List.{[]}
 use native.Mathlib.Omega.{arith}
 use borrow.Author.Needs.{needs}
-use lib.ListN.{length, getD, set, take, length-set}
-use Rattle.sites.specs.Own.{extent-from, misuse-from, extent-of, misuse-of, site-of, site-from, pair-from, row, rows-in, run, items, own-of, added, pair-table, site-table}
-use mathlib.Core.Option.{none, some}
-use lib.Dec.{eqb, ltb, leb}
+use Rattle.sites.specs.Own.{own-of}
 use lib.ListN.{replicate}
-use Rattle.sites.specs.Own.{Marked, within, unmarked-from, found-of}
 use Rattle.spec.specs.Site as site
-use Rattle.sites.proofs.Rows.{run-all}
-use Rattle.sites.proofs.Marks.{mark-start, mark-more, mark-done, mark-nothing, mark-whole, mark-range, Going, going-start, going-skip, going-own, going-end, unmarked-end, unmarked-gap, unmarked-more, unmarked-start, gap-found, fresh}
+use Rattle.sites.proofs.Marks.{gap-found, fresh}
 use Rattle.sites.proofs.first_gap.Statement.{statement}
 use Rattle.sites.proofs.first_gap.Tie as tie
-use Rattle.sites.proofs.first_gap.Reads as reads
-use Rattle.sites.proofs.first_gap.Lts as lts
-use Rattle.sites.proofs.first_unmarked.Reads as first-unmarked-reads
-use Rattle.sites.proofs.least.Reads as least-reads
-use Rattle.sites.proofs.mark_sites.Reads as mark-sites-reads
 
 least-requires : tie.Need-least-requires
 least-requires c κs = search needs

@@ -1,22 +1,12 @@
 -- `sites::first_unmarked` meets its contract. The invariant: the search from here gives what the whole gives. Assumes nothing.
-use mathlib.Core.Path.{_≡_, refl, sym, ap, subst, _∙_}
-use mathlib.Core.Bool.{Bool, true, false}
-use mathlib.Core.List.{List, [], _∷_}
-use Prim.Native.Nat.{ℕ, _+_, _*_, _-_, _≤_, _<_, min}
+use mathlib.Core.Path.{_≡_, _∙_}
+use mathlib.Core.List.{[]}
+use Prim.Native.Nat.{_-_, _≤_}
 use native.Mathlib.Omega.{arith}
-use borrow.Author.Needs.{needs}
-use lib.ListN.{length, getD, set, take, length-set}
-use mathlib.Core.Option.{none, some}
-use lib.Dec.{eqb, ltb, leb}
-use lib.ListN.{replicate}
-use Rattle.sites.specs.Own.{Marked, within, unmarked-from, found-of}
-use Rattle.spec.specs.Site as site
-use Rattle.sites.proofs.Rows.{run-all}
-use Rattle.sites.proofs.Marks.{mark-start, mark-more, mark-done, mark-nothing, mark-whole, mark-range, Going, going-start, going-skip, going-own, going-end, unmarked-end, unmarked-gap, unmarked-more, unmarked-start, gap-found, fresh}
+use Rattle.sites.specs.Own.{unmarked-from}
+use Rattle.sites.proofs.Marks.{unmarked-end, unmarked-gap, unmarked-more, unmarked-start}
 use Rattle.sites.proofs.first_unmarked.Statement.{statement}
 use Rattle.sites.proofs.first_unmarked.Tie as tie
-use Rattle.sites.proofs.first_unmarked.Reads as reads
-use Rattle.sites.proofs.first_unmarked.Lts as lts
 
 abbrev Inv-loop : tie.InvT-loop
 Inv-loop marks limit b₀ b = (b ≤ limit) × (unmarked-from marks b (limit - b) ≡ unmarked-from marks 0 limit)

@@ -1,19 +1,14 @@
 -- `sites::has_pair` meets its contract. The invariant: the rows that are left have the pair where all have it. Assumes nothing.
-use mathlib.Core.Path.{_≡_, refl, sym, ap, subst, _∙_}
-use mathlib.Core.Bool.{Bool, true, false}
-use mathlib.Core.List.{List, [], _∷_}
-use Prim.Native.Nat.{ℕ, _+_, _*_, _-_, _≤_, _<_, min}
+use mathlib.Core.Path.{_≡_, sym, ap, _∙_}
+use mathlib.Core.List.{[]}
+use Prim.Native.Nat.{ℕ, _+_, _-_, _≤_}
 use native.Mathlib.Omega.{arith}
-use borrow.Author.Needs.{needs}
-use lib.ListN.{length, getD, set, take, length-set}
-use Rattle.sites.specs.Own.{extent-from, misuse-from, extent-of, misuse-of, site-of, site-from, pair-from, row, rows-in, run, items, own-of, added, pair-table, site-table}
-use Rattle.sites.proofs.Pairs.{pair-here, pair-other-block, pair-other-name, pair-none, pairs-by}
-use Rattle.sites.proofs.Rows.{run-step, run-end, run-all, count-is}
-use Rattle.spec.specs.Block.{Pair, has-pair}
+use Rattle.sites.specs.Own.{pair-from, row, run, pair-table}
+use Rattle.sites.proofs.Pairs.{pair-here, pair-other-block, pair-other-name, pair-none}
+use Rattle.sites.proofs.Rows.{run-step, run-end, run-all}
+use Rattle.spec.specs.Block.{has-pair}
 use Rattle.sites.proofs.has_pair.Statement.{statement}
 use Rattle.sites.proofs.has_pair.Tie as tie
-use Rattle.sites.proofs.has_pair.Reads as reads
-use Rattle.sites.proofs.has_pair.Lts as lts
 
 abbrev Inv-loop : tie.InvT-loop
 Inv-loop own n name block i₀ i = (i ≤ n) × (has-pair (record { name = name; block = block }) (run (λ (j : ℕ). pair-from (row pair-table own j)) i (n - i)) ≡ has-pair (record { name = name; block = block }) (run (λ (j : ℕ). pair-from (row pair-table own j)) 0 n))

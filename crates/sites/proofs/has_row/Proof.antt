@@ -1,16 +1,13 @@
 -- `sites::has_row` meets its contract. The invariant: the rows that are left have the name where all have it. Assumes nothing.
-use mathlib.Core.Path.{_≡_, refl, sym, ap, _∙_}
+use mathlib.Core.Path.{_≡_, sym, ap, _∙_}
 use Prim.Native.Nat.{ℕ, _+_, _*_, _-_, _≤_}
 use native.Mathlib.Omega.{arith}
-use borrow.Author.Needs.{needs}
-use lib.ListN.{length, getD}
+use lib.ListN.{getD}
 use Rattle.spec.specs.Refusal.{has-name}
 use Rattle.sites.specs.Own.{run}
 use Rattle.sites.proofs.Rows.{row-end, run-step, run-end, run-all, has-here, has-later, has-none}
 use Rattle.sites.proofs.has_row.Statement.{statement}
 use Rattle.sites.proofs.has_row.Tie as tie
-use Rattle.sites.proofs.has_row.Reads as reads
-use Rattle.sites.proofs.has_row.Lts as lts
 
 abbrev Inv-loop : tie.InvT-loop
 Inv-loop own at width n name i₀ i = (i ≤ n) × (has-name name (run (λ j. getD own (at + width * j) 0) i (n - i)) ≡ has-name name (run (λ j. getD own (at + width * j) 0) 0 n))

@@ -1,22 +1,12 @@
 -- `sites::mark` meets its contract. The invariant: the places passed have a mark. Assumes nothing.
-use mathlib.Core.Path.{_≡_, refl, sym, ap, subst, _∙_}
-use mathlib.Core.Bool.{Bool, true, false}
-use mathlib.Core.List.{List, [], _∷_}
-use Prim.Native.Nat.{ℕ, _+_, _*_, _-_, _≤_, _<_, min}
+use mathlib.Core.List.{[]}
+use Prim.Native.Nat.{_-_, _≤_}
 use native.Mathlib.Omega.{arith}
-use borrow.Author.Needs.{needs}
-use lib.ListN.{length, getD, set, take, length-set}
-use mathlib.Core.Option.{none, some}
-use lib.Dec.{eqb, ltb, leb}
-use lib.ListN.{replicate}
-use Rattle.sites.specs.Own.{Marked, within, unmarked-from, found-of}
-use Rattle.spec.specs.Site as site
-use Rattle.sites.proofs.Rows.{run-all}
-use Rattle.sites.proofs.Marks.{mark-start, mark-more, mark-done, mark-nothing, mark-whole, mark-range, Going, going-start, going-skip, going-own, going-end, unmarked-end, unmarked-gap, unmarked-more, unmarked-start, gap-found, fresh}
+use lib.ListN.{length}
+use Rattle.sites.specs.Own.{Marked, within}
+use Rattle.sites.proofs.Marks.{mark-start, mark-more, mark-done}
 use Rattle.sites.proofs.mark.Statement.{statement}
 use Rattle.sites.proofs.mark.Tie as tie
-use Rattle.sites.proofs.mark.Reads as reads
-use Rattle.sites.proofs.mark.Lts as lts
 
 abbrev Inv-loop : tie.InvT-loop
 Inv-loop marks₀ from end b₀ marks b = (from ≤ b) × (b ≤ end) × Marked (length marks₀) (within from b) marks₀ marks

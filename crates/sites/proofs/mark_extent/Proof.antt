@@ -1,25 +1,9 @@
 -- `sites::mark_extent` meets its contract. By the extent. Assumes nothing.
-use mathlib.Core.Path.{_≡_, refl, sym, ap, subst, _∙_}
-use mathlib.Core.Bool.{Bool, true, false}
-use mathlib.Core.List.{List, [], _∷_}
-use Prim.Native.Nat.{ℕ, _+_, _*_, _-_, _≤_, _<_, min}
-use native.Mathlib.Omega.{arith}
+use mathlib.Core.List.{[]}
 use borrow.Author.Needs.{needs}
-use lib.ListN.{length, getD, set, take, length-set}
-use Rattle.sites.specs.Own.{extent-from, misuse-from, extent-of, misuse-of, site-of, site-from, pair-from, row, rows-in, run, items, own-of, added, pair-table, site-table}
-use mathlib.Core.Option.{none, some}
-use lib.Dec.{eqb, ltb, leb}
-use lib.ListN.{replicate}
-use Rattle.sites.specs.Own.{Marked, within, unmarked-from, found-of}
-use Rattle.spec.specs.Site as site
-use Rattle.sites.proofs.Rows.{run-all}
-use Rattle.sites.proofs.Marks.{mark-start, mark-more, mark-done, mark-nothing, mark-whole, mark-range, Going, going-start, going-skip, going-own, going-end, unmarked-end, unmarked-gap, unmarked-more, unmarked-start, gap-found, fresh}
+use Rattle.sites.proofs.Marks.{mark-nothing, mark-whole, mark-range}
 use Rattle.sites.proofs.mark_extent.Statement.{statement}
 use Rattle.sites.proofs.mark_extent.Tie as tie
-use Rattle.sites.proofs.mark_extent.Reads as reads
-use Rattle.sites.proofs.mark_extent.Lts as lts
-use Rattle.sites.proofs.least.Reads as least-reads
-use Rattle.sites.proofs.mark.Reads as mark-reads
 
 enum-told : tie.Need-enum-told
 enum-told c = search needs

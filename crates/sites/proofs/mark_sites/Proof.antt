@@ -1,26 +1,15 @@
 -- `sites::mark_sites` meets its contract. The invariant: what the sites that are left cover, and the marks so far. Assumes nothing.
-use mathlib.Core.Path.{_≡_, refl, sym, ap, subst, _∙_}
-use mathlib.Core.Bool.{Bool, true, false}
-use mathlib.Core.List.{List, [], _∷_}
-use Prim.Native.Nat.{ℕ, _+_, _*_, _-_, _≤_, _<_, min}
+use mathlib.Core.Path.{sym, ap, subst, _∙_}
+use mathlib.Core.List.{List, []}
+use Prim.Native.Nat.{ℕ, _-_, _≤_}
 use native.Mathlib.Omega.{arith}
-use borrow.Author.Needs.{needs}
-use lib.ListN.{length, getD, set, take, length-set}
-use Rattle.sites.specs.Own.{extent-from, misuse-from, extent-of, misuse-of, site-of, site-from, pair-from, row, rows-in, run, items, own-of, added, pair-table, site-table}
-use mathlib.Core.Option.{none, some}
-use lib.Dec.{eqb, ltb, leb}
-use lib.ListN.{replicate}
-use Rattle.sites.specs.Own.{Marked, within, unmarked-from, found-of}
+use Rattle.sites.specs.Own.{site-from, row, run, own-of, site-table}
+use Rattle.sites.specs.Own.{Marked}
 use Rattle.spec.specs.Site as site
 use Rattle.sites.proofs.Rows.{run-all}
-use Rattle.sites.proofs.Marks.{mark-start, mark-more, mark-done, mark-nothing, mark-whole, mark-range, Going, going-start, going-skip, going-own, going-end, unmarked-end, unmarked-gap, unmarked-more, unmarked-start, gap-found, fresh}
+use Rattle.sites.proofs.Marks.{Going, going-start, going-skip, going-own, going-end}
 use Rattle.sites.proofs.mark_sites.Statement.{statement}
 use Rattle.sites.proofs.mark_sites.Tie as tie
-use Rattle.sites.proofs.mark_sites.Reads as reads
-use Rattle.sites.proofs.mark_sites.Lts as lts
-use Rattle.sites.proofs.mark_extent.Reads as mark-extent-reads
-use Rattle.sites.proofs.site_at.Reads as site-at-reads
-use Rattle.sites.proofs.site_count.Reads as site-count-reads
 
 abbrev Inv-loop : tie.InvT-loop
 Inv-loop own name marks₀ limit n i₀ marks i = (i ≤ n) × Going limit (site.sites-of name (run (λ (j : ℕ). site-from (row site-table own j)) i (n - i))) (site.sites-of name (own-of own .sites)) marks₀ marks

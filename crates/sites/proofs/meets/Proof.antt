@@ -1,21 +1,9 @@
 -- `sites::meets` meets its contract. Each pair of arms. Assumes nothing.
-use mathlib.Core.Path.{_≡_, refl, sym, ap, subst, _∙_}
-use mathlib.Core.Bool.{Bool, true, false}
-use mathlib.Core.List.{List, [], _∷_}
-use Prim.Native.Nat.{ℕ, _+_, _*_, _-_, _≤_, _<_, min}
-use native.Mathlib.Omega.{arith}
+use mathlib.Core.List.{[]}
 use borrow.Author.Needs.{needs}
-use lib.ListN.{length, getD, set, take, length-set}
-use Rattle.sites.specs.Own.{extent-from, misuse-from, extent-of, misuse-of, site-of, site-from, pair-from, row, rows-in, run, items, own-of, added, pair-table, site-table}
-use Rattle.sites.specs.Own.{unbiased, value-of, found-of, before, hits}
-use Rattle.spec.specs.Site as site
-use Rattle.sites.proofs.Sites.{extent-whole, extent-range, extent-dynamic, extent-unknown, conflict-skip, conflict-hit, conflict-miss, conflict-end, any-hit, any-miss, any-none, ranges-apart, ranges-from, site-read, hits-other, hits-own, conflict-start}
-use Rattle.sites.proofs.Rows.{run-step, run-end, run-all, count-is, row-at}
+use Rattle.sites.specs.Own.{before}
 use Rattle.sites.proofs.meets.Statement.{statement}
 use Rattle.sites.proofs.meets.Tie as tie
-use Rattle.sites.proofs.meets.Reads as reads
-use Rattle.sites.proofs.meets.Lts as lts
-use Rattle.sites.proofs.ranges_meet.Reads as ranges-meet-reads
 
 enum-told : tie.Need-enum-told
 enum-told c = search needs

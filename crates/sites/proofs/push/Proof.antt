@@ -1,18 +1,14 @@
 -- `sites::push` meets its contract: a row at the end, or none. Assumes nothing.
-use mathlib.Core.Path.{_≡_, refl, sym, ap, _∙_}
+use mathlib.Core.Path.{_≡_, sym, ap, _∙_}
 use mathlib.Core.List.{List}
 use Prim.Native.Nat.{ℕ, _+_}
 use native.Mathlib.Omega.{arith}
 use borrow.Author.Needs.{needs}
-use lib.ListN.{length, set, take, length-set}
+use lib.ListN.{set, take, length-set}
 use Rattle.sites.specs.Own.{table, rows-in}
 use Rattle.sites.proofs.Rows.{row-end, push-full, answer-full, answer-room, push-done, count-is}
 use Rattle.sites.proofs.push.Statement.{statement}
 use Rattle.sites.proofs.push.Tie as tie
-use Rattle.sites.proofs.push.Reads as reads
-use Rattle.sites.proofs.push.Lts as lts
-use Rattle.sites.proofs.count_at.Reads as count-at-reads
-use Rattle.sites.proofs.put_row.Reads as put-row-reads
 
 count-at-requires : tie.Need-count-at-requires
 count-at-requires c κs = omega arith

@@ -1,21 +1,13 @@
 -- `sites::push_first` meets its contract. Assumes nothing.
-use mathlib.Core.Path.{_≡_, refl, sym, ap, _∙_}
-use mathlib.Core.List.{List}
-use Prim.Native.Nat.{ℕ, _+_, _*_, _<_}
+use mathlib.Core.Path.{sym, _∙_}
 use native.Mathlib.Omega.{arith}
 use borrow.Author.Needs.{needs}
-use lib.ListN.{length, set, take, getD, length-set}
+use lib.ListN.{take, getD}
 use lib.Seq.{getD-take}
-use Rattle.spec.specs.Refusal.{has-name}
-use Rattle.sites.specs.Own.{table, rows-in, run, row-names}
+use Rattle.sites.specs.Own.{table}
 use Rattle.sites.proofs.Rows.{first-seen, first-new, seen-by, count-is, rows-fit}
 use Rattle.sites.proofs.push_first.Statement.{statement}
 use Rattle.sites.proofs.push_first.Tie as tie
-use Rattle.sites.proofs.push_first.Reads as reads
-use Rattle.sites.proofs.push_first.Lts as lts
-use Rattle.sites.proofs.count_at.Reads as count-at-reads
-use Rattle.sites.proofs.has_row.Reads as has-row-reads
-use Rattle.sites.proofs.push.Reads as push-reads
 
 count-at-requires : tie.Need-count-at-requires
 count-at-requires c κs = omega arith

@@ -1,15 +1,13 @@
 -- `sites::put_row` meets its contract. The invariant: what is left of the row, stored from here, gives what the whole gives. Assumes nothing.
-use mathlib.Core.Path.{_≡_, refl, sym, ap, _∙_}
+use mathlib.Core.Path.{_≡_, refl, sym, _∙_}
 use Prim.Native.Nat.{_+_, _-_, _≤_}
 use native.Mathlib.Omega.{arith}
 use borrow.Author.Needs.{needs}
-use lib.ListN.{length, take, drop, length-set, length-take, drop-of-length-le}
+use lib.ListN.{length, take, drop, length-set}
 use lib.Seq.{sets}
 use Rattle.sites.proofs.Rows.{row-more, row-done, row-start}
 use Rattle.sites.proofs.put_row.Statement.{statement}
 use Rattle.sites.proofs.put_row.Tie as tie
-use Rattle.sites.proofs.put_row.Reads as reads
-use Rattle.sites.proofs.put_row.Lts as lts
 
 abbrev Inv-loop : tie.InvT-loop
 Inv-loop own₀ at width row k₀ own k = (k ≤ width) × (length own ≡ length own₀) × (sets own (at + k) (drop k (take width row)) ≡ sets own₀ at (take width row))
