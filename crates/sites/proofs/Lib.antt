@@ -5,3 +5,5 @@ pub mod Sites
 pub mod Coverage
 pub mod Marks
 pub mod Conflicts
+pub mod Lines
+pub mod Kept

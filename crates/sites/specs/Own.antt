@@ -21,6 +21,9 @@ use Rattle.sites.specs.declared.Misuse.{Misuse}
 use Rattle.sites.specs.declared.Misuse.the-variants as misuse
 use Rattle.sites.specs.declared.Found.{Found}
 use Rattle.sites.specs.declared.Found.the-variants as found
+use Rattle.sites.specs.declared.Line.{Line}
+use Rattle.sites.specs.declared.OutputLine.{OutputLine}
+use Rattle.sites.specs.declared.MisusedLine.{MisusedLine}
 use Rattle.sites.specs.declared.Blocks.{Blocks}
 use Rattle.sites.specs.declared.Blocks.the-variants as blocks
 use Rattle.sites.specs.declared.Cover.{Cover}
@@ -340,3 +343,13 @@ conflict-row own i = conflict-from (row conflict-table own i)
 
 abbrev pub conflict-of : ℕ → ℕ → Conflict
 conflict-of start name = record { start = start; name = name }
+
+-- what the code's rows mean
+abbrev pub storage-of : Line → Storage
+storage-of l = record { name = l .name; start = l .start }
+
+abbrev pub port-of : OutputLine → Port
+port-of l = record { name = l .name; start = l .start; from = l .from; to = l .to }
+
+abbrev pub misused-of : MisusedLine → Misused
+misused-of l = record { name = l .name; start = l .start; misuse = misuse-of (l .kind) }

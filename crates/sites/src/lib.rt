@@ -10,7 +10,7 @@ ghost use mathlib.Core.Bool.{_&&_};
 ghost use Rattle.spec.specs.Site as site;
 ghost use Rattle.spec.specs.Refusal.{has-name};
 ghost use Rattle.spec.specs.Block.{has-pair, block-count};
-ghost use Rattle.sites.specs.Own.{extent-of, site-of, misuse-of, extent-from, misuse-from, pair-from, row, rows-in, pair-table, site-table, site-from, found-of, hits, value-of, blocks-by, cover-by, range-test, unmarked-from, within, Marked, conflict-of, conflict-row, conflict-rows, conflict-table, conflict-step, with-conflicts, poisoned-names, misuse-poison, row-names, skip-at, site-row, Front, table, Shape, pushed, push-answer, first-row, places, run, own-of, added, add-site, add-pair, add-output, add-reg, add-mem, add-misuse};
+ghost use Rattle.sites.specs.Own.{extent-of, site-of, misuse-of, extent-from, misuse-from, pair-from, row, rows-in, pair-table, site-table, site-from, found-of, hits, value-of, blocks-by, cover-by, range-test, unmarked-from, within, Marked, conflict-of, conflict-row, conflict-rows, conflict-table, conflict-step, with-conflicts, poisoned-names, misuse-poison, row-names, skip-at, site-row, Front, table, Shape, pushed, push-answer, first-row, places, run, own-of, added, add-site, add-pair, add-output, add-reg, add-mem, add-misuse, names, reg-table, mem-table, port-table, misuse-table, storage-of, storage-from, port-of, port-from, misused-of, misused-from};
 
 // How many names there are at most.
 pub const NAMES: usize = 256;
@@ -729,5 +729,144 @@ pub fn find_conflicts(own: &mut [u32])
     while 0 < k {
         k -= 1;
         take_conflict(own, k);
+    }
+}
+
+// A name and a START.
+pub struct Line {
+    pub name: u32,
+    pub start: u32,
+}
+
+// An output's first line; its width stands at from..to of the text.
+pub struct OutputLine {
+    pub name: u32,
+    pub start: u32,
+    pub from: u32,
+    pub to: u32,
+}
+
+pub struct MisusedLine {
+    pub name: u32,
+    pub start: u32,
+    pub kind: Misuse,
+}
+
+// How many outputs there are.
+pub fn output_count(own: &[u32]) -> usize
+    requires { ⌜ length (now own) ≡ places ⌝ }
+    ensures { λ r. ⌜ (r ≡ rows-in port-table (now (own .entry))) × (r ≤ names) ⌝ }
+{
+    count_at(own, 2, NAMES)
+}
+
+// How many registers there are.
+pub fn reg_count(own: &[u32]) -> usize
+    requires { ⌜ length (now own) ≡ places ⌝ }
+    ensures { λ r. ⌜ (r ≡ rows-in reg-table (now (own .entry))) × (r ≤ names) ⌝ }
+{
+    count_at(own, 3, NAMES)
+}
+
+// How many memories there are.
+pub fn mem_count(own: &[u32]) -> usize
+    requires { ⌜ length (now own) ≡ places ⌝ }
+    ensures { λ r. ⌜ (r ≡ rows-in mem-table (now (own .entry))) × (r ≤ names) ⌝ }
+{
+    count_at(own, 4, NAMES)
+}
+
+// How many misused names there are.
+pub fn misuse_count(own: &[u32]) -> usize
+    requires { ⌜ length (now own) ≡ places ⌝ }
+    ensures { λ r. ⌜ (r ≡ rows-in misuse-table (now (own .entry))) × (r ≤ names) ⌝ }
+{
+    count_at(own, 5, NAMES)
+}
+
+// How many conflicts there are.
+pub fn conflict_count(own: &[u32]) -> usize
+    requires { ⌜ length (now own) ≡ places ⌝ }
+    ensures { λ r. ⌜ (r ≡ rows-in conflict-table (now (own .entry))) × (r ≤ 1024) ⌝ }
+{
+    count_at(own, 6, SITE_LIMIT)
+}
+
+// The register in row i.
+pub fn reg_at(own: &[u32], i: usize) -> Line
+    requires { ⌜ (length (now own) ≡ places) × (i < names) ⌝ }
+    ensures { λ r. ⌜ storage-of r ≡ storage-from (row reg-table (now (own .entry)) i) ⌝ }
+{
+    let at = REGS + 2 * i;
+    Line {
+        name: own[at],
+        start: own[at + 1],
+    }
+}
+
+// The memory in row i.
+pub fn mem_at(own: &[u32], i: usize) -> Line
+    requires { ⌜ (length (now own) ≡ places) × (i < names) ⌝ }
+    ensures { λ r. ⌜ storage-of r ≡ storage-from (row mem-table (now (own .entry)) i) ⌝ }
+{
+    let at = MEMS + 2 * i;
+    Line {
+        name: own[at],
+        start: own[at + 1],
+    }
+}
+
+// The conflict in row i.
+pub fn conflict_at(own: &[u32], i: usize) -> Line
+    requires { ⌜ (length (now own) ≡ places) × (i < 1024) ⌝ }
+    ensures { λ r. ⌜ storage-of r ≡ storage-from (row conflict-table (now (own .entry)) i) ⌝ }
+{
+    let at = CONFLICTS + 2 * i;
+    Line {
+        name: own[at],
+        start: own[at + 1],
+    }
+}
+
+// The output in row i.
+pub fn output_at(own: &[u32], i: usize) -> OutputLine
+    requires { ⌜ (length (now own) ≡ places) × (i < names) ⌝ }
+    ensures { λ r. ⌜ port-of r ≡ port-from (row port-table (now (own .entry)) i) ⌝ }
+{
+    let at = OUTPUTS + 4 * i;
+    OutputLine {
+        name: own[at],
+        start: own[at + 1],
+        from: own[at + 2],
+        to: own[at + 3],
+    }
+}
+
+fn misuse_from(code: u32) -> Misuse
+    ensures { λ r. ⌜ misuse-of r ≡ misuse-from code ⌝ }
+{
+    if code == 0 {
+        return Misuse::Wire;
+    }
+    if code == 1 {
+        return Misuse::Reg;
+    }
+    if code == 2 {
+        return Misuse::Mem;
+    }
+    Misuse::Arrow
+}
+
+// The misuse in row i.
+pub fn misuse_at(own: &[u32], i: usize) -> MisusedLine
+    requires { ⌜ (length (now own) ≡ places) × (i < names) ⌝ }
+    ensures { λ r. ⌜ misused-of r ≡ misused-from (row misuse-table (now (own .entry)) i) ⌝ }
+{
+    let at = MISUSES + 3 * i;
+    let kind = misuse_from(own[at + 2]);
+    MisusedLine {
+        name: own[at],
+        start: own[at + 1],
+        kind,
     }
 }

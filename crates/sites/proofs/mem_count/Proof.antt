@@ -1,0 +1,18 @@
+-- `sites::mem_count` meets its contract. The count of the table. Assumes nothing.
+use mathlib.Core.Path.{_∙_}
+use mathlib.Core.List.{[]}
+use native.Mathlib.Omega.{arith}
+use borrow.Author.Needs.{needs}
+use Rattle.sites.specs.Own.{mem-table}
+use Rattle.sites.proofs.Rows.{count-is}
+use Rattle.sites.proofs.mem_count.Statement.{statement}
+use Rattle.sites.proofs.mem_count.Tie as tie
+
+count-at-requires : tie.Need-count-at-requires
+count-at-requires c κs = search needs
+
+returns : tie.Need-returns
+returns c = (c .count-at .ensures ∙ count-is mem-table (c .before .before .args .own .now), omega (arith, c .count-at .ensures))
+
+pub mem-count-spec : {M : Type 1} → statement M
+mem-count-spec = tie.close (tie.spec count-at-requires returns)
