@@ -30,3 +30,4 @@ pub mod Refusals
 pub mod Shorten
 pub mod Situations
 pub mod Summaries
+pub mod Triples

@@ -1,6 +1,7 @@
 -- The search of a module's nodes reports closed walks, and none just where there is none.
 -- Assumes nothing.
-use mathlib.Core.Path.{refl}
+use mathlib.Core.Path.{_≡_, refl}
+use mathlib.Core.Bool.{true}
 use mathlib.Core.List.{List, [], _∷_, List·Memᴰ·head, List·Memᴰ·tail, List·Memᴰ·not-nil, Memᴰ·cast}
 use lib.ListN.{length}
 use native.Mathlib.Omega.{arith}
@@ -9,10 +10,11 @@ use Rattle.spec.specs.Graph.{_∈_, Chain, last, ClosedWalk}
 use Rattle.spec.specs.Search.{search}
 use Rattle.spec.specs.Walks.{FindsLoops}
 use Rattle.spec.specs.Edge.{Node, Head, same-node, all-nodes, head-nodes}
-use Rattle.spec.specs.Walk.{next-nodes, roots, find-cycles}
+use Rattle.spec.specs.Walk.{ascends, next-nodes, roots, find-cycles}
+use Rattle.spec.specs.Meaning.{InOrder}
 use Rattle.spec.specs.Loops.{Loops}
 use Rattle.spec.proofs.Search.{reached-root, search-finds}
-use Rattle.spec.proofs.Nodes.{same-node-yes, same-node-refl, next-read, next-by, reader-headed, roots-headed, headed-all, read-all}
+use Rattle.spec.proofs.Nodes.{same-node-yes, same-node-refl, Rising, rising-once, next-read, next-by, next-once, next-rising, reader-headed, roots-headed, roots-rising, headed-all, read-all}
 
 module _ (hs : List Head) where
   finds : FindsLoops (next-nodes hs) (roots hs) (search same-node (next-nodes hs) (suc (length (all-nodes hs))) (roots hs))
@@ -35,11 +37,18 @@ module _ (hs : List Head) where
   first [] c = absurd c
   first (s ∷ l) c = (s, List·Memᴰ·head refl)
 
+  in-order : (l : List Node) → Rising hs l → InOrder (λ m n. ascends hs m n ≡ true) l
+  in-order [] r = tt
+  in-order (n ∷ l) r = (r .0, in-order l (r .1))
+
   -- The theorem.
   pub loops : Loops hs
   unfolding find-cycles
   loops = record {
+    from = λ n. roots-headed hs;
     next = λ n m. next-by hs n;
+    roots-ascend = (in-order (roots hs) (roots-rising hs), rising-once hs (roots hs) (roots-rising hs));
+    next-ascend = λ n. (in-order (next-nodes hs n) (next-rising hs n), next-once hs n);
     none = (
       λ e w c. let (n, i) = first w c in finds .none .0 e w n c i (reached-root (next-nodes hs) (roots-headed hs .1 (closed-headed w c n i))),
       λ h. finds .none .1 (λ w n c i r. h w c),

@@ -738,6 +738,7 @@ meaning working text buffer e =
       check-design (decode text) .reports,
       design-means (decode text),
       record {
+        line = ap (λ z. z .line) a;
         bytes = ap (λ z. z .bytes-written) a;
         count = ap (λ z. z .reports) a;
         rounds = ap (λ z. z .rounds) a ∙ design-rounds (decode text);

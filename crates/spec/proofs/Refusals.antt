@@ -4,10 +4,10 @@ use mathlib.Core.Path.{_≡_, refl, sym, _∙_, ap, subst, subst⁻¹, fun-ext}
 use mathlib.Core.Bool.{Bool, true, false, _&&_, _||_, not as opposite}
 use mathlib.Core.Logic.{_⊎_, inl, inr, _↔_}
 use mathlib.Core.Option.{Option, some, none}
-use mathlib.Core.List.{List, [], _∷_, _++_, append-assoc, List·Memᴰ·head, List·Memᴰ·tail, List·Memᴰ·not-nil, List·Memᴰ·cases-cons, List·Memᴰ·append-cases, List·Memᴰ·eq-of-singleton, Memᴰ·append-left, Memᴰ·append-right}
+use mathlib.Core.List.{List, [], _∷_, _++_, map, append-assoc, List·Memᴰ·head, List·Memᴰ·tail, List·Memᴰ·not-nil, List·Memᴰ·cases-cons, List·Memᴰ·append-cases, List·Memᴰ·eq-of-singleton, Memᴰ·append-left, Memᴰ·append-right}
 use Prim.Native.Nat.{ℕ, zero, suc, _+_, _-_, _/_, _≤_, _<_}
 use native.Mathlib.Omega.{arith}
-use lib.ListN.{length, getElem?}
+use lib.ListN.{length, getElem?, replicate, length-replicate}
 use lib.IntN.{ℤ, pos, negsuc, negℤ, _+ℤ_, _-ℤ_, _*ℤ_}
 use lib.Dec.{eqb, ltb}
 use borrow.Author.Tests.{ltb-true, ltb-false, lt-ltb, le-ltb, eqb-true, eqb-false, eq-eqb}
@@ -22,7 +22,7 @@ use Rattle.spec.specs.Search.{each-once}
 use Rattle.spec.specs.Edge.{same-node, is-inst, name-reads, indexed-reads, field-reads, expr-reads, exprs-reads, and-reads, index-reads, Head, drive-heads, Summary, reaches, conn-reads, has-output, output-heads, index-of, place-value, inst-edges, line-heads, all-nodes, edge-count, node-limit, edge-limit, over-graph, inst-of}
 use Rattle.spec.specs.Summary.{Kept, kept-summary, triples, triple-limit, Asked, ask-for, comb-summary, make-summary, Headed, lines-heads, module-heads}
 use Rattle.spec.specs.Report.{show-reports}
-use Rattle.spec.specs.Check.{site-limit, pair-limit, widths-out, Checked, check-module-drivers, check-modules, check-design, refuse, accept, answer-checked, Lent, too-short, check-drivers}
+use Rattle.spec.specs.Check.{site-limit, pair-limit, widths-out, Checked, check-module-drivers, check-modules, check-design, refuse, accept, answer-checked, Lent, too-short, check-drivers, Slice, cleared, check-call}
 use Rattle.spec.specs.Graph.{_∈_, Once}
 use Rattle.spec.specs.Reading.{Fault, not-one-form, badly-written, out-of-range, out-of-place, one-too-many, bitwise, Refused, too-long, bad-byte, no-feed, bad-line}
 use Rattle.spec.specs.Refusals.{PartOutside, literal, condition, then-branch, else-branch, operand, negation, left-operand, right-operand, sum, difference, product, field-index, read-constants, reads-constants, is-reached, conns-read, drive-read, line-read, GraphPasses, many-nodes, many-edges, LinesPass, line-asks, line-reads, MakingPasses, summary-walk, summary-graph, many-triples, AskPasses, const-table, item-list, ModulePasses, const-outside, line-outside, width-outside, many-sites, many-pairs, own-walk, own-graph, Passes, own-check, Short, Refusals}
@@ -1023,8 +1023,25 @@ module _ (working : List Lent) (text buffer : Bytes) where
   not-full : ¬ Passes (decode text) → found text .full ≡ false
   not-full h = not-so (found text .full) (λ e. h (design-says (decode text) .0 e))
 
+-- ---- working memory
+
+cleared-long : (working : List Slice) → map length (map cleared working) ≡ map (λ s. length (s .held)) working
+cleared-long [] = refl
+cleared-long (s ∷ working) = λ i. length-replicate {A = ℕ} (length (s .held)) 0 i ∷ cleared-long working i
+
+replicate-zero : (k n : ℕ) → n ∈ replicate k 0 → n ≡ 0
+replicate-zero zero n i = absurd (List·Memᴰ·not-nil i)
+replicate-zero (suc k) n (List·Memᴰ·head e) = e
+replicate-zero (suc k) n (List·Memᴰ·tail i) = replicate-zero k n i
+
+cleared-zero : (working : List Slice) (w : List ℕ) → w ∈ map cleared working → (n : ℕ) → n ∈ w → n ≡ 0
+cleared-zero [] w i n j = absurd (List·Memᴰ·not-nil i)
+cleared-zero (s ∷ working) w (List·Memᴰ·head e) n j = replicate-zero (length (s .held)) n (subst (λ z. n ∈ z) e j)
+cleared-zero (s ∷ working) w (List·Memᴰ·tail i) n j = cleared-zero working w i n j
+
 -- The theorem.
 pub refusals : Refusals
+unfolding check-call
 refusals = record {
   twenty = λ working text buffer. (λ e. short-or working (twenty-up working text buffer e), λ h. twenty-down working text buffer (or-short working h));
   twenty-one = λ working text buffer. (
@@ -1033,6 +1050,7 @@ refusals = record {
   );
   by-text = λ working text buffer k n long e. (by-text working text buffer k n (long-of working long) e, text-number text k n e .0, text-number text k n e .1);
   otherwise = λ working text buffer long fine h l. if-fits working text buffer (long-of working long) fine (not-full working text buffer h) l;
+  leaves = λ working text buffer. (refl, cleared-long working, cleared-zero working);
   outside-is = λ names e. (part-up names e, part-down names e);
   fuel = λ d enough h. fun-ext (λ kept. fun-ext (λ m. fuel-same d enough (suc (length d)) [] tt (λ a i. absurd (List·Memᴰ·not-nil i)) (omega arith) (omega arith) kept m));
 }

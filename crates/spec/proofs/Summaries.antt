@@ -182,7 +182,7 @@ onward-reads hs heads (signal n) x m =
     if-case (λ z. x ∈ z → x ∈ all-reads heads (signal n)) (is-input (kind-of hs n)) _ _ (λ e i. absurd (List·Memᴰ·not-nil i)) (λ e i. reads-of-read heads (signal n) i) m
 onward-reads hs heads (inst-out i y o) x m = reads-of-read heads (inst-out i y o) m
 
-of-inputs : (hs : List Header) (ns : List Node) (i : ℕ) → i ∈ inputs-among hs ns → (kind-of hs i ≡ some in-kind) × (signal i ∈ ns)
+pub of-inputs : (hs : List Header) (ns : List Node) (i : ℕ) → i ∈ inputs-among hs ns → (kind-of hs i ≡ some in-kind) × (signal i ∈ ns)
 unfolding inputs-among
 of-inputs hs [] i m = absurd (List·Memᴰ·not-nil m)
 of-inputs hs (signal n ∷ ns) i m =
@@ -201,7 +201,7 @@ in-inputs hs (signal n ∷ ns) i k m =
 in-inputs hs (inst-out j x o ∷ ns) i k m = in-first (λ f. absurd (signal-not-out i j o x f)) (λ n. in-inputs hs ns i k n) m
 
 -- the search from one output finds just what is reached
-reached-found : (hs : List Header) (heads : List Head) (o : ℕ) → FindsLoops (onward hs heads) (signal o ∷ []) (search same-node (onward hs heads) (suc (suc (length (all-nodes heads)))) (signal o ∷ []))
+pub reached-found : (hs : List Header) (heads : List Head) (o : ℕ) → FindsLoops (onward hs heads) (signal o ∷ []) (search same-node (onward hs heads) (suc (suc (length (all-nodes heads)))) (signal o ∷ []))
 reached-found hs heads o =
     search-finds same-node (onward hs heads) same-node-yes same-node-refl (signal o ∷ []) (signal o ∷ all-nodes heads)
     (λ r i. in-first (λ e. List·Memᴰ·head e) (λ j. absurd (List·Memᴰ·not-nil j)) i)
@@ -216,7 +216,7 @@ in-reached : (hs : List Header) (heads : List Head) (o i : ℕ) → kind-of hs i
 unfolding inputs-reached
 in-reached hs heads o i k r = in-inputs hs _ i k (reached-found hs heads o .all (signal i) .1 r)
 
-of-paired : (a : ℕ) (is : List ℕ) (o i : ℕ) → (o, i) ∈ paired a is → (a ≡ o) × (i ∈ is)
+pub of-paired : (a : ℕ) (is : List ℕ) (o i : ℕ) → (o, i) ∈ paired a is → (a ≡ o) × (i ∈ is)
 unfolding paired
 of-paired a [] o i m = absurd (List·Memᴰ·not-nil m)
 of-paired a (j ∷ is) o i m =
@@ -227,7 +227,7 @@ unfolding paired
 in-paired a [] i m = absurd (List·Memᴰ·not-nil m)
 in-paired a (j ∷ is) i m = in-first (λ e. List·Memᴰ·head (λ t. (a, e t))) (λ k. List·Memᴰ·tail (in-paired a is i k)) m
 
-of-outputs : (hs : List Header) (heads : List Head) (os : List Output) (o i : ℕ) → (o, i) ∈ outputs-reach hs heads os → ((p : Output) × (p ∈ os) × (p .name ≡ o)) × (i ∈ inputs-reached hs heads o)
+pub of-outputs : (hs : List Header) (heads : List Head) (os : List Output) (o i : ℕ) → (o, i) ∈ outputs-reach hs heads os → ((p : Output) × (p ∈ os) × (p .name ≡ o)) × (i ∈ inputs-reached hs heads o)
 unfolding outputs-reach
 of-outputs hs heads [] o i m = absurd (List·Memᴰ·not-nil m)
 of-outputs hs heads (q ∷ os) o i m =

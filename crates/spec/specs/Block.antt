@@ -10,11 +10,12 @@ use Rattle.spec.specs.Refusal.{has-name}
 use Rattle.spec.specs.Collect.{Collected}
 use Rattle.spec.specs.Site.{kind-of}
 
--- a name and a block that sets it: 01, The block: a block is its START, repeats or not
+-- 01, The block: a name and a block that sets it; a block is its START, repeats or not.
 pub record Pair : Type 0 where
   pub name : ℕ
   pub block : ℕ
 
+-- 01, The block: a reg, by kind.
 abbrev pub is-reg : Option Kind → Bool
 is-reg none = false
 is-reg (some in-kind) = false
@@ -24,6 +25,7 @@ is-reg (some reg-kind) = true
 is-reg (some mem-kind) = false
 is-reg (some inst-kind) = false
 
+-- 01, The block: a mem, by kind.
 abbrev pub is-mem : Option Kind → Bool
 is-mem none = false
 is-mem (some in-kind) = false
@@ -33,6 +35,7 @@ is-mem (some reg-kind) = false
 is-mem (some mem-kind) = true
 is-mem (some inst-kind) = false
 
+-- 01, The block: what counts.
 abbrev pub pair-if : Bool → ℕ → ℕ → List Pair
 pair-if true n block = record { name = n; block = block } ∷ []
 pair-if false n block = []
@@ -49,6 +52,7 @@ unfoldable mutual
   stmts-pairs Stmts.none hs block = []
   stmts-pairs (Stmts.more s ss) hs block = stmt-pairs s hs block ++ stmts-pairs ss hs block
 
+-- 01, The block: the pairs of a line: `on` alone makes them.
 unfoldable pub line-pairs : List Header → Item → List Pair
 line-pairs hs (on s ss) = stmts-pairs ss hs s
 line-pairs hs (port d n w s) = []
@@ -61,31 +65,36 @@ line-pairs hs (inst i) = []
 line-pairs hs (repeat n l h is) = []
 line-pairs hs (const-if c is js) = []
 
+-- 01, Refused because of the state: pairs of name and block: the same pair stands in a list.
 unfoldable pub has-pair : Pair → List Pair → Bool
 has-pair p [] = false
 has-pair p (q ∷ qs) = eqb (p .name) (q .name) && eqb (p .block) (q .block) || has-pair p qs
 
+-- 01, Refused because of the state: pairs of name and block, each once.
 unfoldable pub different-pairs : List Pair → List Pair
 different-pairs [] = []
 different-pairs (p ∷ ps) = elim (has-pair p ps) [ true ↦ different-pairs ps | false ↦ p ∷ different-pairs ps ]
 
+-- 01, The block: the pairs of a module, as often as they are collected.
 unfoldable pub all-pairs : List Header → List Collected → List Pair
 all-pairs hs [] = []
 all-pairs hs (c ∷ cs) = line-pairs hs (c .item) ++ all-pairs hs cs
 
--- the different pairs of name and block of a module
+-- 01, Refused because of the state: the different pairs of name and block of a module.
 unfoldable pub pairs : List Header → List Collected → List Pair
 pairs hs cs = different-pairs (all-pairs hs cs)
 
+-- 01, The block: how many blocks a name has.
 unfoldable pub block-count : ℕ → List Pair → ℕ
 block-count n [] = 0
 block-count n (p ∷ ps) = elim (eqb n (p .name)) [ true ↦ suc (block-count n ps) | false ↦ block-count n ps ]
 
--- a register or memory: a collected `reg` or `mem` line
+-- 01, The block: a register or memory, of a `reg` or `mem` line. Decision: whatever kind its name has.
 pub record Storage : Type 0 where
   pub name : ℕ
   pub start : ℕ
 
+-- 01, The block: the regs of a line.
 unfoldable pub line-regs : Item → List Storage
 line-regs (reg n s) = record { name = n; start = s } ∷ []
 line-regs (mem n s) = []
@@ -98,6 +107,7 @@ line-regs (inst i) = []
 line-regs (repeat n l h is) = []
 line-regs (const-if c is js) = []
 
+-- 01, The block: the mems of a line.
 unfoldable pub line-mems : Item → List Storage
 line-mems (mem n s) = record { name = n; start = s } ∷ []
 line-mems (reg n s) = []
@@ -110,6 +120,7 @@ line-mems (inst i) = []
 line-mems (repeat n l h is) = []
 line-mems (const-if c is js) = []
 
+-- 01, The block: every collected `reg` or `mem` line.
 unfoldable pub storage-lines : (Item → List Storage) → List Collected → List Storage
 storage-lines f [] = []
 storage-lines f (c ∷ cs) = f (c .item) ++ storage-lines f cs
@@ -119,8 +130,10 @@ unfoldable pub first-storage : List ℕ → List Storage → List Storage
 first-storage seen [] = []
 first-storage seen (r ∷ rs) = elim (has-name (r .name) seen) [ true ↦ first-storage seen rs | false ↦ r ∷ first-storage (r .name ∷ seen) rs ]
 
+-- 01, The block: regs by their first collected line.
 unfoldable pub regs : List Collected → List Storage
 regs cs = first-storage [] (storage-lines line-regs cs)
 
+-- 01, The block: mems by their first collected line.
 unfoldable pub mems : List Collected → List Storage
 mems cs = first-storage [] (storage-lines line-mems cs)

@@ -17,9 +17,11 @@ use Rattle.spec.specs.Summary.{Kept, module-heads}
 use Rattle.spec.specs.Walk.{start-of, find-cycles}
 use Rattle.spec.specs.Report.{misused, many, never, gap, no-block, blocks, mem-blocks, Report, report, loop-report, show-reports}
 
+-- 01, Refused because of the state: in one module 1,024 sites.
 abbrev pub site-limit : ℕ
 site-limit = 1024
 
+-- 01, Refused because of the state: in one module 512 pairs of name and block.
 abbrev pub pair-limit : ℕ
 pair-limit = 512
 
@@ -33,6 +35,7 @@ unfoldable pub conflict-reports : ℕ → List Conflict → List Report
 conflict-reports m [] = []
 conflict-reports m (c ∷ cs) = report m (c .start) (c .name) many ∷ conflict-reports m cs
 
+-- 01, The site: E0502 `never` or `gap`, at the first port line.
 abbrev pub coverage-report : ℕ → Output → Coverage → List Report
 coverage-report m o never-driven = report m (o .start) (o .name) never ∷ []
 coverage-report m o fully = []
@@ -47,7 +50,7 @@ output-reports m names poisoned ss (o ∷ os) =
       | false ↦ coverage-report m o (coverage names (sites-of (o .name) ss) (o .width)) ++ output-reports m names poisoned ss os
     ]
 
--- whether a width that decides coverage is outside INT
+-- 01, Refused because of the state: a width that decides coverage is evaluated outside INT.
 unfoldable pub widths-out : Names → List ℕ → List Site → List Output → Bool
 widths-out names poisoned ss [] = false
 widths-out names poisoned ss (o ∷ os) =
@@ -68,6 +71,7 @@ mem-report m r zero = []
 mem-report m r (suc zero) = []
 mem-report m r (suc (suc n)) = report m (r .start) (r .name) mem-blocks ∷ []
 
+-- 01, The block: the reports of regs or mems. 01, The site: a poisoned name gets no other report but loops.
 unfoldable pub storage-reports : (Storage → ℕ → List Report) → List ℕ → List Pair → List Storage → List Report
 storage-reports f poisoned ps [] = []
 storage-reports f poisoned ps (r ∷ rs) =
@@ -82,7 +86,8 @@ loop-reports m hs [] = []
 loop-reports m hs ([] ∷ ws) = loop-reports m hs ws
 loop-reports m hs ((n ∷ w) ∷ ws) = loop-report m (start-of hs n) (n ∷ w) ∷ loop-reports m hs ws
 
--- what the check of a module gives: its reports and rounds, the summaries kept then, and whether the answer is 20
+-- 01, Refused because of the state: what the check of a module gives: its reports and rounds, the summaries kept then, and whether the
+-- answer is 20.
 pub record Checked : Type 0 where
   pub reports : List Report
   pub rounds : ℕ
@@ -117,7 +122,7 @@ check-module-drivers d kept m k =
           || h .full || over-graph (h .heads) || widths-out names poisoned ss os;
     }
 
--- modules in order
+-- 01, The report: modules in order.
 unfoldable pub check-modules : Design → Kept → ℕ → List Module → Checked
 check-modules d kept m [] = record { reports = []; rounds = 0; kept = kept; full = false }
 check-modules d kept m (k ∷ ks) =
@@ -125,6 +130,7 @@ check-modules d kept m (k ∷ ks) =
     let b = check-modules d (a .kept) (suc m) ks in
     record { reports = a .reports ++ b .reports; rounds = a .rounds + b .rounds; kept = b .kept; full = a .full || b .full }
 
+-- 01, The report: every module of the design.
 unfoldable pub check-design : Design → Checked
 check-design d = check-modules d [] 0 d
 
@@ -157,15 +163,17 @@ answer-checked c buffer =
           elim (ltb (length buffer) (length text)) [ true ↦ refuse 21 0 buffer | false ↦ accept text c buffer ]
     ]
 
+-- 01, Refused because of the state: after 1 to 8, 20 and 21.
 abbrev pub answer-read : Verdict → Bytes → Bytes → Answer
 answer-read (refused number line) text buffer = refuse number line buffer
 answer-read well-formed text buffer = answer-checked (check-design (decode text)) buffer
 
--- a working slice that is lent: how many places it has, and the limit that it serves
+-- 01, Refused because of the state: a working slice that is lent: how many places it has, and the limit that it serves.
 pub record Lent : Type 0 where
   pub places : ℕ
   pub limit : ℕ
 
+-- 01, Refused because of the state: a slice with fewer places than the limit it serves.
 unfoldable pub too-short : List Lent → Bool
 too-short [] = false
 too-short (l ∷ ls) = ltb (l .places) (l .limit) || too-short ls
@@ -175,11 +183,12 @@ unfoldable pub check-drivers : List Lent → Bytes → Bytes → Answer
 check-drivers working text buffer =
     elim (too-short working) [ true ↦ refuse 20 0 buffer | false ↦ answer-read (refusal text) text buffer ]
 
--- a working slice as it is lent: what it holds, which may be anything, and the limit that it serves
+-- 01, Refused because of the state: a working slice as it is lent: what it holds, which may be anything, and the limit that it serves.
 pub record Slice : Type 0 where
   pub held : List ℕ
   pub limit : ℕ
 
+-- 01, Refused because of the state: how many places a slice has.
 abbrev pub lent : Slice → Lent
 lent s = record { places = length (s .held); limit = s .limit }
 
@@ -187,14 +196,16 @@ lent s = record { places = length (s .held); limit = s .limit }
 abbrev pub cleared : Slice → List ℕ
 cleared s = replicate (length (s .held)) 0
 
--- the whole call: the answer, with the report buffer at exit, and the working slices at exit
+-- 01, Refused because of the state: what a call leaves: the answer, with the report buffer at exit, and the working slices at exit.
 pub record Exit : Type 0 where
   pub answer : Answer
   pub working : List (List ℕ)
 
+-- 01, Refused because of the state: the whole call.
 unfoldable pub check-call : List Slice → Bytes → Bytes → Exit
 check-call working text buffer = record { answer = check-drivers (map lent working) text buffer; working = map cleared working }
 
+-- 01, The report: the program has a report buffer of 65,536 bytes.
 abbrev pub program-buffer : ℕ
 program-buffer = 65536
 

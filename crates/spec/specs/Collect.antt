@@ -12,32 +12,35 @@ use Rattle.spec.specs.Value.{Value, known, missing, outside, Names, valu
 abbrev pub round-limit : ℕ
 round-limit = 4096
 
--- one item as often as it is collected: `at` says which it is, as positions in the text, the innermost first (of a `constif`
--- also the branch: 0 `then`, 1 `else`)
+-- 01, The collected item: one item as often as it is collected, with the values then standing: `at` says which it is, as positions in
+-- the text, the innermost first (of a `constif` also the branch: 0 `then`, 1 `else`).
 pub record Collected : Type 0 where
   pub at : List ℕ
   pub item : Item
   pub names : Names
 
--- what a collection gives: its lines, the `repeat` and `constif` lines among them; the rounds left for what follows; those taken
+-- 01, The collected item: its lines, decision: the `repeat` and `constif` lines among them; the rounds left for what follows; those
+-- taken.
 pub record Collection : Type 0 where
   pub lines : List Collected
   pub left : ℕ
   pub taken : ℕ
 
--- one collection, then what another gives with the rounds that the first left
+-- 01, The collected item: one collection, then what another gives with the rounds that the first left.
 abbrev pub then-collect : Collection → (ℕ → Collection) → Collection
 then-collect a f = let b = f (a .left) in record { lines = a .lines ++ b .lines; left = b .left; taken = a .taken + b .taken }
 
+-- 01, The collected item: nothing collected, no round taken.
 abbrev pub collect-none : ℕ → Collection
 collect-none left = record { lines = []; left = left; taken = 0 }
 
--- `count` rounds of a body, for the variable n from v on; its old value stands again afterwards
+-- 01, The collected item: `count` rounds of a body, for the variable n from v on; the variable's old value returns afterwards.
 unfoldable pub collect-rounds : (Names → ℕ → Collection) → ℕ → ℤ → ℕ → Names → ℕ → Collection
 collect-rounds body n v zero names left = collect-none left
 collect-rounds body n v (suc count) names left =
     then-collect (body ((n, v) ∷ names) left) (λ left′. collect-rounds body n (v +ℤ pos 1) count names left′)
 
+-- 01, The collected item: rounds counted as taken. Decision: rounds are those spent.
 abbrev pub spent : ℕ → Collection → Collection
 spent rounds c = record { lines = c .lines; left = c .left; taken = rounds + c .taken }
 
@@ -65,10 +68,11 @@ collect-branch (known x) a b = elim (is-zero x) [ true ↦ b | false ↦ a ]
 collect-branch missing a b = b
 collect-branch outside a b = b
 
+-- 01, The collected item: a collected line before others.
 abbrev pub line-then : Collected → Collection → Collection
 line-then l c = record { lines = l ∷ c .lines; left = c .left; taken = c .taken }
 
--- an item is collected, and then what it holds
+-- 01, The collected item: an item is collected, and then what it holds.
 unfoldable mutual
   pub collect-inner : Item → List ℕ → Names → ℕ → Collection
   collect-inner (port d n w s) at names left = collect-none left
@@ -90,6 +94,6 @@ unfoldable mutual
       then-collect (line-then (record { at = k ∷ at; item = i; names = names }) (collect-inner i (k ∷ at) names left))
       (λ left′. collect-items is at (suc k) names left′)
 
--- a module's collection, over the values of its `val` lines
+-- 01, The collected item: a module's collection, over the values of its `val` lines.
 unfoldable pub collection : Names → Module → Collection
 collection vals m = collect-items (m .items) [] 0 (name-table vals m .names) round-limit

@@ -17,12 +17,14 @@ pub data Node : Type 0 where
   signal : ℕ → Node
   inst-out : (inst : ℕ) → (index : Option ℤ) → (out : ℕ) → Node
 
+-- 01, The edge: the same index, or none both.
 abbrev pub same-index : Option ℤ → Option ℤ → Bool
 same-index none none = true
 same-index none (some z) = false
 same-index (some y) none = false
 same-index (some y) (some z) = int-eq y z
 
+-- 01, The edge: the same node.
 abbrev pub same-node : Node → Node → Bool
 same-node (signal m) (signal n) = eqb m n
 same-node (signal m) (inst-out i x o) = false
@@ -34,9 +36,11 @@ pub record Reads : Type 0 where
   pub nodes : List Node
   pub out : Bool
 
+-- 01, The edge: nothing is read.
 abbrev pub no-reads : Reads
 no-reads = record { nodes = []; out = false }
 
+-- 01, The edge: what two parts read.
 abbrev pub and-reads : Reads → Reads → Reads
 and-reads a b = record { nodes = a .nodes ++ b .nodes; out = a .out || b .out }
 
@@ -50,6 +54,7 @@ name-reads (some reg-kind) n = no-reads
 name-reads (some mem-kind) n = no-reads
 name-reads (some inst-kind) n = no-reads
 
+-- 01, The edge: I an inst.
 abbrev pub is-inst : Option Kind → Bool
 is-inst none = false
 is-inst (some in-kind) = false
@@ -108,20 +113,22 @@ index-reads hs names whole = no-reads
 index-reads hs names (at-bit e) = expr-reads e hs names
 index-reads hs names (high-low h l) = and-reads (expr-reads h hs names) (expr-reads l hs names)
 
--- a node that a collected line heads, the line's START, and what it reads there
+-- 01, The edge: a node that a collected line heads, the line's START, and what it reads there.
 pub record Head : Type 0 where
   pub node : Node
   pub start : ℕ
   pub reads : List Node
 
--- what a collected line heads, and whether an `f` index evaluated for its reads was outside INT
+-- 01, The edge: what a collected line heads, and whether an `f` index evaluated for its reads was outside INT.
 pub record Heads : Type 0 where
   pub heads : List Head
   pub out : Bool
 
+-- 01, The edge: nothing is headed.
 abbrev pub no-heads : Heads
 no-heads = record { heads = []; out = false }
 
+-- 01, The edge: a line that heads one node.
 abbrev pub one-head : Node → ℕ → Reads → Heads
 one-head n start r = record { heads = record { node = n; start = start; reads = r .nodes } ∷ []; out = r .out }
 
@@ -133,15 +140,16 @@ drive-heads a-reg lv r = no-heads
 drive-heads a-mem lv r = no-heads
 drive-heads nothing lv r = no-heads
 
--- a module's summary: pairs of an output and an input that it reaches
+-- 01, The edge: a module's summary: pairs of an output and an input that it reaches.
 abbrev pub Summary : Type 0
 Summary = List (ℕ × ℕ)
 
+-- 01, The edge: output o reaches input i.
 unfoldable pub reaches : ℕ → ℕ → Summary → Bool
 reaches o i [] = false
 reaches o i (p ∷ s) = eqb o (p .0) && eqb i (p .1) || reaches o i s
 
--- the connections to the inputs that output o reaches
+-- 01, The edge: the reads of connections to the inputs that output o reaches. Decision: no other connection is read.
 unfoldable pub conn-reads : List Header → Names → Summary → ℕ → List Conn → Reads
 conn-reads hs names s o [] = no-reads
 conn-reads hs names s o (c ∷ cs) =
@@ -156,10 +164,12 @@ index-of (known z) = some z
 index-of missing = none
 index-of outside = none
 
+-- 01, The edge: the index of an instance.
 unfoldable pub place-value : Names → Place → Value
 place-value names single = missing
 place-value names (at e) = value names e
 
+-- 01, The edge: an output in the summary. Decision: one that reaches no input is not.
 unfoldable pub has-output : ℕ → Summary → Bool
 has-output o [] = false
 has-output o (p ∷ s) = eqb o (p .0) || has-output o s
@@ -177,10 +187,12 @@ output-heads hs names i x s (p ∷ rest) =
           record { heads = record { node = inst-out (i .name) x (p .0); start = i .start; reads = r .nodes } ∷ h .heads; out = r .out || h .out }
     ]
 
+-- 01, The edge: what an instance line heads.
 unfoldable pub inst-edges : List Header → Names → Inst → Summary → Heads
 inst-edges hs names i s = output-heads hs names i (index-of (place-value names (i .place))) s s
 
--- what a collected line heads; s is the summary of its module where it is an instance line
+-- 01, The edge: what a collected line heads; s is the summary of its module where it is an instance line. Decision: `wire` and `inst`
+-- lines head whatever the kind.
 unfoldable pub line-heads : List Header → Names → Summary → Item → Heads
 line-heads hs names s (wire n e start) = one-head (signal n) start (expr-reads e hs names)
 line-heads hs names s (drive lv e) = drive-heads (driving (kind-of hs (lv .name))) lv (and-reads (expr-reads e hs names) (index-reads hs names (lv .index)))
@@ -193,6 +205,7 @@ line-heads hs names s (on start ss) = no-heads
 line-heads hs names s (repeat n l h is) = no-heads
 line-heads hs names s (const-if c is js) = no-heads
 
+-- 01, The edge: the instance of an instance line.
 unfoldable pub inst-of : Item → Option Inst
 inst-of (inst i) = some i
 inst-of (wire n e s) = none
@@ -205,33 +218,39 @@ inst-of (on s ss) = none
 inst-of (repeat n l h is) = none
 inst-of (const-if c is js) = none
 
--- 01, Refused because of the state: nodes, headed or read; different edges
+-- 01, Refused because of the state: nodes, headed or read.
 unfoldable pub all-nodes : List Head → List Node
 all-nodes [] = []
 all-nodes (h ∷ hs) = h .node ∷ h .reads ++ all-nodes hs
 
+-- 01, Refused because of the state: nodes that are headed.
 unfoldable pub head-nodes : List Head → List Node
 head-nodes [] = []
 head-nodes (h ∷ hs) = h .node ∷ head-nodes hs
 
+-- 01, The edge: what the lines that head a node read.
 unfoldable pub all-reads : List Head → Node → List Node
 all-reads [] n = []
 all-reads (h ∷ hs) n = elim (same-node n (h .node)) [ true ↦ h .reads ++ all-reads hs n | false ↦ all-reads hs n ]
 
--- what a node reads, each once
+-- 01, The edge: what a node reads, each once.
 unfoldable pub reads-of : List Head → Node → List Node
 reads-of hs n = each-once same-node (all-reads hs n)
 
+-- 01, Refused because of the state: different edges from these nodes.
 unfoldable pub edges-from : List Head → List Node → ℕ
 edges-from hs [] = 0
 edges-from hs (n ∷ ns) = length (reads-of hs n) + edges-from hs ns
 
+-- 01, Refused because of the state: different edges.
 unfoldable pub edge-count : List Head → ℕ
 edge-count hs = edges-from hs (each-once same-node (head-nodes hs))
 
+-- 01, Refused because of the state: in one module 512 nodes.
 abbrev pub node-limit : ℕ
 node-limit = 512
 
+-- 01, Refused because of the state: 4,096 different edges.
 abbrev pub edge-limit : ℕ
 edge-limit = 4096
 

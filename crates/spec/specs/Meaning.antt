@@ -128,7 +128,9 @@ all-rounds [] = 0
 all-rounds (k ∷ ks) = collection (own-vals k) k .taken + all-rounds ks
 
 -- 01, Refused because of the state: acceptance returns 0, bytes written, reports, and rounds; bytes past the written ones keep theirs.
+-- Decision: the line is 0.
 pub record Written (d : Design) (reports : List Report) (buffer : Bytes) (a : Answer) : Type 0 where
+  pub line : a .line ≡ 0
   pub bytes : a .bytes-written ≡ length (show-reports reports)
   pub count : a .reports ≡ length reports
   pub rounds : a .rounds ≡ all-rounds d

@@ -11,38 +11,40 @@ use Rattle.spec.specs.Syntax.{name-bound, module-bound, number-bound, Bi
 use Rattle.spec.specs.Show.{show-line, design-lines}
 use Rattle.spec.specs.Decode.{depth-limit, decode-line}
 
--- 1: over 32,768 bytes.
+-- 01, Refused because of the text, 1: over 32,768 bytes.
 abbrev pub text-limit : ℕ
 text-limit = 32768
 
--- 7: a 33rd module.
+-- 01, Refused because of the text, 7: a 33rd module.
 abbrev pub module-limit : ℕ
 module-limit = 32
 
--- the lines of a text, without their line feeds
+-- 01, The line: the lines of a text, without their line feeds.
 unfoldable pub lines : Bytes → List Bytes
 lines [] = []
 lines (c ∷ s) = elim (eqb c 10) [ true ↦ [] ∷ lines s | false ↦ onto c (lines s) ]
 
--- 2: bytes 20 to 7E hexadecimal and line feed.
+-- 01, Refused because of the text, 2; The line: bytes 20 to 7E hexadecimal and line feed 0A.
 abbrev pub in-set : ℕ → Bool
 in-set c = eqb c 10 || leb 32 c && leb c 126
 
+-- 01, Refused because of the text: a number and a line, or no fault.
 pub data Verdict : Type 0 where
   well-formed : Verdict
   refused : (number line : ℕ) → Verdict
 
--- 2: a byte outside the set, on the line of the first one; n is the line that the bytes begin in.
+-- 01, Refused because of the text, 2: a byte outside the set, on the line of the first one; n is the line that the bytes begin in.
 unfoldable pub byte-fault : ℕ → Bytes → Verdict
 byte-fault n [] = well-formed
 byte-fault n (c ∷ s) = elim (in-set c) [ true ↦ byte-fault (elim (eqb c 10) [ true ↦ suc n | false ↦ n ]) s | false ↦ refused 2 n ]
 
--- 2: no final line feed; an empty text is accepted.
+-- 01, Refused because of the text, 2: no final line feed; an empty text is accepted.
 unfoldable pub ends-in-feed : Bytes → Bool
 ends-in-feed [] = true
 ends-in-feed (c ∷ []) = eqb c 10
 ends-in-feed (c ∷ d ∷ s) = ends-in-feed (d ∷ s)
 
+-- 01, Refused because of the text, 2 over the whole text: line of the first such byte, else the last line.
 unfoldable pub set-fault : Bytes → Verdict
 set-fault s =
     elim (byte-fault 1 s) [
@@ -50,7 +52,7 @@ set-fault s =
       | well-formed ↦ elim (ends-in-feed s) [ true ↦ well-formed | false ↦ refused 2 (length (lines s)) ]
     ]
 
--- 3: not one closed form from first byte to last, or deeper than the limit; k brackets are open.
+-- 01, Refused because of the text, 3: not one closed form to the last byte, or deeper than the limit; k brackets are open.
 unfoldable pub closes : ℕ → Bytes → Bool
 closes k [] = false
 closes k (c ∷ s) =
@@ -62,15 +64,17 @@ closes k (c ∷ s) =
       ]
     ]
 
+-- 01, Refused because of the text, 3: not one closed form from first byte to last, or 33 deep.
 unfoldable pub one-form : Bytes → Bool
 one-form [] = false
 one-form (c ∷ s) = eqb c 40 && closes 1 s
 
--- 4: unknown head, wrong parts, a misplaced space, a badly written number: the line is not the one that shows its tree.
+-- 01, Refused because of the text, 4: unknown head, wrong parts, a misplaced space, badly written number: the line is not the one that
+-- shows its tree.
 unfoldable pub written : Bytes → Bool
 written s = same-bytes s (show-line (decode-line s))
 
--- 5: number out of range.
+-- 01, Refused because of the text, 5: number out of range, in E.
 unfoldable mutual
   pub expr-in-range : Expr → Bool
   expr-in-range (lit n) = ltb n number-bound
@@ -87,17 +91,20 @@ unfoldable mutual
   exprs-in-range Exprs.none = true
   exprs-in-range (Exprs.more e es) = expr-in-range e && exprs-in-range es
 
+-- 01, Refused because of the text, 5: in T.
 unfoldable pub width-in-range : Width → Bool
 width-in-range bit = true
 width-in-range opaque = true
 width-in-range (bits e) = expr-in-range e
 width-in-range (signed e) = expr-in-range e
 
+-- 01, Refused because of the text, 5: in LV.
 unfoldable pub index-in-range : Index → Bool
 index-in-range whole = true
 index-in-range (at-bit e) = expr-in-range e
 index-in-range (high-low h l) = expr-in-range h && expr-in-range l
 
+-- 01, Refused because of the text, 5: in S.
 unfoldable mutual
   pub stmt-in-range : Stmt → Bool
   stmt-in-range (set n start) = ltb n name-bound && ltb start number-bound
@@ -109,19 +116,23 @@ unfoldable mutual
   stmts-in-range Stmts.none = true
   stmts-in-range (Stmts.more s ss) = stmt-in-range s && stmts-in-range ss
 
+-- 01, Refused because of the text, 5: in X.
 unfoldable pub place-in-range : Place → Bool
 place-in-range single = true
 place-in-range (at e) = expr-in-range e
 
+-- 01, Refused because of the text, 5: in C.
 unfoldable pub conns-in-range : List Conn → Bool
 conns-in-range [] = true
 conns-in-range (c ∷ cs) = ltb (c .port) name-bound && expr-in-range (c .signal) && conns-in-range cs
 
+-- 01, Refused because of the text, 5: in an instance.
 unfoldable pub inst-in-range : Inst → Bool
 inst-in-range i =
     ltb (i .name) name-bound && place-in-range (i .place) && ltb (i .«module») module-bound && ltb (i .start) number-bound
     && conns-in-range (i .conns)
 
+-- 01, Refused because of the text, 5: in an item.
 unfoldable mutual
   pub item-in-range : Item → Bool
   item-in-range (port d n w start) = ltb n name-bound && width-in-range w && ltb start number-bound
@@ -139,50 +150,56 @@ unfoldable mutual
   items-in-range Items.none = true
   items-in-range (Items.more i is) = item-in-range i && items-in-range is
 
--- INT is −2,147,483,648 to 2,147,483,647: negsuc n is −(n + 1).
+-- 01, The line: INT −2,147,483,648 to 2,147,483,647; negsuc n is −(n + 1).
 unfoldable pub in-int : ℤ → Bool
 in-int (pos n) = ltb n number-bound
 in-int (negsuc n) = ltb n number-bound
 
+-- 01, Refused because of the text, 5: in a line. Decision: M of `module` has no range.
 unfoldable pub line-in-range : Line → Bool
 line-in-range (module-line m b) = true
 line-in-range (header-line (kind n k)) = ltb n name-bound
 line-in-range (header-line (val n i)) = ltb n name-bound && in-int i
 line-in-range (item-line i) = item-in-range i
 
--- what was read before a line: how many modules, whether the last has an item, the names that have a kind in it
+-- 01, Refused because of the text, 6 and 7: what was read before a line: how many modules, whether the last has an item, the names
+-- that have a kind in it.
 pub record Before : Type 0 where
   pub modules : ℕ
   pub has-item : Bool
   pub kinds : List ℕ
 
+-- 01, Refused because of the text, 6: before any line.
 abbrev pub at-start : Before
 at-start = record { modules = 0; has-item = false; kinds = [] }
 
+-- 01, Refused because of the text, 6 and 7: what was read when a line has been read too.
 unfoldable pub after-line : Before → Line → Before
 after-line b (module-line m bound) = record { modules = suc (b .modules); has-item = false; kinds = [] }
 after-line b (header-line (kind n k)) = record { modules = b .modules; has-item = b .has-item; kinds = n ∷ b .kinds }
 after-line b (header-line (val n i)) = b
 after-line b (item-line i) = record { modules = b .modules; has-item = true; kinds = b .kinds }
 
--- 6: before any module, M not the next number, `kind` or `val` after an item.
+-- 01, Refused because of the text, 6: before any module, M not the next number, `kind` or `val` after an item.
 unfoldable pub in-place : Before → Line → Bool
 in-place b (module-line m bound) = eqb m (b .modules)
 in-place b (header-line h) = ltb 0 (b .modules) && opposite (b .has-item)
 in-place b (item-line i) = ltb 0 (b .modules)
 
+-- 01, Refused because of the text, 7: whether a name is among those.
 unfoldable pub has-name : ℕ → List ℕ → Bool
 has-name n [] = false
 has-name n (m ∷ l) = eqb n m || has-name n l
 
--- 7: a second kind for a name in its module, or a 33rd module.
+-- 01, Refused because of the text, 7: a second kind for a name in its module, or a 33rd module. Decision: the same kind given twice is
+-- a second one.
 unfoldable pub first-kind : Before → Line → Bool
 first-kind b (module-line m bound) = ltb (b .modules) module-limit
 first-kind b (header-line (kind n k)) = opposite (has-name n (b .kinds))
 first-kind b (header-line (val n i)) = true
 first-kind b (item-line i) = true
 
--- 8: `shl`, `shr`, `band`, `bor` or `bxor` in a constant place.
+-- 01, Refused because of the text, 8: `shl`, `shr`, `band`, `bor` or `bxor`.
 abbrev pub is-bitwise : Binary → Bool
 is-bitwise add = false
 is-bitwise sub = false
@@ -201,7 +218,8 @@ is-bitwise band = true
 is-bitwise bor = true
 is-bitwise bxor = true
 
--- none of the five anywhere in an expression: decision, 8 goes by form, whether or not a part is ever evaluated
+-- 01, Refused because of the text, 8: none of the five anywhere in an expression. Decision: 8 goes by form, whether or not a part is
+-- ever evaluated.
 unfoldable mutual
   pub constant : Expr → Bool
   constant (lit n) = true
@@ -218,7 +236,7 @@ unfoldable mutual
   constants Exprs.none = true
   constants (Exprs.more e es) = constant e && constants es
 
--- the constant place I of `(f (ix (n NAME) I) NAME)`, whatever kind NAME has
+-- 01, The line, constant places: I in `(f (ix (n NAME) I) NAME)`. Decision: whatever kind NAME has.
 unfoldable pub field-place : Expr → Bool
 field-place (lit n) = true
 field-place (truth b) = true
@@ -238,7 +256,7 @@ field-place (unary o a) = true
 field-place (binary o a b) = true
 field-place (all es) = true
 
--- the constant places in an expression that is read
+-- 01, The line, constant places: those in an expression that is read.
 unfoldable mutual
   pub read-places : Expr → Bool
   read-places (lit n) = true
@@ -255,26 +273,30 @@ unfoldable mutual
   reads-places Exprs.none = true
   reads-places (Exprs.more e es) = read-places e && reads-places es
 
+-- 01, The line, constant places: E in T.
 unfoldable pub width-places : Width → Bool
 width-places bit = true
 width-places opaque = true
 width-places (bits e) = constant e
 width-places (signed e) = constant e
 
+-- 01, The line, constant places: E in LV.
 unfoldable pub index-places : Index → Bool
 index-places whole = true
 index-places (at-bit e) = constant e
 index-places (high-low h l) = constant h && constant l
 
+-- 01, The line, constant places: X.
 unfoldable pub place-places : Place → Bool
 place-places single = true
 place-places (at e) = constant e
 
+-- 01, The line, constant places: those in C.
 unfoldable pub conn-places : List Conn → Bool
 conn-places [] = true
 conn-places (c ∷ cs) = read-places (c .signal) && conn-places cs
 
--- Constant places: E in LV, T, `const`, X, `repeat` bounds, the `constif` condition.
+-- 01, The line, constant places: E in LV, T, `const`, X, `repeat` bounds, the `constif` condition.
 unfoldable mutual
   pub item-places : Item → Bool
   item-places (port d n w start) = width-places w
@@ -292,12 +314,13 @@ unfoldable mutual
   items-places Items.none = true
   items-places (Items.more i is) = item-places i && items-places is
 
+-- 01, Refused because of the text, 8: one of the five in a constant place of a line.
 unfoldable pub line-places : Line → Bool
 line-places (module-line m b) = true
 line-places (header-line h) = true
 line-places (item-line i) = item-places i
 
--- the lowest fault, 5 to 8, of a line whose tree is l; 0 for none
+-- 01, Refused because of the text, Order; decision: the lowest fault, 5 to 8, of a line whose tree is l; 0 for none.
 unfoldable pub tree-fault : Before → Line → ℕ
 tree-fault b l =
     elim (line-in-range l) [
@@ -311,7 +334,7 @@ tree-fault b l =
       ]
     ]
 
--- the lowest fault, 3 to 8, of a line; 0 for none
+-- 01, Refused because of the text, Order; decision: the lowest fault, 3 to 8, of a line; 0 for none.
 unfoldable pub line-fault : Before → Bytes → ℕ
 line-fault b s =
     elim (one-form s) [
@@ -319,13 +342,13 @@ line-fault b s =
       | true ↦ elim (written s) [ false ↦ 4 | true ↦ tree-fault b (decode-line s) ]
     ]
 
--- Order: line by line 3 to 8; n is the number of the first line.
+-- 01, Refused because of the text, Order: line by line 3 to 8; n is the number of the first line.
 unfoldable pub lines-fault : Before → ℕ → List Bytes → Verdict
 lines-fault b n [] = well-formed
 lines-fault b n (s ∷ l) =
     elim (line-fault b s) [ zero ↦ lines-fault (after-line b (decode-line s)) (suc n) l | suc k ↦ refused (suc k) n ]
 
--- Order: 1, then 2 over the whole text, then line by line 3 to 8. 1 has line 0.
+-- 01, Refused because of the text, Order: 1, then 2 over the whole text, then line by line 3 to 8. 1 has line 0.
 unfoldable pub refusal : Bytes → Verdict
 refusal text =
     elim (ltb text-limit (length text)) [
@@ -336,16 +359,18 @@ refusal text =
       ]
     ]
 
--- the trees of a text's lines, and the design that they make: header and items go to the module before them
+-- 01, The line: the trees of a text's lines.
 unfoldable pub decode-lines : List Bytes → List Line
 decode-lines [] = []
 decode-lines (s ∷ l) = decode-line s ∷ decode-lines l
 
+-- 01, The line: what lines make: the header and items of the module before them, and the modules among them.
 pub record Gathered : Type 0 where
   pub header : List Header
   pub items : Items
   pub modules : Design
 
+-- 01, The line: header and items go to the module before them.
 unfoldable pub gather : List Line → Gathered
 gather [] = record { header = []; items = Items.none; modules = [] }
 gather (module-line m b ∷ ls) =
@@ -354,11 +379,11 @@ gather (module-line m b ∷ ls) =
 gather (header-line h ∷ ls) = let g = gather ls in record { header = h ∷ g .header; items = g .items; modules = g .modules }
 gather (item-line i ∷ ls) = let g = gather ls in record { header = g .header; items = Items.more i (g .items); modules = g .modules }
 
--- the design that a text is
+-- 01, The line: the design that a text is.
 unfoldable pub decode : Bytes → Design
 decode text = gather (decode-lines (lines text)) .modules
 
--- how many brackets deep a tree is
+-- 01, The line, to 32 brackets deep: how many an E is.
 unfoldable mutual
   pub expr-depth : Expr → ℕ
   expr-depth (lit n) = 0
@@ -375,17 +400,20 @@ unfoldable mutual
   exprs-depth Exprs.none = 0
   exprs-depth (Exprs.more e es) = max (expr-depth e) (exprs-depth es)
 
+-- 01, The line, to 32 brackets deep: T.
 unfoldable pub width-depth : Width → ℕ
 width-depth bit = 0
 width-depth opaque = 0
 width-depth (bits e) = suc (expr-depth e)
 width-depth (signed e) = suc (expr-depth e)
 
+-- 01, The line, to 32 brackets deep: the E of LV.
 unfoldable pub index-depth : Index → ℕ
 index-depth whole = 0
 index-depth (at-bit e) = expr-depth e
 index-depth (high-low h l) = max (expr-depth h) (expr-depth l)
 
+-- 01, The line, to 32 brackets deep: S.
 unfoldable mutual
   pub stmt-depth : Stmt → ℕ
   stmt-depth (set n start) = 1
@@ -397,14 +425,17 @@ unfoldable mutual
   stmts-depth Stmts.none = 0
   stmts-depth (Stmts.more s ss) = max (stmt-depth s) (stmts-depth ss)
 
+-- 01, The line, to 32 brackets deep: X.
 unfoldable pub place-depth : Place → ℕ
 place-depth single = 0
 place-depth (at e) = expr-depth e
 
+-- 01, The line, to 32 brackets deep: C.
 unfoldable pub conns-depth : List Conn → ℕ
 conns-depth [] = 0
 conns-depth (c ∷ cs) = max (suc (expr-depth (c .signal))) (conns-depth cs)
 
+-- 01, The line, to 32 brackets deep: an item.
 unfoldable mutual
   pub item-depth : Item → ℕ
   item-depth (port d n w start) = suc (width-depth w)
@@ -422,15 +453,17 @@ unfoldable mutual
   items-depth Items.none = 0
   items-depth (Items.more i is) = max (item-depth i) (items-depth is)
 
+-- 01, The line, to 32 brackets deep: a line.
 unfoldable pub line-depth : Line → ℕ
 line-depth (module-line m b) = 1
 line-depth (header-line h) = 1
 line-depth (item-line i) = item-depth i
 
--- a design in range: each of its lines, in turn, is at most so many brackets deep and has none of the faults 5 to 8
+-- 01, The line: each line of a design, in turn, is at most so many brackets deep and has none of the faults 5 to 8.
 unfoldable pub lines-in-range : Before → List Line → Bool
 lines-in-range b [] = true
 lines-in-range b (l ∷ ls) = leb (line-depth l) depth-limit && eqb (tree-fault b l) 0 && lines-in-range (after-line b l) ls
 
+-- 01, The line: a design in range.
 unfoldable pub in-range : Design → Bool
 in-range d = lines-in-range at-start (design-lines 0 d)

@@ -3,7 +3,7 @@
 use mathlib.Core.Path.{_≡_}
 use mathlib.Core.Logic.{_↔_, _⊎_}
 use mathlib.Core.Bool.{Bool, true, false, _||_}
-use mathlib.Core.List.{List, [], _∷_, _++_}
+use mathlib.Core.List.{List, [], _∷_, _++_, map}
 use mathlib.Core.Option.{some, none}
 use Prim.Native.Nat.{ℕ, suc, _≤_, _<_}
 use lib.ListN.{length, getElem?}
@@ -20,7 +20,7 @@ use Rattle.spec.specs.Search.{each-once}
 use Rattle.spec.specs.Edge.{same-node, is-inst, Head, Summary, all-nodes, edge-count, node-limit, edge-limit, inst-of}
 use Rattle.spec.specs.Summary.{Kept, kept-summary, triples, triple-limit, Asked, ask-for, comb-summary, make-summary, lines-heads, module-heads}
 use Rattle.spec.specs.Report.{show-reports}
-use Rattle.spec.specs.Check.{site-limit, pair-limit, check-modules, check-design, refuse, accept, Lent, check-drivers}
+use Rattle.spec.specs.Check.{site-limit, pair-limit, check-modules, check-design, refuse, accept, Lent, check-drivers, Slice, lent, check-call}
 use Rattle.spec.specs.Graph.{_∈_}
 use Rattle.spec.specs.Situations.{own-lines, own-names, sites-named, Poisoned, IsOutput, AllRanges}
 
@@ -59,6 +59,7 @@ field-index hs (unary o a) = []
 field-index hs (binary o a b) = []
 field-index hs (all es) = []
 
+-- 01, The edge: the indexes that are evaluated where an expression is read.
 unfoldable mutual
   pub read-constants : Expr → List Header → List Expr
   read-constants (lit n) hs = []
@@ -75,15 +76,17 @@ unfoldable mutual
   reads-constants Exprs.none hs = []
   reads-constants (Exprs.more e es) hs = read-constants e hs ++ reads-constants es hs
 
--- 01, The edge: what a line reads: of an instance line the connections to inputs that some output reaches
+-- 01, The edge: an input that some output reaches.
 unfoldable pub is-reached : ℕ → Summary → Bool
 is-reached i [] = false
 is-reached i (p ∷ s) = eqb i (p .1) || is-reached i s
 
+-- 01, The edge: of an instance line the connections to inputs that some output reaches.
 unfoldable pub conns-read : Summary → List Conn → List Expr
 conns-read s [] = []
 conns-read s (c ∷ cs) = elim (is-reached (c .port) s) [ true ↦ c .signal ∷ conns-read s cs | false ↦ conns-read s cs ]
 
+-- 01, The site: driving a wire: its reads still count. Driving reg or mem: no reads.
 abbrev pub drive-read : Driving → Index → Expr → List Expr
 drive-read an-output x e = e ∷ index-constants x
 drive-read a-wire x e = e ∷ index-constants x
@@ -91,6 +94,7 @@ drive-read a-reg x e = []
 drive-read a-mem x e = []
 drive-read nothing x e = []
 
+-- 01, The edge: what a line reads.
 unfoldable pub line-read : List Header → Summary → Item → List Expr
 line-read hs s (wire n e start) = e ∷ []
 line-read hs s (drive lv e) = drive-read (driving (kind-of hs (lv .name))) (lv .index) e
@@ -108,19 +112,19 @@ pub data GraphPasses (hs : List Head) : Type 0 where
   many-nodes : node-limit < length (each-once same-node (all-nodes hs)) → GraphPasses hs
   many-edges : edge-limit < edge-count hs → GraphPasses hs
 
--- A walk over collected lines passes a limit or evaluates an index outside INT: where a line is reached, with the summaries kept then.
--- `ask` is how its instance lines ask for summaries, and `Asks` whether that passes.
+-- 01, Refused because of the state: a walk over collected lines passes a limit or evaluates an index outside INT: where a line is
+-- reached, with the summaries kept then. `ask` is how its instance lines ask for summaries, and `Asks` whether that passes.
 pub data LinesPass (ask : Kept → ℕ → Asked) (Asks : Kept → ℕ → Type 0) (hs : List Header) (kept : Kept) (lines : List Collected) : Type 0 where
   line-asks : (before after : List Collected) (c : Collected) (i : Inst) → lines ≡ before ++ c ∷ after → inst-of (c .item) ≡ some i → Asks (lines-heads ask hs kept before .kept) (i .«module») → LinesPass ask Asks hs kept lines
   line-reads : (before after : List Collected) (c : Collected) (e f : Expr) → lines ≡ before ++ c ∷ after → e ∈ line-read hs (ask-for ask (lines-heads ask hs kept before .kept) (inst-of (c .item)) .summary) (c .item) → f ∈ read-constants e hs → value (c .names) f ≡ outside → LinesPass ask Asks hs kept lines
 
--- the making of a summary passes: its own walk, its graph, or 1,024 summary triples in all
+-- 01, Refused because of the state: the making of a summary passes: its own walk, its graph, or 1,024 summary triples in all.
 pub data MakingPasses (ask : Kept → ℕ → Asked) (Asks : Kept → ℕ → Type 0) (kept : Kept) (m : ℕ) (k : Module) : Type 0 where
   summary-walk : LinesPass ask Asks (k .header) kept (own-lines k) → MakingPasses ask Asks kept m k
   summary-graph : GraphPasses (lines-heads ask (k .header) kept (own-lines k) .heads) → MakingPasses ask Asks kept m k
   many-triples : triple-limit < triples (make-summary ask kept m k .kept) → MakingPasses ask Asks kept m k
 
--- asking for a summary passes: it is made now, and that passes
+-- 01, Refused because of the state: asking for a summary passes: it is made now, and that passes.
 unfoldable pub AskPasses : ℕ → Design → List ℕ → Kept → ℕ → Type 0
 AskPasses ℕ.zero d busy kept m = ⊥
 AskPasses (suc fuel) d busy kept m =
@@ -132,6 +136,7 @@ unfoldable pub const-table : Table → List Item → Table
 const-table t [] = t
 const-table t (i ∷ is) = const-table (const-names t (Items.more i Items.none)) is
 
+-- 01, The line: items as a list.
 unfoldable pub item-list : Items → List Item
 item-list Items.none = []
 item-list (Items.more i is) = i ∷ item-list is
@@ -146,7 +151,7 @@ pub data ModulePasses (d : Design) (kept : Kept) (k : Module) : Type 0 where
   own-walk : LinesPass (comb-summary (suc (length d)) d []) (λ kept′ m. AskPasses (suc (length d)) d [] kept′ m) (k .header) kept (own-lines k) → ModulePasses d kept k
   own-graph : GraphPasses (module-heads d kept k (own-lines k) .heads) → ModulePasses d kept k
 
--- some module's own check, with the summaries that those before it kept
+-- 01, Refused because of the state: some module's own check passes, with the summaries that those before it kept.
 pub data Passes (d : Design) : Type 0 where
   own-check : (before after : List Module) (k : Module) → d ≡ before ++ k ∷ after → ModulePasses d (check-modules d [] 0 before .kept) k → Passes d
 
@@ -157,8 +162,9 @@ Short working = (l : Lent) × (l ∈ working) × (l .places < l .limit)
 -- The theorem. 01: Refused because of the state. `twenty`: 20 exactly when a slice is too short, or the text has no fault and a listed
 -- limit is passed or an evaluated constant leaves INT. `twenty-one`: 21 exactly when not 20 and the report text is longer than the
 -- buffer. `by-text`: else a fault of the text gives its own number, 1 to 8. `otherwise`: else the reports are written. A refusal gives
--- zeros and keeps the buffer. `outside-is`: a constant leaves INT exactly when an evaluated part does. `fuel`: that of the summaries
--- never runs out, so that it decides nothing.
+-- zeros and keeps the buffer. `leaves`: the whole call gives that answer, and every lent place of working memory is zero after it, whatever
+-- it held. `outside-is`: a constant leaves INT exactly when an evaluated part does. `fuel`: that of the summaries never runs out, so that
+-- it decides nothing.
 pub record Refusals : Type 0 where
   pub twenty : (working : List Lent) (text buffer : Bytes) → check-drivers working text buffer ≡ refuse 20 0 buffer ↔ (Short working ⊎ ((refusal text ≡ well-formed) × Passes (decode text)))
   pub twenty-one : (working : List Lent) (text buffer : Bytes) → check-drivers working text buffer ≡ refuse 21 0 buffer
@@ -166,5 +172,8 @@ pub record Refusals : Type 0 where
   pub by-text : (working : List Lent) (text buffer : Bytes) (k n : ℕ) → ¬ Short working → refusal text ≡ refused k n → (check-drivers working text buffer ≡ refuse k n buffer) × (1 ≤ k) × (k ≤ 8)
   pub otherwise : (working : List Lent) (text buffer : Bytes) → ¬ Short working → refusal text ≡ well-formed → ¬ Passes (decode text)
       → length (show-reports (check-design (decode text) .reports)) ≤ length buffer → check-drivers working text buffer ≡ accept (show-reports (check-design (decode text) .reports)) (check-design (decode text)) buffer
+  pub leaves : (working : List Slice) (text buffer : Bytes) → (check-call working text buffer .answer ≡ check-drivers (map lent working) text buffer)
+      × (map length (check-call working text buffer .working) ≡ map (λ s. length (s .held)) working)
+      × ((w : List ℕ) → w ∈ check-call working text buffer .working → (n : ℕ) → n ∈ w → n ≡ 0)
   pub outside-is : (names : Names) (e : Expr) → value names e ≡ outside ↔ PartOutside names e
   pub fuel : (d : Design) (enough : ℕ) → length d < enough → comb-summary enough d [] ≡ comb-summary (suc (length d)) d []

@@ -15,6 +15,7 @@ pub data Detail : Type 0 where
   gap : ℕ → Detail
   no-block blocks mem-blocks : Detail
 
+-- 01, The report: a report about a name, or a loop.
 pub data Report : Type 0 where
   report : (module-number start name : ℕ) → Detail → Report
   loop-report : (module-number start : ℕ) → List Node → Report
@@ -45,6 +46,7 @@ show-detail no-block = bytes "none" ∷ []
 show-detail blocks = bytes "blocks" ∷ []
 show-detail mem-blocks = bytes "memblocks" ∷ []
 
+-- 01, The report: INDEX, `-` for none. Decision: a negative one with its minus.
 abbrev pub show-node-index : Option ℤ → Bytes
 show-node-index none = bytes "-"
 show-node-index (some z) = show-int z
@@ -54,6 +56,7 @@ unfoldable pub show-node : Node → Bytes
 show-node (signal n) = show-number n
 show-node (inst-out i x o) = show-form (bytes "u") (show-number i ∷ show-node-index x ∷ show-number o ∷ [])
 
+-- 01, The report: NODE ...
 unfoldable pub show-nodes : List Node → List Bytes
 show-nodes [] = []
 show-nodes (n ∷ ns) = show-node n ∷ show-nodes ns
@@ -63,6 +66,7 @@ unfoldable pub show-report : Report → Bytes
 show-report (report m start n d) = show-form (code-of d) (show-number m ∷ show-number start ∷ show-number n ∷ show-detail d)
 show-report (loop-report m start ns) = show-form (bytes "E0504") (show-number m ∷ show-number start ∷ show-form (bytes "walk") (show-nodes ns) ∷ [])
 
+-- 01: output: one text of report lines.
 unfoldable pub show-reports : List Report → Bytes
 show-reports [] = []
 show-reports (r ∷ rs) = show-report r ++ 10 ∷ show-reports rs

@@ -14,16 +14,18 @@ use Rattle.spec.specs.Graph.{_∈_, Once, ClosedWalk, Graph}
 use Rattle.spec.specs.Net.{ComesToRest}
 use Rattle.spec.specs.Opened.{Signal, signal-reads, opened-signals, OnClosedWalk, Premises}
 
--- signals of an opened design, listed once each, with all that they read
+-- 01, Rest: signals of an opened design, listed once each, with all that they read.
 pub record Listing (d : Design) (m : ℕ) (signals : List Signal) : Type 0 where
   pub same : (s t : Signal) → Dec (s ≡ t)
   pub once : Once signals
   pub closed : (s r : Signal) → s ∈ signals → r ∈ signal-reads d m s → r ∈ signals
 
+-- 01, Rest: an opened design as a graph of signals.
 abbrev pub opened-graph : (d : Design) (m : ℕ) (signals : List Signal) → Listing d m signals → Graph
 opened-graph d m signals l =
     record { Signal = Signal; same = l .same; signals = signals; once = l .once; reads = signal-reads d m; closed = l .closed }
 
+-- 01, Rest: no loop is reported.
 abbrev pub NoLoopReport : Design → Type 0
 NoLoopReport d = (m start : ℕ) (w : List Node) → ¬ (loop-report m start w ∈ check-design d .reports)
 
@@ -36,6 +38,6 @@ pub record LoopsAndRest (d : Design) : Type 1 where
   pub listing : (m : ℕ) → Listing d m (opened-signals d m)
   pub rests : NoLoopReport d → (m : ℕ) (signals : List Signal) (l : Listing d m signals) → ComesToRest (opened-graph d m signals l)
 
--- of every accepted text that meets the premises
+-- 01, Rest: demand 3 is one claim, of every accepted text that meets the premises.
 abbrev pub Rest : Type 1
 Rest = (working : List Lent) (text buffer : Bytes) → check-drivers working text buffer .number ≡ 0 → Premises (decode text) → LoopsAndRest (decode text)

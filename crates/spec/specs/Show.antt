@@ -21,6 +21,7 @@ show-unary neg = bytes "neg"
 show-unary not = bytes "not"
 show-unary clog2 = bytes "clog2"
 
+-- 01, The line: the two-part words of E.
 abbrev pub show-binary : Binary → Bytes
 show-binary add = bytes "add"
 show-binary sub = bytes "sub"
@@ -39,6 +40,7 @@ show-binary band = bytes "band"
 show-binary bor = bytes "bor"
 show-binary bxor = bytes "bxor"
 
+-- 01, The line: `true`, `false`.
 abbrev pub show-truth : Bool → Bytes
 show-truth true = bytes "true"
 show-truth false = bytes "false"
@@ -73,6 +75,7 @@ show-index whole = []
 show-index (at-bit e) = show-expr e ∷ []
 show-index (high-low h l) = show-expr h ∷ show-expr l ∷ []
 
+-- 01, The line: LV.
 unfoldable pub show-lvalue : LValue → Bytes
 show-lvalue lv = show-form (bytes "lv") (show-number (lv .name) ∷ show-number (lv .start) ∷ show-index (lv .index))
 
@@ -88,15 +91,17 @@ unfoldable mutual
   show-stmts Stmts.none = []
   show-stmts (Stmts.more s ss) = show-stmt s ∷ show-stmts ss
 
+-- 01, The line: `in` or `out` of a `port`.
 abbrev pub show-dir : Dir → Bytes
 show-dir input = bytes "in"
 show-dir output = bytes "out"
 
--- 01, The line: X and C.
+-- 01, The line: X.
 unfoldable pub show-place : Place → Bytes
 show-place single = bytes "-"
 show-place (at e) = show-expr e
 
+-- 01, The line: C.
 unfoldable pub show-conns : List Conn → List Bytes
 show-conns [] = []
 show-conns (c ∷ cs) = show-form (bytes "conn") (show-number (c .port) ∷ show-expr (c .signal) ∷ []) ∷ show-conns cs
@@ -119,36 +124,42 @@ unfoldable mutual
   show-items Items.none = []
   show-items (Items.more i is) = show-item i ∷ show-items is
 
+-- 01, The line: `bound` or `unbound`.
 abbrev pub show-bound : Bool → Bytes
 show-bound true = bytes "bound"
 show-bound false = bytes "unbound"
 
+-- 01, The line: `(kind NAME K)` and `(val NAME INT)`.
 unfoldable pub show-header : Header → Bytes
 show-header (kind n k) = show-form (bytes "kind") (show-number n ∷ show-kind k ∷ [])
 show-header (val n i) = show-form (bytes "val") (show-number n ∷ show-int i ∷ [])
 
+-- 01, The line: each line is one form.
 unfoldable pub show-line : Line → Bytes
 show-line (module-line m b) = show-form (bytes "module") (show-number m ∷ show-bound b ∷ [])
 show-line (header-line h) = show-header h
 show-line (item-line i) = show-item i
 
--- the lines of a design: of each module its `module` line, its header and its items
+-- 01, The line: `kind` and `val` lines, and then the lines ls.
 unfoldable pub header-lines : List Header → List Line → List Line
 header-lines [] ls = ls
 header-lines (h ∷ hs) ls = header-line h ∷ header-lines hs ls
 
+-- 01, The line: items, and then the lines ls.
 unfoldable pub item-lines : Items → List Line → List Line
 item-lines Items.none ls = ls
 item-lines (Items.more i is) ls = item-line i ∷ item-lines is ls
 
+-- 01, The line: the lines of a design: of each module its `module` line, M counting on from m, its header and its items.
 unfoldable pub design-lines : ℕ → Design → List Line
 design-lines m [] = []
 design-lines m (k ∷ ms) = module-line m (k .bound) ∷ header-lines (k .header) (item-lines (k .items) (design-lines (suc m) ms))
 
--- each line is followed by a line feed
+-- 01, The line: each line is followed by a line feed.
 unfoldable pub show-lines : List Line → Bytes
 show-lines [] = []
 show-lines (l ∷ ls) = show-line l ++ 10 ∷ show-lines ls
 
+-- 01, The line: the text that is a design.
 unfoldable pub show-design : Design → Bytes
 show-design d = show-lines (design-lines 0 d)

@@ -22,6 +22,7 @@ pub data Extent : Type 0 where
   Whole Dynamic Unknown : Extent
   Range : (low high : ℕ) → Extent
 
+-- 01, The site: a site of an output: its name, its extent, its START.
 pub record Site : Type 0 where
   pub name : ℕ
   pub extent : Extent
@@ -49,15 +50,18 @@ range-extent bound (known (negsuc h)) l = no-range bound
 range-extent bound missing l = no-range bound
 range-extent bound outside l = no-range bound
 
+-- 01, The site: no index: Whole; the others as above.
 unfoldable pub lvalue-extent : Bool → Names → Index → Extent
 lvalue-extent bound names whole = Whole
 lvalue-extent bound names (at-bit e) = bit-extent bound (value names e)
 lvalue-extent bound names (high-low h l) = range-extent bound (value names h) (value names l)
 
--- what driving a name does, by its kind: a site for an output, a report for a wire, a register or a memory, else nothing
+-- 01, The site: what driving a name does, by its kind: a site for an output, a report for a wire, a register or a memory, else
+-- nothing.
 pub data Driving : Type 0 where
   an-output a-wire a-reg a-mem nothing : Driving
 
+-- 01, The site: a drive or `set` of an `in`, an `inst` or a name without kind does nothing.
 abbrev pub driving : Option Kind → Driving
 driving none = nothing
 driving (some in-kind) = nothing
@@ -67,6 +71,7 @@ driving (some reg-kind) = a-reg
 driving (some mem-kind) = a-mem
 driving (some inst-kind) = nothing
 
+-- 01, The site: the site of a drive of an output.
 abbrev pub drive-site : Driving → Bool → Names → LValue → List Site
 drive-site an-output bound names lv = record { name = lv .name; extent = lvalue-extent bound names (lv .index); start = lv .start } ∷ []
 drive-site a-wire bound names lv = []
@@ -74,6 +79,7 @@ drive-site a-reg bound names lv = []
 drive-site a-mem bound names lv = []
 drive-site nothing bound names lv = []
 
+-- 01, The site: the sites of a line: `drive` alone makes them.
 unfoldable pub line-sites : Bool → List Header → Names → Item → List Site
 line-sites bound hs names (drive lv e) = drive-site (driving (kind-of hs (lv .name))) bound names lv
 line-sites bound hs names (port d n w s) = []
@@ -86,7 +92,7 @@ line-sites bound hs names (inst i) = []
 line-sites bound hs names (repeat n l h is) = []
 line-sites bound hs names (const-if c is js) = []
 
--- the sites of a module, as often as they are collected
+-- 01, The site: the sites of a module, decision: as often as they are collected.
 unfoldable pub sites : Bool → List Header → List Collected → List Site
 sites bound hs [] = []
 sites bound hs (c ∷ cs) = line-sites bound hs (c .names) (c .item) ++ sites bound hs cs
@@ -97,6 +103,7 @@ index-constants whole = []
 index-constants (at-bit e) = e ∷ []
 index-constants (high-low h l) = h ∷ l ∷ []
 
+-- 01, The value: both indexes of an output's LV always are. Decision: those of other names are not.
 abbrev pub drive-constants : Driving → Index → List Expr
 drive-constants an-output x = index-constants x
 drive-constants a-wire x = []
@@ -104,12 +111,13 @@ drive-constants a-reg x = []
 drive-constants a-mem x = []
 drive-constants nothing x = []
 
+-- 01, The value: X.
 unfoldable pub place-constants : Place → List Expr
 place-constants single = []
 place-constants (at e) = e ∷ []
 
--- the constants that are evaluated as a line is collected, those of its reads aside: both indexes of an output's LV, X of every
--- instance line, both bounds of a `repeat`, the condition of a `constif`
+-- 01, The value: the constants evaluated as a line is collected, those of its reads aside: both indexes of an output's LV, both bounds
+-- of a `repeat`, the condition of a `constif`. Decision: X of every instance line.
 unfoldable pub line-constants : List Header → Item → List Expr
 line-constants hs (drive lv e) = drive-constants (driving (kind-of hs (lv .name))) (lv .index)
 line-constants hs (inst i) = place-constants (i .place)
@@ -122,10 +130,12 @@ line-constants hs (mem n s) = []
 line-constants hs (const n e) = []
 line-constants hs (on s ss) = []
 
+-- 01, Refused because of the state: one of these expressions is evaluated outside INT.
 unfoldable pub any-outside : Names → List Expr → Bool
 any-outside names [] = false
 any-outside names (e ∷ es) = is-outside (value names e) || any-outside names es
 
+-- 01, Refused because of the state: a constant of some collected line is evaluated outside INT.
 unfoldable pub lines-outside : List Header → List Collected → Bool
 lines-outside hs [] = false
 lines-outside hs (c ∷ cs) = any-outside (c .names) (line-constants hs (c .item)) || lines-outside hs cs
@@ -146,10 +156,12 @@ meets (Range l h) Whole = true
 meets (Range l h) Dynamic = true
 meets (Range l h) (Range l′ h′) = leb l h′ && leb l′ h
 
+-- 01, The site: the sites of one name.
 unfoldable pub sites-of : ℕ → List Site → List Site
 sites-of n [] = []
 sites-of n (s ∷ ss) = elim (eqb n (s .name)) [ true ↦ s ∷ sites-of n ss | false ↦ sites-of n ss ]
 
+-- 01, The site: a site that meets an earlier one.
 unfoldable pub meets-any : List Site → Extent → Bool
 meets-any [] x = false
 meets-any (s ∷ ss) x = meets (s .extent) x || meets-any ss x
@@ -164,11 +176,13 @@ first-conflict earlier (s ∷ later) =
 pub data Misuse : Type 0 where
   wire-driven reg-driven mem-driven arrow : Misuse
 
+-- 01, The site: such a report: its name, its START, which it is.
 pub record Misused : Type 0 where
   pub name : ℕ
   pub start : ℕ
   pub misuse : Misuse
 
+-- 01, The site: driving a wire: E0501 `wire`. Driving reg or mem: E0505.
 abbrev pub drive-misuse : Driving → LValue → List Misused
 drive-misuse an-output lv = []
 drive-misuse a-wire lv = record { name = lv .name; start = lv .start; misuse = wire-driven } ∷ []
@@ -184,6 +198,7 @@ set-misuse a-reg n start = []
 set-misuse a-mem n start = []
 set-misuse nothing n start = []
 
+-- 01, The site: `set` on wire or out, wherever it stands in a block.
 unfoldable mutual
   pub stmt-misuses : Stmt → List Header → List Misused
   stmt-misuses (set n start) hs = set-misuse (driving (kind-of hs n)) n start
@@ -195,6 +210,7 @@ unfoldable mutual
   stmts-misuses Stmts.none hs = []
   stmts-misuses (Stmts.more s ss) hs = stmt-misuses s hs ++ stmts-misuses ss hs
 
+-- 01, The site: the misuses of a line.
 unfoldable pub line-misuses : List Header → Item → List Misused
 line-misuses hs (drive lv e) = drive-misuse (driving (kind-of hs (lv .name))) lv
 line-misuses hs (on s ss) = stmts-misuses ss hs
@@ -207,6 +223,7 @@ line-misuses hs (inst i) = []
 line-misuses hs (repeat n l h is) = []
 line-misuses hs (const-if c is js) = []
 
+-- 01, The site: the misuses of a module, in the order of collection.
 unfoldable pub misuses : List Header → List Collected → List Misused
 misuses hs [] = []
 misuses hs (c ∷ cs) = line-misuses hs (c .item) ++ misuses hs cs
@@ -216,28 +233,32 @@ unfoldable pub once-a-name : List ℕ → List Misused → List Misused
 once-a-name seen [] = []
 once-a-name seen (m ∷ ms) = elim (has-name (m .name) seen) [ true ↦ once-a-name seen ms | false ↦ m ∷ once-a-name (m .name ∷ seen) ms ]
 
+-- 01, The site: these three poison a name.
 unfoldable pub misused-names : List Misused → List ℕ
 misused-names [] = []
 misused-names (m ∷ ms) = m .name ∷ misused-names ms
 
--- a conflict: the START of the later site, and the name
+-- 01, The site: a conflict: the START of the later site, and the name.
 pub record Conflict : Type 0 where
   pub start : ℕ
   pub name : ℕ
 
--- conflicts by START then name
+-- 01, The report: conflicts by START then name.
 abbrev pub conflict-before : Conflict → Conflict → Bool
 conflict-before a b = ltb (a .start) (b .start) || eqb (a .start) (b .start) && ltb (a .name) (b .name)
 
+-- 01, The report: conflicts by START then name: one put among the others.
 unfoldable pub insert-conflict : Conflict → List Conflict → List Conflict
 insert-conflict c [] = c ∷ []
 insert-conflict c (d ∷ ds) = elim (conflict-before c d) [ true ↦ c ∷ d ∷ ds | false ↦ d ∷ insert-conflict c ds ]
 
+-- 01, The site: the conflict of a name, where it has one.
 abbrev pub with-conflict : ℕ → Option ℕ → List Conflict → List Conflict
 with-conflict n none cs = cs
 with-conflict n (some start) cs = insert-conflict (record { start = start; name = n }) cs
 
--- the conflicts of the names that are not among `skip`, each name once: `all` has every site, `rest` those still to go through
+-- 01, The site: the conflicts of the names that are not among `skip`, each name once: `all` has every site, `rest` those still to go
+-- through.
 unfoldable pub conflicts : List ℕ → List Site → List Site → List Conflict
 conflicts skip all [] = []
 conflicts skip all (s ∷ rest) =
@@ -246,16 +267,18 @@ conflicts skip all (s ∷ rest) =
       | false ↦ with-conflict (s .name) (first-conflict [] (sites-of (s .name) all)) (conflicts (s .name ∷ skip) all rest)
     ]
 
+-- 01, The site: a conflict poisons.
 unfoldable pub conflict-names : List Conflict → List ℕ
 conflict-names [] = []
 conflict-names (c ∷ cs) = c .name ∷ conflict-names cs
 
--- an output: its first collected `port out` line
+-- 01, The site: an output, of a `port out` line. Decision: whatever kind its name has.
 pub record Output : Type 0 where
   pub name : ℕ
   pub width : Width
   pub start : ℕ
 
+-- 01, The site: the outputs of a line: `port out` alone makes them.
 unfoldable pub line-outputs : Item → List Output
 line-outputs (port input n w s) = []
 line-outputs (port output n w s) = record { name = n; width = w; start = s } ∷ []
@@ -269,6 +292,7 @@ line-outputs (inst i) = []
 line-outputs (repeat n l h is) = []
 line-outputs (const-if c is js) = []
 
+-- 01, The site: every collected `port out` line.
 unfoldable pub output-lines : List Collected → List Output
 output-lines [] = []
 output-lines (c ∷ cs) = line-outputs (c .item) ++ output-lines cs
@@ -278,9 +302,11 @@ unfoldable pub first-lines : List ℕ → List Output → List Output
 first-lines seen [] = []
 first-lines seen (o ∷ os) = elim (has-name (o .name) seen) [ true ↦ first-lines seen os | false ↦ o ∷ first-lines (o .name ∷ seen) os ]
 
+-- 01, The site: each collected output, in the order of its first line.
 unfoldable pub outputs : List Collected → List Output
 outputs cs = first-lines [] (output-lines cs)
 
+-- 01, The site: all Range.
 unfoldable pub only-ranges : List Site → Bool
 only-ranges [] = true
 only-ranges (s ∷ ss) = is-range (s .extent) && only-ranges ss
@@ -298,21 +324,24 @@ width-value names opaque = missing
 width-value names (bits e) = value names e
 width-value names (signed e) = value names e
 
+-- 01, The site: an extent has a bit.
 abbrev pub covers : Extent → ℕ → Bool
 covers Whole b = true
 covers Dynamic b = false
 covers Unknown b = false
 covers (Range l h) b = leb l b && leb b h
 
+-- 01, The site: some site has a bit.
 unfoldable pub covered : List Site → ℕ → Bool
 covered [] b = false
 covered (s ∷ ss) b = covers (s .extent) b || covered ss b
 
--- the first of `count` bits from b on that no site has
+-- 01, The site: the first of `count` bits from b on that no site has.
 unfoldable pub gap-from : List Site → ℕ → ℕ → Option ℕ
 gap-from ss b zero = none
 gap-from ss b (suc count) = elim (covered ss b) [ true ↦ gap-from ss (suc b) count | false ↦ some b ]
 
+-- 01, The site: the lowest 4,096 bits.
 abbrev pub coverage-limit : ℕ
 coverage-limit = 4096
 
@@ -320,11 +349,12 @@ coverage-limit = 4096
 unfoldable pub first-gap : List Site → ℕ → Option ℕ
 first-gap ss width = gap-from ss 0 (min width coverage-limit)
 
--- what is said of an output: never driven, a first gap, or nothing
+-- 01, The site: what is said of an output: `never`, `gap`, or nothing.
 pub data Coverage : Type 0 where
   never fully : Coverage
   gap : ℕ → Coverage
 
+-- 01, The site: a first gap gives `gap`.
 abbrev pub gap-coverage : Option ℕ → Coverage
 gap-coverage none = fully
 gap-coverage (some b) = gap b
@@ -336,7 +366,7 @@ width-coverage ss (known (negsuc w)) = fully
 width-coverage ss missing = fully
 width-coverage ss outside = fully
 
--- the width that decides an output's coverage: only where it has sites and all are ranges
+-- 01, The value: a width is taken after collection. Decision: only where the output has sites and all are ranges.
 unfoldable pub deciding-width : Names → List Site → Width → Value
 deciding-width names [] w = missing
 deciding-width names (s ∷ ss) w = elim (only-ranges (s ∷ ss)) [ true ↦ width-value names w | false ↦ missing ]

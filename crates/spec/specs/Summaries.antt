@@ -2,7 +2,7 @@
 -- Assumes nothing: these are definitions.
 use mathlib.Core.Path.{_≡_}
 use mathlib.Core.Logic.{_↔_}
-use mathlib.Core.List.{List, [], _∷_, _++_}
+use mathlib.Core.List.{List, [], _∷_, _++_, map}
 use mathlib.Core.Option.{Option, some, none}
 use Prim.Native.Nat.{ℕ, zero, suc}
 use lib.ListN.{length, getElem?}
@@ -10,9 +10,9 @@ use Rattle.spec.specs.Syntax.{in-kind, Inst, Header, Module, Design}
 use Rattle.spec.specs.Collect.{Collected}
 use Rattle.spec.specs.Site.{kind-of, Output}
 use Rattle.spec.specs.Edge.{signal, Head, Summary, line-heads, inst-of}
-use Rattle.spec.specs.Summary.{Kept, Asked, Headed, onward, module-summary, lines-heads, comb-summary, module-heads}
+use Rattle.spec.specs.Summary.{Kept, triples, Asked, Headed, onward, module-summary, lines-heads, comb-summary, module-heads}
 use Rattle.spec.specs.Check.{check-modules, check-design}
-use Rattle.spec.specs.Graph.{_∈_, ClosedWalk}
+use Rattle.spec.specs.Graph.{_∈_, Once, ClosedWalk}
 use Rattle.spec.specs.Walks.{Reached}
 use Rattle.spec.specs.Opened.{lines-of, header-of, instanced, top-outputs-of}
 
@@ -88,3 +88,14 @@ pub record PlainSummaries (d : Design) : Type 0 where
 -- before. 01: The edge.
 abbrev pub Summaries : Type 0
 Summaries = (d : Design) → NoModuleInsideItself d → PlainSummaries d
+
+-- 01, Refused because of the state: summary triples: a module, an output, and an input that it reaches.
+unfoldable pub kept-triples : Kept → List (ℕ × ℕ × ℕ)
+kept-triples [] = []
+kept-triples (e ∷ kept) = map (λ p. (e .0, p .0, p .1)) (e .1) ++ kept-triples kept
+
+-- 01, Refused because of the state: 1,024 summary triples in all. Decision: a triple counts once. So `triples` counts, whatever the
+-- design: none stands twice among the summaries that a check keeps.
+pub record TriplesCounted (d : Design) : Type 0 where
+  pub once : Once (kept-triples (check-design d .kept))
+  pub count : triples (check-design d .kept) ≡ length (kept-triples (check-design d .kept))

@@ -14,6 +14,7 @@ use Rattle.spec.specs.Search.{search}
 use Rattle.spec.specs.Site.{kind-of, Output, line-outputs, first-lines}
 use Rattle.spec.specs.Edge.{Node, signal, inst-out, same-node, Head, Summary, line-heads, inst-of, all-nodes, reads-of, over-graph}
 
+-- 01, The edge: in-kind.
 abbrev pub is-input : Option Kind → Bool
 is-input none = false
 is-input (some in-kind) = true
@@ -23,19 +24,22 @@ is-input (some reg-kind) = false
 is-input (some mem-kind) = false
 is-input (some inst-kind) = false
 
--- 01, The edge: the in-kind names that an output reaches, stopping there.
+-- 01, The edge: from a node to what it reads, stopping at in-kind names.
 unfoldable pub onward : List Header → List Head → Node → List Node
 onward hs heads (signal n) = elim (is-input (kind-of hs n)) [ true ↦ [] | false ↦ reads-of heads (signal n) ]
 onward hs heads (inst-out i x o) = reads-of heads (inst-out i x o)
 
+-- 01, The edge: the in-kind names among nodes.
 unfoldable pub inputs-among : List Header → List Node → List ℕ
 inputs-among hs [] = []
 inputs-among hs (signal n ∷ ns) = elim (is-input (kind-of hs n)) [ true ↦ n ∷ inputs-among hs ns | false ↦ inputs-among hs ns ]
 inputs-among hs (inst-out i x o ∷ ns) = inputs-among hs ns
 
+-- 01, The edge: the in-kind names that an output reaches, stopping there.
 unfoldable pub inputs-reached : List Header → List Head → ℕ → List ℕ
 inputs-reached hs heads o = inputs-among hs (search same-node (onward hs heads) (suc (suc (length (all-nodes heads)))) (signal o ∷ []) .left)
 
+-- 01, The edge: an output with each input that it reaches.
 unfoldable pub paired : ℕ → List ℕ → Summary
 paired o [] = []
 paired o (i ∷ is) = (o, i) ∷ paired o is
@@ -45,6 +49,7 @@ unfoldable pub top-outputs : Items → List Output
 top-outputs Items.none = []
 top-outputs (Items.more i is) = line-outputs i ++ top-outputs is
 
+-- 01, The edge: the pairs of these outputs.
 unfoldable pub outputs-reach : List Header → List Head → List Output → Summary
 outputs-reach hs heads [] = []
 outputs-reach hs heads (o ∷ os) = paired (o .name) (inputs-reached hs heads (o .name)) ++ outputs-reach hs heads os
@@ -53,41 +58,47 @@ outputs-reach hs heads (o ∷ os) = paired (o .name) (inputs-reached hs heads (o
 unfoldable pub module-summary : Module → List Head → Summary
 module-summary k heads = outputs-reach (k .header) heads (first-lines [] (top-outputs (k .items)))
 
--- the summaries that were made, by module
+-- 01, The edge: the summaries that were made and kept, by module.
 abbrev pub Kept : Type 0
 Kept = List (ℕ × Summary)
 
+-- 01, The edge: made when first needed and then kept.
 unfoldable pub kept-summary : Kept → ℕ → Option Summary
 kept-summary [] m = none
 kept-summary (e ∷ kept) m = elim (eqb (e .0) m) [ true ↦ some (e .1) | false ↦ kept-summary kept m ]
 
+-- 01, Refused because of the state: summary triples in all: (module, output, input).
 unfoldable pub triples : Kept → ℕ
 triples [] = 0
 triples (e ∷ kept) = length (e .1) + triples kept
 
+-- 01, Refused because of the state: 1,024 summary triples in all.
 abbrev pub triple-limit : ℕ
 triple-limit = 1024
 
--- what asking for a summary gives: it, the summaries kept then, and whether a limit was passed or an `f` index evaluated for its
--- reads was outside INT; its other constants are found by the module's own check
+-- 01, The edge: what asking for a summary gives: it, the summaries kept then, and whether a limit was passed or an `f` index evaluated
+-- for its reads was outside INT; its other constants are found by the module's own check.
 pub record Asked : Type 0 where
   pub summary : Summary
   pub kept : Kept
   pub full : Bool
 
+-- 01, The edge: empty, and that is not kept.
 abbrev pub no-summary : Kept → Asked
 no-summary kept = record { summary = []; kept = kept; full = false }
 
--- the heads of collected lines, with the summaries that their instance lines ask for, in order
+-- 01, The edge: the heads of collected lines, with the summaries that their instance lines ask for, in order.
 pub record Headed : Type 0 where
   pub heads : List Head
   pub kept : Kept
   pub full : Bool
 
+-- 01, The edge: instances lead to summaries. Decision: first needed is the first collected instance line.
 unfoldable pub ask-for : (Kept → ℕ → Asked) → Kept → Option Inst → Asked
 ask-for ask kept none = no-summary kept
 ask-for ask kept (some i) = ask kept (i .«module»)
 
+-- 01, The edge: items lead to instances, instances to summaries.
 unfoldable pub lines-heads : (Kept → ℕ → Asked) → List Header → Kept → List Collected → Headed
 lines-heads ask hs kept [] = record { heads = []; kept = kept; full = false }
 lines-heads ask hs kept (c ∷ cs) =
@@ -96,7 +107,7 @@ lines-heads ask hs kept (c ∷ cs) =
     let r = lines-heads ask hs (a .kept) cs in
     record { heads = h .heads ++ r .heads; kept = r .kept; full = a .full || h .out || r .full }
 
--- a summary that is made now, and kept
+-- 01, The edge: summaries lead to items: one that is made now, and kept.
 unfoldable pub make-summary : (Kept → ℕ → Asked) → Kept → ℕ → Module → Asked
 make-summary ask kept m k =
     let c = collection (own-vals k) k in
@@ -121,6 +132,6 @@ comb-summary (suc fuel) d busy kept m =
       ]
     ]
 
--- a module's own heads: its own check does not count as summarising it
+-- 01, The edge: a module's own check does not count as summarising it.
 unfoldable pub module-heads : Design → Kept → Module → List Collected → Headed
 module-heads d kept k cs = lines-heads (comb-summary (suc (length d)) d []) (k .header) kept cs

@@ -5,10 +5,11 @@ use mathlib.Core.List.{List}
 use Prim.Native.Nat.{ℕ}
 use lib.IntN.{ℤ}
 
--- 01, The line: NAME 0 to 255, one numbering for the design; MOD 0 to 255.
+-- 01, The line: NAME 0 to 255, one numbering for the design.
 abbrev pub name-bound : ℕ
 name-bound = 256
 
+-- 01, The line: MOD 0 to 255.
 abbrev pub module-bound : ℕ
 module-bound = 256
 
@@ -20,9 +21,11 @@ number-bound = 2147483648
 pub data Kind : Type 0 where
   in-kind out-kind wire-kind reg-kind mem-kind inst-kind : Kind
 
+-- 01, The line: E, its operators with one part.
 pub data Unary : Type 0 where
   neg not clog2 : Unary
 
+-- 01, The line: E, its operators with two parts.
 pub data Binary : Type 0 where
   add sub mul eq ne lt le gt ge and or shl shr band bor bxor : Binary
 
@@ -54,6 +57,7 @@ pub data Index : Type 0 where
   at-bit : Expr → Index
   high-low : Expr → Expr → Index
 
+-- 01, The line: LV.
 pub record LValue : Type 0 where
   pub name : ℕ
   pub start : ℕ
@@ -71,6 +75,7 @@ mutual
     none : Stmts
     more : Stmt → Stmts → Stmts
 
+-- 01, The line: `port in` or `port out`.
 pub data Dir : Type 0 where
   input output : Dir
 
@@ -79,10 +84,12 @@ pub data Place : Type 0 where
   single : Place
   at : Expr → Place
 
+-- 01, The line: C, a connection of an instance.
 pub record Conn : Type 0 where
   pub port : ℕ
   pub signal : Expr
 
+-- 01, The line: an `inst` item.
 pub record Inst : Type 0 where
   pub name : ℕ
   pub place : Place
@@ -113,12 +120,13 @@ pub data Header : Type 0 where
   kind : (name : ℕ) → Kind → Header
   val : (name : ℕ) → ℤ → Header
 
+-- 01, The line: a module: bound or not, its `kind` and `val` lines, its items.
 pub record Module : Type 0 where
   pub bound : Bool
   pub header : List Header
   pub items : Items
 
--- modules in order, counted from 0
+-- 01, The line: modules in order, M counting from 0.
 abbrev pub Design : Type 0
 Design = List Module
 

@@ -13,40 +13,44 @@ pub data Value : Type 0 where
   known : ℤ → Value
   missing outside : Value
 
--- names with their values, the newest first
+-- 01, The value: the name table: names with their values, the newest first.
 abbrev pub Names : Type 0
 Names = List (ℕ × ℤ)
 
+-- 01, The value: a name in the table; no value: unknown name.
 unfoldable pub value-of-name : Names → ℕ → Value
 value-of-name [] n = missing
 value-of-name (e ∷ names) n = elim (eqb (e .0) n) [ true ↦ known (e .1) | false ↦ value-of-name names n ]
 
--- a result, where it is in INT
+-- 01, Refused because of the state: a result, where it is not outside INT.
 unfoldable pub within : ℤ → Value
 within z = elim (in-int z) [ true ↦ known z | false ↦ outside ]
 
+-- 01, The value: 0 is false, decision: anything else is true, negatives too.
 abbrev pub is-zero : ℤ → Bool
 is-zero (pos n) = eqb n 0
 is-zero (negsuc n) = false
 
+-- 01, The value: `eq` of exact whole numbers.
 abbrev pub int-eq : ℤ → ℤ → Bool
 int-eq (pos m) (pos n) = eqb m n
 int-eq (pos m) (negsuc n) = false
 int-eq (negsuc m) (pos n) = false
 int-eq (negsuc m) (negsuc n) = eqb m n
 
+-- 01, The value: `lt` of exact whole numbers.
 abbrev pub int-lt : ℤ → ℤ → Bool
 int-lt (pos m) (pos n) = ltb m n
 int-lt (pos m) (negsuc n) = false
 int-lt (negsuc m) (pos n) = true
 int-lt (negsuc m) (negsuc n) = ltb n m
 
--- truth is 1 or 0, and anything but 0 is true
+-- 01, The value: truth is 1 or 0.
 abbrev pub truth-value : Bool → Value
 truth-value true = known (pos 1)
 truth-value false = known (pos 0)
 
--- how many binary digits n has; `fuel` is at least that many
+-- 01, The value: how many binary digits n has; `fuel` is at least that many.
 unfoldable pub bit-length : ℕ → ℕ → ℕ
 bit-length zero n = 0
 bit-length (suc fuel) n = elim (eqb n 0) [ true ↦ 0 | false ↦ suc (bit-length fuel (n / 2)) ]
@@ -61,12 +65,13 @@ clog2-value (pos zero) = missing
 clog2-value (pos (suc n)) = within (pos (clog2-bits (suc n)))
 clog2-value (negsuc n) = missing
 
+-- 01, The value: `neg`, `not`, `clog2`.
 unfoldable pub unary-value : Unary → ℤ → Value
 unary-value neg x = within (negℤ x)
 unary-value not x = truth-value (is-zero x)
 unary-value clog2 x = clog2-value x
 
--- the five operators of refusal 8 are in no constant place of an accepted text, and have no value here
+-- 01, The value: operators with two parts. Decision: the five of refusal 8, in no constant place of an accepted text, have no value.
 unfoldable pub binary-value : Binary → ℤ → ℤ → Value
 binary-value add x y = within (x +ℤ y)
 binary-value sub x y = within (x -ℤ y)
@@ -85,7 +90,7 @@ binary-value band x y = missing
 binary-value bor x y = missing
 binary-value bxor x y = missing
 
--- what follows a value that is known; a missing one ends it, and so does one outside
+-- 01, The value: a missing operand ends it, and so does one outside INT.
 abbrev pub and-then : Value → (ℤ → Value) → Value
 and-then (known x) f = f x
 and-then missing f = missing
@@ -103,12 +108,13 @@ value names (unary o a) = and-then (value names a) (unary-value o)
 value names (binary o a b) = and-then (value names a) (λ x. and-then (value names b) (binary-value o x))
 value names (all es) = missing
 
+-- 01, Refused because of the state: a constant evaluated outside INT.
 abbrev pub is-outside : Value → Bool
 is-outside (known x) = false
 is-outside missing = false
 is-outside outside = true
 
--- a name table, and whether some value that it needed was outside INT
+-- 01, The value: a name table, and whether some value that it needed was outside INT.
 pub record Table : Type 0 where
   pub names : Names
   pub out : Bool
@@ -119,6 +125,7 @@ val-names names [] = names
 val-names names (kind n k ∷ hs) = val-names names hs
 val-names names (val n z ∷ hs) = val-names ((n, z) ∷ names) hs
 
+-- 01, The value: a `const` line: one without a value is skipped.
 unfoldable pub with-value : ℕ → Value → Table → Table
 with-value n (known z) t = record { names = (n, z) ∷ t .names; out = t .out }
 with-value n missing t = t
@@ -138,9 +145,10 @@ const-names t (Items.more (inst i) is) = const-names t is
 const-names t (Items.more (repeat n l h js) is) = const-names t is
 const-names t (Items.more (const-if c js ks) is) = const-names t is
 
--- the module's own table, over the values of its `val` lines
+-- 01, The value: the module's own table, over the values of its `val` lines.
 unfoldable pub name-table : Names → Module → Table
 name-table vals m = const-names (record { names = vals; out = false }) (m .items)
 
+-- 01, The value: the values of a module's `val` lines.
 unfoldable pub own-vals : Module → Names
 own-vals m = val-names [] (m .header)
