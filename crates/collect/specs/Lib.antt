@@ -1,7 +1,0 @@
-pub mod Walk
-pub mod Fold
-pub mod Run
-pub mod Text
-pub mod Alike
-pub mod Reads
-pub mod Shows

@@ -1,0 +1,97 @@
+-- Reading the outputs of instances, one law for each way of `output_read` and `index_read`.
+-- Assumes nothing.
+use mathlib.Core.Path.{_≡_, refl, sym, _∙_, ap}
+use mathlib.Core.Bool.{Bool, true, false}
+use mathlib.Core.List.{List, []}
+use mathlib.Core.Option.{some}
+use Prim.Native.Nat.{ℕ, zero, suc, _-_, _≤_, _<_}
+use native.Mathlib.Omega.{arith}
+use lib.ListN.{getD}
+use lib.Dec.{ltb}
+use lib.IntN.{ℤ, negsuc}
+use borrow.Author.Tests.{ltb-true}
+use Rattle.spec.specs.Syntax.{Header}
+use Rattle.spec.specs.Value.{Value}
+use Rattle.spec.specs.Site.{kind-of}
+use Rattle.spec.specs.Edge.{Node, inst-out, Head, Reads, no-reads, is-inst, indexed-reads}
+use Rattle.graph.specs.Table.{unbiased}
+use Rattle.graph.specs.Stands.{Heading, Read}
+use Rattle.graph.specs.declared.Added as A
+use Rattle.graph.specs.declared.Added.the-variants as added
+use Rattle.consteval.specs.Worth.{signed, worth}
+use Rattle.consteval.specs.declared.Value.{Value as Answer}
+use Rattle.consteval.specs.declared.Value.the-variants.{Known, Missing, Outside}
+use Rattle.edges.specs.Reads.{kind-word, KindsOf, ReadAll}
+use Rattle.edges.specs.Shows.{one-read, if-inst, InstRead}
+use Rattle.edges.proofs.ReadLaws.{read-none, read-one, read-out}
+
+-- the whole number that a word holds, in both crates
+same-word : (x : ℕ) → signed x ≡ unbiased x
+same-word x = go (ltb x 2147483648) refl
+  where
+    go : (b : Bool) → ltb x 2147483648 ≡ b → signed x ≡ unbiased x
+    go true e = let l = ltb-true x 2147483648 e in let h : 2147483648 - suc x ≡ 2147483647 - x = omega arith in rw (e, unbiased) (ap negsuc h)
+    go false e = rw (e, unbiased)
+
+small-kind : (k : ℕ) → k < 6 → is-inst (kind-word k) ≡ false
+small-kind zero h = refl
+small-kind (suc zero) h = refl
+small-kind (suc (suc zero)) h = refl
+small-kind (suc (suc (suc zero))) h = refl
+small-kind (suc (suc (suc (suc zero)))) h = refl
+small-kind (suc (suc (suc (suc (suc zero))))) h = refl
+small-kind (suc (suc (suc (suc (suc (suc k)))))) h = absurd (omega arith)
+
+large-kind : (k : ℕ) → 6 ≤ k → is-inst (kind-word k) ≡ true
+large-kind zero h = absurd (omega arith)
+large-kind (suc zero) h = absurd (omega arith)
+large-kind (suc (suc zero)) h = absurd (omega arith)
+large-kind (suc (suc (suc zero))) h = absurd (omega arith)
+large-kind (suc (suc (suc (suc zero)))) h = absurd (omega arith)
+large-kind (suc (suc (suc (suc (suc zero))))) h = absurd (omega arith)
+large-kind (suc (suc (suc (suc (suc (suc k)))))) h = refl
+
+module _ (kinds : List ℕ) (i : ℕ) (g : List ℕ) (from : ℕ) {k : ℕ} (q : k ≡ getD kinds i 0) where
+  kind-here : (header : List Header) → KindsOf kinds header → kind-word k ≡ kind-of header i
+  kind-here header w = ap kind-word q ∙ w i
+
+  -- i is no inst
+  pub inst-not : (r : Reads) → k < 6 → InstRead true i r kinds g g from
+  inst-not r l header w hs n start rs h =
+      let e : is-inst (kind-of header i) ≡ false = ap is-inst (sym (kind-here header w)) ∙ small-kind k l in
+      let z : if-inst (kind-of header i) r ≡ no-reads = ap (λ (b : Bool). elim b as (λ _. Reads) [ true ↦ r | false ↦ no-reads ]) e in
+      rw z (read-none hs n start from g rs h)
+
+  module _ (l : 6 ≤ k) where
+    -- i is one, and r is read
+    inst-then : (b : Bool) (g′ : List ℕ) (r : Reads) → ((hs : List Head) (n : Node) (start : ℕ) (rs : List Node) → Heading g hs n start rs from → ReadAll b g′ hs n start rs from r)
+        → InstRead b i r kinds g g′ from
+    inst-then b g′ r f header w hs n start rs h =
+        let e : is-inst (kind-of header i) ≡ true = ap is-inst (sym (kind-here header w)) ∙ large-kind k l in
+        let z : if-inst (kind-of header i) r ≡ r = ap (λ (b : Bool). elim b as (λ _. Reads) [ true ↦ r | false ↦ no-reads ]) e in
+        rw z (f hs n start rs h)
+
+    module _ (m : Node) (a : A.Added) (g′ : List ℕ) (read : (hs : List Head) (n : Node) (start : ℕ) (rs : List Node) → Heading g hs n start rs from → Read a g′ hs n start rs from m) where
+      pub inst-at : {j : ℕ} → a ≡ added.At j → InstRead true i (one-read m) kinds g g′ from
+      inst-at e = inst-then true g′ (one-read m) (λ hs n start rs h. read-one hs n start from a true g′ rs m (read hs n start rs h) (λ j f. refl) (λ f. let x : _≡_ {A = ℕ} 0 1 = cc in absurd (omega arith)))
+
+      pub inst-full : a ≡ added.Full → InstRead false i (one-read m) kinds g g′ from
+      inst-full e = inst-then false g′ (one-read m) (λ hs n start rs h. read-one hs n start from a false g′ rs m (read hs n start rs h) (λ j f. let x : _≡_ {A = ℕ} 0 1 = cc in absurd (omega arith)) (λ f. refl))
+
+    -- the index: its value
+    module _ (p : ℕ) {v : Answer} {z : Value} (qv : worth v ≡ z) where
+      pub index-missing : v ≡ Missing → InstRead true i (indexed-reads i z p) kinds g g from
+      index-missing e = rw (sym qv ∙ ap worth e) (inst-then true g no-reads (λ hs n start rs h. read-none hs n start from g rs h))
+
+      pub index-outside : v ≡ Outside → InstRead false i (indexed-reads i z p) kinds g g from
+      index-outside e = rw (sym qv ∙ ap worth e) (inst-then false g (record { nodes = []; out = true }) (λ hs n start rs h. read-out hs n start from g rs))
+
+      module _ {x : ℕ} (e : v ≡ Known x) (a : A.Added) (g′ : List ℕ) (read : (hs : List Head) (n : Node) (start : ℕ) (rs : List Node) → Heading g hs n start rs from → Read a g′ hs n start rs from (inst-out i (some (unbiased x)) p)) where
+        known-here : indexed-reads i z p ≡ one-read (inst-out i (some (unbiased x)) p)
+        known-here = ap (λ (u : Value). indexed-reads i u p) (sym qv ∙ ap worth e) ∙ ap (λ (u : ℤ). one-read (inst-out i (some u) p)) (same-word x)
+
+        pub index-at : {j : ℕ} → a ≡ added.At j → InstRead true i (indexed-reads i z p) kinds g g′ from
+        index-at f = rw known-here (inst-at (inst-out i (some (unbiased x)) p) a g′ read f)
+
+        pub index-full : a ≡ added.Full → InstRead false i (indexed-reads i z p) kinds g g′ from
+        index-full f = rw known-here (inst-full (inst-out i (some (unbiased x)) p) a g′ read f)

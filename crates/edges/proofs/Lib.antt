@@ -1,0 +1,4 @@
+pub mod ReadLaws
+pub mod ExprLaws
+pub mod InstLaws
+pub mod FieldLaws

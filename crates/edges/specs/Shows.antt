@@ -1,0 +1,73 @@
+-- Expressions as the code reads them: by the first bytes of a form, and then part by part. 01: The line; The edge.
+-- Assumes nothing: these are definitions and statements.
+use mathlib.Core.Path.{_≡_}
+use mathlib.Core.Bool.{Bool, true, false}
+use mathlib.Core.List.{List, [], _∷_}
+use mathlib.Core.Option.{Option}
+use Prim.Native.Nat.{ℕ, _≤_}
+use Rattle.spec.specs.Bytes.{Bytes}
+use Rattle.spec.specs.Syntax.{Kind, Expr, Exprs, lit, truth, name, field, index, if-else, unary, binary, all, Header}
+use Rattle.spec.specs.Show.{show-expr}
+use Rattle.spec.specs.Refusal.{expr-in-range, expr-depth}
+use Rattle.spec.specs.Value.{Names}
+use Rattle.spec.specs.Site.{kind-of}
+use Rattle.spec.specs.Edge.{Node, Reads, no-reads, name-reads, is-inst, field-reads, expr-reads, Head}
+use Rattle.graph.specs.Stands.{Heading}
+use Rattle.edges.specs.declared.Named as N
+use Rattle.edges.specs.declared.Named.the-variants as named
+use Rattle.edges.specs.Reads.{KindsOf, ReadAll}
+
+-- the parts of a form that are read one behind the other: all of them, of a name and of an `f` none
+unfoldable pub children : Expr → Exprs
+children (lit n) = Exprs.none
+children (truth b) = Exprs.none
+children (name n) = Exprs.none
+children (field e n) = Exprs.none
+children (index e i) = Exprs.more e (Exprs.more i Exprs.none)
+children (if-else c a b) = Exprs.more c (Exprs.more a (Exprs.more b Exprs.none))
+children (unary o a) = Exprs.more a Exprs.none
+children (binary o a b) = Exprs.more a (Exprs.more b Exprs.none)
+children (all es) = es
+
+-- the bytes e show x, which is in range and at most d brackets deep
+pub record ShowsExpr (e : Bytes) (d : ℕ) (x : Expr) : Type 0 where
+  pub shown : e ≡ show-expr x
+  pub deep : expr-depth x ≤ d
+  pub ranged : expr-in-range x ≡ true
+
+-- what reading the bytes e leaves in the graph of a module, whatever they show and whatever was headed and read before
+abbrev pub ExprRead : Bool → Bytes → ℕ → List ℕ → Names → List ℕ → List ℕ → ℕ → Type 0
+ExprRead r e d kinds names g g′ from =
+    (x : Expr) → ShowsExpr e d x → (header : List Header) → KindsOf kinds header
+    → (hs : List Head) (n : Node) (start : ℕ) (rs : List Node) → Heading g hs n start rs from → ReadAll r g′ hs n start rs from (expr-reads x header names)
+
+-- what reading a name leaves in the graph of a module
+abbrev pub NameRead : Bool → ℕ → List ℕ → List ℕ → List ℕ → ℕ → Type 0
+NameRead r m kinds g g′ from =
+    (header : List Header) → KindsOf kinds header
+    → (hs : List Head) (n : Node) (start : ℕ) (rs : List Node) → Heading g hs n start rs from → ReadAll r g′ hs n start rs from (name-reads (kind-of header m) m)
+
+-- what looking for a name says of an expression
+abbrev pub NamedBy : N.Named → Expr → Type 0
+NamedBy (named.Is n) x = x ≡ name n
+NamedBy named.Not x = (n : ℕ) → x ≡ name n → ⊥
+
+-- one node is read
+abbrev pub one-read : Node → Reads
+one-read n = record { nodes = n ∷ []; out = false }
+
+-- what an `f` reads where its name is an inst
+abbrev pub if-inst : Option Kind → Reads → Reads
+if-inst o q = elim (is-inst o) [ true ↦ q | false ↦ no-reads ]
+
+-- what reading q leaves in the graph of a module, where i is an inst
+abbrev pub InstRead : Bool → ℕ → Reads → List ℕ → List ℕ → List ℕ → ℕ → Type 0
+InstRead r i q kinds g g′ from =
+    (header : List Header) → KindsOf kinds header
+    → (hs : List Head) (n : Node) (start : ℕ) (rs : List Node) → Heading g hs n start rs from → ReadAll r g′ hs n start rs from (if-inst (kind-of header i) q)
+
+-- what reading `(f x p)` leaves in the graph of a module
+abbrev pub FieldRead : Bool → Bytes → ℕ → ℕ → List ℕ → Names → List ℕ → List ℕ → ℕ → Type 0
+FieldRead r x p d kinds names g g′ from =
+    (y : Expr) → ShowsExpr x d y → (header : List Header) → KindsOf kinds header
+    → (hs : List Head) (n : Node) (start : ℕ) (rs : List Node) → Heading g hs n start rs from → ReadAll r g′ hs n start rs from (field-reads header names y p)

@@ -1,0 +1,71 @@
+-- Runs of items as bytes: the items of a module, or those inside a `repeat`, `then` or `else`. A run begins with the byte before its
+-- first item; one byte stands between two items and one behind the last: the line feeds of the lines of a module, or the spaces and
+-- the last bracket of a form. 01: The line.
+-- Assumes nothing: these are definitions.
+use mathlib.Core.Path.{_≡_}
+use mathlib.Core.Bool.{true, false}
+use mathlib.Core.List.{List, [], _∷_, _++_}
+use Prim.Native.Nat.{ℕ, zero, suc, _+_, _≤_}
+use lib.ListN.{length, take, drop}
+use lib.Dec.{eqb}
+use Rattle.spec.specs.Bytes.{Bytes}
+use Rattle.spec.specs.Syntax.{Item, Items}
+use Rattle.spec.specs.Show.{show-item, show-items}
+use Rattle.spec.specs.Decode.{depth-limit, items-by, decode-item}
+use Rattle.spec.specs.Refusal.{one-form, item-depth, items-depth, item-in-range, items-in-range}
+
+-- how many bytes there are to the end of the form that stands first, its last bracket included, k brackets being open in it
+unfoldable pub form-length : ℕ → Bytes → ℕ
+form-length k [] = 0
+form-length k (c ∷ s) =
+    elim (eqb c 40) [
+      | true ↦ suc (form-length (suc k) s)
+      | false ↦ elim (eqb c 41) [
+        | true ↦ elim k [ zero ↦ 1 | suc j ↦ elim j [ zero ↦ 1 | suc i ↦ suc (form-length (suc i) s) ] ]
+        | false ↦ suc (form-length k s)
+      ]
+    ]
+
+-- the bytes of the items of a run; `fuel` is at least the number of its bytes
+unfoldable pub run-split : ℕ → Bytes → List Bytes
+run-split zero s = []
+run-split (suc fuel) [] = []
+run-split (suc fuel) (b ∷ []) = []
+run-split (suc fuel) (b ∷ c ∷ s) = take (form-length 0 (c ∷ s)) (c ∷ s) ∷ run-split fuel (drop (form-length 0 (c ∷ s)) (c ∷ s))
+
+unfoldable pub run-parts : Bytes → List Bytes
+run-parts s = run-split (length s) s
+
+-- the items of a run, each at most d brackets deep
+unfoldable pub run-items : ℕ → Bytes → Items
+run-items d s = items-by (decode-item d) (run-parts s)
+
+-- s is a run of these forms
+pub data Run : Bytes → List Bytes → Type 0 where
+  last : (b : ℕ) → Run (b ∷ []) []
+  next : (b : ℕ) {x s : Bytes} {xs : List Bytes} → one-form x ≡ true → Run s xs → Run (b ∷ x ++ s) (x ∷ xs)
+
+-- s is a run of what shows items that are at most d brackets deep
+pub record Runs (d : ℕ) (s : Bytes) : Type 0 where
+  pub items : Items
+  pub deep : items-depth items ≤ d
+  pub within : d ≤ depth-limit
+  pub run : Run s (show-items items)
+
+-- where the item ends that stands behind the byte at `at`
+unfoldable pub item-end : Bytes → ℕ → ℕ
+item-end s at = at + 1 + form-length 0 (drop (at + 1) s)
+
+-- the bytes x show the item i, which is in range and at most d brackets deep, and d is not past the limit
+pub record ShowsItem (x : Bytes) (d : ℕ) (i : Item) : Type 0 where
+  pub shown : x ≡ show-item i
+  pub deep : item-depth i ≤ d
+  pub within : d ≤ depth-limit
+  pub ranged : item-in-range i ≡ true
+
+-- s is a run of these items, which are in range and at most d brackets deep, and d is not past the limit
+pub record RunOf (d : ℕ) (s : Bytes) (is : Items) : Type 0 where
+  pub deep : items-depth is ≤ d
+  pub within : d ≤ depth-limit
+  pub ranged : items-in-range is ≡ true
+  pub run : Run s (show-items is)
