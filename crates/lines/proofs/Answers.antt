@@ -2,11 +2,12 @@
 -- Assumes nothing.
 use mathlib.Core.Path.{_≡_, refl, sym, ap, _∙_}
 use mathlib.Core.List.{List}
-use Prim.Native.Nat.{ℕ, _≤_, _<_}
+use Prim.Native.Nat.{ℕ, _≤_, _<_, _*_}
 use native.Mathlib.Omega.{arith}
 use lib.ListN.{length, replicate, length-replicate}
 use borrow.Author.Tests.{lt-ltb, le-ltb}
 use Rattle.spec.specs.Bytes.{Bytes}
+use Rattle.spec.specs.Syntax.{name-bound}
 use Rattle.spec.specs.Refusal.{Verdict, well-formed, refused, refusal, decode}
 use Rattle.lines.specs.Verdict.{told}
 use Rattle.lines.specs.Tables.{put-kinds, put-mods, Fitting}
@@ -17,17 +18,17 @@ use Rattle.lines.specs.declared.tables.Read.{Read}
 use Rattle.lines.specs.declared.tables.Read.the-variants.{Short, Refused, Accepted}
 
 module _ {A : Type 0} (s f : A) (k m : ℕ) where
-  pub room-kinds : k < 8192 → s ≡ by-room s f k m
+  pub room-kinds : k < 32 * name-bound → s ≡ by-room s f k m
   unfolding by-room
-  room-kinds h = rw (lt-ltb k 8192 h, by-room)
+  room-kinds h = rw (lt-ltb k (32 * name-bound) h, by-room)
 
-  pub room-mods : 8192 ≤ k → m < 128 → s ≡ by-room s f k m
+  pub room-mods : 32 * name-bound ≤ k → m < 128 → s ≡ by-room s f k m
   unfolding by-room
-  room-mods g h = rw (le-ltb k 8192 g, lt-ltb m 128 h, by-room)
+  room-mods g h = rw (le-ltb k (32 * name-bound) g, lt-ltb m 128 h, by-room)
 
-  pub room-fits : 8192 ≤ k → 128 ≤ m → f ≡ by-room s f k m
+  pub room-fits : 32 * name-bound ≤ k → 128 ≤ m → f ≡ by-room s f k m
   unfolding by-room
-  room-fits g h = rw (le-ltb k 8192 g, le-ltb m 128 h, by-room)
+  room-fits g h = rw (le-ltb k (32 * name-bound) g, le-ltb m 128 h, by-room)
 
 told-refused : (v : Verdict) (c k n : ℕ) → No k n ≡ told v c → v ≡ refused k n
 told-refused well-formed c k n e = let z : _≡_ {A = ℕ} 0 1 = cc e in absurd (omega arith)
@@ -41,11 +42,11 @@ module _ (t : Bytes) (kinds mods : List ℕ) where
   abbrev Left : Read → List ℕ → List ℕ → Type 0
   Left r ks ms = (r ≡ read-as (length kinds) (length mods) t) × ((ks ≡ kinds-after kinds (length mods) t) × (ms ≡ mods-after mods (length kinds) t))
 
-  pub short-kinds : length kinds < 8192 → Left Short kinds mods
+  pub short-kinds : length kinds < 32 * name-bound → Left Short kinds mods
   unfolding read-as kinds-after mods-after
   short-kinds h = (room-kinds _ _ (length kinds) (length mods) h, (room-kinds _ _ (length kinds) (length mods) h, room-kinds _ _ (length kinds) (length mods) h))
 
-  module _ (g : 8192 ≤ length kinds) where
+  module _ (g : 32 * name-bound ≤ length kinds) where
     pub short-mods : length mods < 128 → Left Short kinds mods
     unfolding read-as kinds-after mods-after
     short-mods h = (room-mods _ _ (length kinds) (length mods) g h, (room-mods _ _ (length kinds) (length mods) g h, room-mods _ _ (length kinds) (length mods) g h))

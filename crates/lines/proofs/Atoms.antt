@@ -11,7 +11,7 @@ use lib.IntN.{ℤ, pos, negsuc}
 use lib.ListN.{length, getD, drop}
 use borrow.Author.Tests.{eqb-true, eqb-false, ne-eqb, lt-ltb, le-ltb, ltb-true, ltb-false}
 use Rattle.spec.specs.Bytes.{Bytes, bytes, digits, show-number, show-int}
-use Rattle.spec.specs.Syntax.{number-bound, Expr, lit, truth, name, field, index, if-else, unary, binary, all, Width, bit, opaque, bits, signed, Place, single, at, in-kind, out-kind, wire-kind, reg-kind, mem-kind, inst-kind, input, output}
+use Rattle.spec.specs.Syntax.{name-bound, module-bound, number-bound, Expr, lit, truth, name, field, index, if-else, unary, binary, all, Width, bit, opaque, bits, signed, Place, single, at, in-kind, out-kind, wire-kind, reg-kind, mem-kind, inst-kind, input, output}
 use Rattle.spec.specs.Syntax as Syntax
 use Rattle.spec.specs.Show.{show-truth, show-kind, show-dir, show-bound, show-expr, show-width, show-place}
 use Rattle.spec.specs.Refusal.{expr-in-range, width-in-range, place-in-range, in-int, constant, field-place, read-places, width-places, place-places, expr-depth, width-depth, place-depth}
@@ -193,9 +193,9 @@ int-sound t i j r p =
     (λ e q. let f = numbered-sound t i j r p number-bound (omega arith) q in record { tree = pos (f .number); span = f .span; ranged = f .ranged; placed = f .placed; deep = omega arith })
 
 pub atom-sound : (c : Cat) (t : Bytes) (i j : ℕ) (r p : Bool) → atom c t i ≡ Good j r p → Found 0 c t i j r p
-atom-sound Name t i j r p q = let f = numbered-sound t i j r p 256 (omega arith) q in record { tree = f .number; span = f .span; ranged = f .ranged; placed = f .placed; deep = omega arith }
+atom-sound Name t i j r p q = let f = numbered-sound t i j r p name-bound (omega arith) q in record { tree = f .number; span = f .span; ranged = f .ranged; placed = f .placed; deep = omega arith }
 atom-sound Start t i j r p q = let f = numbered-sound t i j r p number-bound (omega arith) q in record { tree = f .number; span = f .span; ranged = f .ranged; placed = f .placed; deep = omega arith }
-atom-sound Mod t i j r p q = let f = numbered-sound t i j r p 256 (omega arith) q in record { tree = f .number; span = f .span; ranged = f .ranged; placed = f .placed; deep = omega arith }
+atom-sound Mod t i j r p q = let f = numbered-sound t i j r p module-bound (omega arith) q in record { tree = f .number; span = f .span; ranged = f .ranged; placed = f .placed; deep = omega arith }
 atom-sound Count t i j r p q = let f = counted-sound t i j r p q in record { tree = f .0; span = f .1; ranged = f .2; placed = f .3; deep = omega arith }
 atom-sound Int t i j r p q = int-sound t i j r p q
 atom-sound Kind t i j r p q = kind-sound t i j r p (worded-sound t i j r p _ _ q)
@@ -392,9 +392,9 @@ int-there (negsuc n) t i r e s =
     }
 
 pub atom-there : (c : Cat) (x : Tree c) (t : Bytes) (i : ℕ) (r : Bytes) → Is-atom c x → drop i t ≡ show c x ++ r → Stops r → Read-as c x t i
-atom-there Name n t i r a e s = record { good = numbered-there t i r n 256 (omega arith) e s; plain = number-plain t i r n e }
+atom-there Name n t i r a e s = record { good = numbered-there t i r n name-bound (omega arith) e s; plain = number-plain t i r n e }
 atom-there Start n t i r a e s = record { good = numbered-there t i r n number-bound (omega arith) e s; plain = number-plain t i r n e }
-atom-there Mod n t i r a e s = record { good = numbered-there t i r n 256 (omega arith) e s; plain = number-plain t i r n e }
+atom-there Mod n t i r a e s = record { good = numbered-there t i r n module-bound (omega arith) e s; plain = number-plain t i r n e }
 atom-there Count n t i r a e s = record { good = counted-there t i r n e s; plain = number-plain t i r n e }
 atom-there Int x t i r a e s = int-there x t i r e s
 atom-there Kind k t i r a e s = record { good = kind-there t i r k e s; plain = kind-plain t i r k e }

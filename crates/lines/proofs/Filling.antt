@@ -8,6 +8,7 @@ use native.Mathlib.Omega.{arith}
 use lib.ListN.{length, set, replicate, length-set, length-replicate}
 use borrow.Author.Tests.{le-ltb}
 use Rattle.spec.specs.Bytes.{Bytes}
+use Rattle.spec.specs.Syntax.{name-bound}
 use Rattle.spec.specs.Refusal.{Verdict, well-formed, refused, lines, Before, at-start, lines-fault, set-fault, refusal}
 use Rattle.spec.proofs.Reading.{reading}
 use Rattle.lines.specs.Parse.{kindOf}
@@ -39,8 +40,8 @@ set-formed t e = go (set-fault t) refl
 pub formed-ended : (t : Bytes) → refusal t ≡ well-formed → Ended t
 formed-ended t e = record { short = reading .accepted t e .0; ends = ends-fine t (set-formed t e .0) }
 
-pub filling-start : (t : Bytes) (kinds mods : List ℕ) → refusal t ≡ well-formed → Filling t 0 0 false 0 (replicate 256 0) kinds mods kinds mods
-filling-start t kinds mods e = record { row = 1; going = going-start t (formed-ended t e); long = length-replicate {A = ℕ} 256 0; filled = filled-start t kinds mods }
+pub filling-start : (t : Bytes) (kinds mods : List ℕ) → refusal t ≡ well-formed → Filling t 0 0 false 0 (replicate name-bound 0) kinds mods kinds mods
+filling-start t kinds mods e = record { row = 1; going = going-start t (formed-ended t e); long = length-replicate {A = ℕ} name-bound 0; filled = filled-start t kinds mods }
 
 module _ (t : Bytes) (at modules : ℕ) (items : Bool) (first : ℕ) (seen kinds₀ mods₀ kinds mods : List ℕ) (f : Filling t at modules items first seen kinds₀ mods₀ kinds mods) (h : at < length t) where
   abbrev here : Before
@@ -60,7 +61,7 @@ module _ (t : Bytes) (at modules : ℕ) (items : Bool) (first : ℕ) (seen kinds
     pub module-facts : Module feed ≡ lineStep t at modules items seen → (feed < length t) × (at < feed + 1) × (modules < 32)
     module-facts e = let r = right (Module feed) e in let p = pass-room t at feed here _ (r .1) h in (p .0, p .1, r .2)
 
-    pub kind-facts : (n : ℕ) → Kind feed n ≡ lineStep t at modules items seen → (feed < length t) × (at < feed + 1) × (0 < modules) × (n < 256) × (modules ≤ 32)
+    pub kind-facts : (n : ℕ) → Kind feed n ≡ lineStep t at modules items seen → (feed < length t) × (at < feed + 1) × (0 < modules) × (n < name-bound) × (modules ≤ 32)
     kind-facts n e = let r = right (Kind feed n) e in let p = pass-room t at feed here _ (r .1) h in (p .0, p .1, header-before t at feed here _ (r .1) .0, r .2, f .going .few)
 
     pub val-facts : Val feed ≡ lineStep t at modules items seen → (feed < length t) × (at < feed + 1) × (0 < modules) × (modules ≤ 32)
@@ -70,19 +71,19 @@ module _ (t : Bytes) (at modules : ℕ) (items : Bool) (first : ℕ) (seen kinds
     item-facts e = let r = right (Item feed) e in let p = pass-room t at feed here _ (r .1) h in (p .0, p .1, item-before t at feed here _ (r .1), f .going .few)
 
     pub filling-module : Module feed ≡ lineStep t at modules items seen → (fl : ℕ) (mods′ : List ℕ) → fl ≡ flagOf (secondKey t at) → mods′ ≡ entries mods modules fl (feed + 1) (feed + 1) (feed + 1)
-        → Filling t (feed + 1) (modules + 1) false (feed + 1) (replicate 256 0) kinds₀ mods₀ kinds mods′
+        → Filling t (feed + 1) (modules + 1) false (feed + 1) (replicate name-bound 0) kinds₀ mods₀ kinds mods′
     filling-module e fl mods′ q w =
         let r = right (Module feed) e in
         let z = q ∙ second-bound t at feed here modules (r .0) (r .1) in
         record {
           row = f .row + 1;
           going = going-module t at (f .row) modules items seen (f .going) h feed r;
-          long = length-replicate {A = ℕ} 256 0;
+          long = length-replicate {A = ℕ} name-bound 0;
           filled = rw (w, z) (filled-module t at modules items first kinds₀ mods₀ kinds mods (f .filled) h feed (f .going .kinds) (r .0) (r .1));
         }
 
     pub filling-kind : (n : ℕ) → Kind feed n ≡ lineStep t at modules items seen → (k : ℕ) (mods′ : List ℕ) → k ≡ kindOf (secondKey t at) → mods′ ≡ marked mods (modules - 1) (feed + 1) (feed + 1)
-        → Filling t (feed + 1) modules items (feed + 1) (set seen n 1) kinds₀ mods₀ (set kinds ((modules - 1) * 256 + n) k) mods′
+        → Filling t (feed + 1) modules items (feed + 1) (set seen n 1) kinds₀ mods₀ (set kinds ((modules - 1) * name-bound + n) k) mods′
     filling-kind n e k mods′ q w =
         let r = right (Kind feed n) e in
         let z = q ∙ second-kind t at feed here n (r .0) (r .1) in

@@ -11,6 +11,7 @@ use lib.ListN.{length, drop, getD, drop-of-length-le}
 use lib.Seq.{drop-cons, getD-drop}
 use borrow.Author.Tests.{eq-eqb, ne-eqb, le-leb, lt-leb}
 use Rattle.spec.specs.Bytes.{Bytes, bytes, onto}
+use Rattle.spec.specs.Syntax.{name-bound}
 use Rattle.spec.specs.Refusal.{well-formed, refused, lines, in-set, byte-fault, ends-in-feed, set-fault}
 use Rattle.spec.specs.Reading.{feeds}
 use Rattle.lines.specs.Parse.{key, wordAt, numberAt, scan}
@@ -155,14 +156,14 @@ module _ (v j modules feed : ℕ) where
   module-next e h = rw (eq-eqb v modules e, lt-leb 32 modules h, moduleStep)
 
 module _ (v j : ℕ) (seen : List ℕ) (feed : ℕ) where
-  pub kind-large : 256 ≤ v → Fault 5 ≡ kindStep (Is v j) seen feed
-  kind-large h = rw (le-leb 256 v h, kindStep)
+  pub kind-large : name-bound ≤ v → Fault 5 ≡ kindStep (Is v j) seen feed
+  kind-large h = rw (le-leb name-bound v h, kindStep)
 
-  pub kind-twice : v < 256 → (getD seen v 0 ≡ 0 → ⊥) → Fault 7 ≡ kindStep (Is v j) seen feed
-  kind-twice h f = rw (lt-leb 256 v h, ne-eqb (getD seen v 0) 0 f, kindStep)
+  pub kind-twice : v < name-bound → (getD seen v 0 ≡ 0 → ⊥) → Fault 7 ≡ kindStep (Is v j) seen feed
+  kind-twice h f = rw (lt-leb name-bound v h, ne-eqb (getD seen v 0) 0 f, kindStep)
 
-  pub kind-first : v < 256 → getD seen v 0 ≡ 0 → Kind feed v ≡ kindStep (Is v j) seen feed
-  kind-first h f = rw (lt-leb 256 v h, eq-eqb (getD seen v 0) 0 f, kindStep)
+  pub kind-first : v < name-bound → getD seen v 0 ≡ 0 → Kind feed v ≡ kindStep (Is v j) seen feed
+  kind-first h f = rw (lt-leb name-bound v h, eq-eqb (getD seen v 0) 0 f, kindStep)
 
 pub written-4 : (t : Bytes) (at : ℕ) → closesAt 1 (drop at t) ≡ true → 4 ≡ notWritten t at
 unfolding notWritten

@@ -11,7 +11,7 @@ use lib.ListN.{length, getD, take, drop, set, replicate, length-append, length-s
 use lib.Seq.{getD-set-same, getD-set-other, take-at, drop-at}
 use borrow.Author.Tests.{eqb-true, eqb-false, eq-eqb, ltb-true, ltb-false, not-true}
 use Rattle.spec.specs.Bytes.{Bytes}
-use Rattle.spec.specs.Syntax.{Header, kind, val, Items, Module, Design, Line, module-line, header-line, item-line}
+use Rattle.spec.specs.Syntax.{name-bound, Header, kind, val, Items, Module, Design, Line, module-line, header-line, item-line}
 use Rattle.spec.specs.Show.{show-line, show-lines, header-lines, item-lines, design-lines, show-design}
 use Rattle.spec.specs.Site.{kind-of}
 use Rattle.spec.specs.Decode.{depth-limit}
@@ -70,42 +70,42 @@ not-again (kind m k ∷ hs) ls b n h e =
 not-again (val m v ∷ hs) ls b n h e = not-again hs ls b n (sound b (header-line (val m v)) (header-lines hs ls) h .rest) e
 
 -- the kinds of a header, over what the table held; other modules' kinds stay
-header-said : (hs : List Header) (ls : List Line) (b : Before) (m : ℕ) (table : List ℕ) → lines-in-range b (header-lines hs ls) ≡ true → m * 256 + 256 ≤ length table
-    → (n : ℕ) → n < 256 → getD (put-header m hs table) (m * 256 + n) 0 ≡ kind-or (kind-of hs n) (getD table (m * 256 + n) 0)
+header-said : (hs : List Header) (ls : List Line) (b : Before) (m : ℕ) (table : List ℕ) → lines-in-range b (header-lines hs ls) ≡ true → m * name-bound + name-bound ≤ length table
+    → (n : ℕ) → n < name-bound → getD (put-header m hs table) (m * name-bound + n) 0 ≡ kind-or (kind-of hs n) (getD table (m * name-bound + n) 0)
 unfolding header-lines put-header kind-of after-line line-in-range has-name
 header-said [] ls b m table h l n q = refl
 header-said (kind a k ∷ hs) ls b m table h l n q =
     let s = sound b (header-line (kind a k)) (header-lines hs ls) h in
-    let x = m * 256 + a in
+    let x = m * name-bound + a in
     let t′ = set table x (kind-number k) in
     let i = header-said hs ls (after-line b (header-line (kind a k))) m t′ (s .rest) (simp length-set l) n q in
     i ∙ go s (eqb a n) refl
   where
-    go : Sound b (header-line (kind a k)) (header-lines hs ls) → (x : Bool) → eqb a n ≡ x → kind-or (kind-of hs n) (getD (set table (m * 256 + a) (kind-number k)) (m * 256 + n) 0) ≡ kind-or (kind-of (kind a k ∷ hs) n) (getD table (m * 256 + n) 0)
+    go : Sound b (header-line (kind a k)) (header-lines hs ls) → (x : Bool) → eqb a n ≡ x → kind-or (kind-of hs n) (getD (set table (m * name-bound + a) (kind-number k)) (m * name-bound + n) 0) ≡ kind-or (kind-of (kind a k ∷ hs) n) (getD table (m * name-bound + n) 0)
     go s true e =
         let z = eqb-true a n e in
-        let r = ltb-true a 256 (s .range) in
+        let r = ltb-true a name-bound (s .range) in
         let w : kind-of hs n ≡ none = not-again hs ls (after-line b (header-line (kind a k))) n (s .rest) (rw (eq-eqb n a (sym z))) in
-        rw (w, e, kind-of) (ap (λ (y : ℕ). getD (set table (m * 256 + a) (kind-number k)) (m * 256 + y) 0) (sym z) ∙ getD-set-same table (m * 256 + a) (kind-number k) 0 (omega arith))
+        rw (w, e, kind-of) (ap (λ (y : ℕ). getD (set table (m * name-bound + a) (kind-number k)) (m * name-bound + y) 0) (sym z) ∙ getD-set-same table (m * name-bound + a) (kind-number k) 0 (omega arith))
     go s false e =
         let z = eqb-false a n e in
-        rw (e, kind-of) (ap (kind-or (kind-of hs n)) (getD-set-other table (m * 256 + a) (m * 256 + n) (kind-number k) 0 (λ y. z (omega arith))))
+        rw (e, kind-of) (ap (kind-or (kind-of hs n)) (getD-set-other table (m * name-bound + a) (m * name-bound + n) (kind-number k) 0 (λ y. z (omega arith))))
 header-said (val a v ∷ hs) ls b m table h l n q = header-said hs ls b m table (sound b (header-line (val a v)) (header-lines hs ls) h .rest) l n q
 
-header-frame : (hs : List Header) (ls : List Line) (b : Before) (m : ℕ) (table : List ℕ) → lines-in-range b (header-lines hs ls) ≡ true → (j n : ℕ) → n < 256 → (j ≡ m → ⊥) → getD (put-header m hs table) (j * 256 + n) 0 ≡ getD table (j * 256 + n) 0
+header-frame : (hs : List Header) (ls : List Line) (b : Before) (m : ℕ) (table : List ℕ) → lines-in-range b (header-lines hs ls) ≡ true → (j n : ℕ) → n < name-bound → (j ≡ m → ⊥) → getD (put-header m hs table) (j * name-bound + n) 0 ≡ getD table (j * name-bound + n) 0
 unfolding header-lines put-header after-line line-in-range
 header-frame [] ls b m table h j n q f = refl
 header-frame (kind a k ∷ hs) ls b m table h j n q f =
     let s = sound b (header-line (kind a k)) (header-lines hs ls) h in
-    let r = ltb-true a 256 (s .range) in
-    header-frame hs ls (after-line b (header-line (kind a k))) m (set table (m * 256 + a) (kind-number k)) (s .rest) j n q f
-    ∙ getD-set-other table (m * 256 + a) (j * 256 + n) (kind-number k) 0 (λ e. f (omega arith))
+    let r = ltb-true a name-bound (s .range) in
+    header-frame hs ls (after-line b (header-line (kind a k))) m (set table (m * name-bound + a) (kind-number k)) (s .rest) j n q f
+    ∙ getD-set-other table (m * name-bound + a) (j * name-bound + n) (kind-number k) 0 (λ e. f (omega arith))
 header-frame (val a v ∷ hs) ls b m table h j n q f = header-frame hs ls b m table (sound b (header-line (val a v)) (header-lines hs ls) h .rest) j n q f
 
 header-long : (hs : List Header) (m : ℕ) (table : List ℕ) → length (put-header m hs table) ≡ length table
 unfolding put-header
 header-long [] m table = refl
-header-long (kind a k ∷ hs) m table = header-long hs m (set table (m * 256 + a) (kind-number k)) ∙ length-set table (m * 256 + a) (kind-number k)
+header-long (kind a k ∷ hs) m table = header-long hs m (set table (m * name-bound + a) (kind-number k)) ∙ length-set table (m * name-bound + a) (kind-number k)
 header-long (val a v ∷ hs) m table = header-long hs m table
 
 -- behind a header and items: the same number of modules
@@ -148,7 +148,7 @@ design-few (k ∷ ms) m b e l h =
     let x = o .below in
     omega (arith, design-few ms (suc m) (o .behind .b) (o .behind .count) (omega arith) (o .behind .rest))
 
-kinds-frame : (ms : Design) (m : ℕ) (b : Before) (table : List ℕ) → b .modules ≡ m → lines-in-range b (design-lines m ms) ≡ true → (j n : ℕ) → n < 256 → j < m → getD (put-kinds m ms table) (j * 256 + n) 0 ≡ getD table (j * 256 + n) 0
+kinds-frame : (ms : Design) (m : ℕ) (b : Before) (table : List ℕ) → b .modules ≡ m → lines-in-range b (design-lines m ms) ≡ true → (j n : ℕ) → n < name-bound → j < m → getD (put-kinds m ms table) (j * name-bound + n) 0 ≡ getD table (j * name-bound + n) 0
 unfolding put-kinds
 kinds-frame [] m b table e h j n q l = refl
 kinds-frame (k ∷ ms) m b table e h j n q l =
@@ -156,8 +156,8 @@ kinds-frame (k ∷ ms) m b table e h j n q l =
     kinds-frame ms (suc m) (o .behind .b) (put-header m (k .header) table) (o .behind .count) (o .behind .rest) j n q (omega arith)
     ∙ header-frame (k .header) _ (o .b) m table (o .head) j n q (λ z. omega arith)
 
-kinds-said : (ms : Design) (m : ℕ) (b : Before) (table : List ℕ) → b .modules ≡ m → lines-in-range b (design-lines m ms) ≡ true → 8192 ≤ length table
-    → ((j n : ℕ) → n < 256 → m ≤ j → getD table (j * 256 + n) 0 ≡ 0) → (j n : ℕ) → n < 256 → getD (put-kinds m ms table) ((m + j) * 256 + n) 0 ≡ kind-at ms j n
+kinds-said : (ms : Design) (m : ℕ) (b : Before) (table : List ℕ) → b .modules ≡ m → lines-in-range b (design-lines m ms) ≡ true → 32 * name-bound ≤ length table
+    → ((j n : ℕ) → n < name-bound → m ≤ j → getD table (j * name-bound + n) 0 ≡ 0) → (j n : ℕ) → n < name-bound → getD (put-kinds m ms table) ((m + j) * name-bound + n) 0 ≡ kind-at ms j n
 unfolding put-kinds kind-at
 kinds-said [] m b table e h l f j n q = f (m + j) n q (omega arith)
 kinds-said (k ∷ ms) m b table e h l f zero n q =
@@ -290,7 +290,7 @@ zero-there l x = go (ltb x l) refl
     go true e = getD-replicate {A = ℕ} l x 0 0 (ltb-true x l e)
     go false e = let h = ltb-false x l e in List·getD-eq-default (replicate {A = ℕ} l 0) 0 (rw (length-replicate {A = ℕ} l 0) h)
 
-pub says : (t : Bytes) (kinds mods : ℕ) → refusal t ≡ well-formed → 8192 ≤ kinds → 128 ≤ mods → Says t kinds mods
+pub says : (t : Bytes) (kinds mods : ℕ) → refusal t ≡ well-formed → 32 * name-bound ≤ kinds → 128 ≤ mods → Says t kinds mods
 unfolding in-range show-design
 says t kinds mods a hk hm =
     let r = reading .accepted t a in
@@ -298,7 +298,7 @@ says t kinds mods a hk hm =
     let few = design-few d 0 at-start refl (omega arith) (r .1) in
     record {
       few = omega arith;
-      kinds-say = λ m n q. let z : 0 + m ≡ m = omega arith in rw z at (kinds-said d 0 at-start (replicate kinds 0) refl (r .1) (rw (length-replicate {A = ℕ} kinds 0) hk) (λ j i u v. zero-there kinds (j * 256 + i)) m n q);
+      kinds-say = λ m n q. let z : 0 + m ≡ m = omega arith in rw z at (kinds-said d 0 at-start (replicate kinds 0) refl (r .1) (rw (length-replicate {A = ℕ} kinds 0) hk) (λ j i u v. zero-there kinds (j * name-bound + i)) m n q);
       mods-say = mods-said t d 0 0 (replicate mods 0) [] (sym (r .2)) refl (rw (length-replicate {A = ℕ} mods 0) (omega arith));
       mods-zero = λ i l. mods-above d 0 0 (replicate mods 0) i (omega arith) ∙ zero-there mods i;
     }

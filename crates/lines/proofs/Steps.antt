@@ -12,7 +12,7 @@ use lib.ListN.{length, getD, drop}
 use lib.Seq.{drop-cons}
 use borrow.Author.Tests.{eqb-true, eqb-false, ltb-true, ltb-false, leb-true, leb-false, ne-eqb, lt-ltb, le-ltb, le-leb, lt-leb}
 use Rattle.spec.specs.Bytes.{Bytes, bytes, same-bytes, show-number, show-int, show-rest, show-form, onto}
-use Rattle.spec.specs.Syntax.{Item, port, wire, reg, mem, const, drive, on, inst, repeat, const-if, kind, val, Line, module-line, header-line, item-line}
+use Rattle.spec.specs.Syntax.{name-bound, Item, port, wire, reg, mem, const, drive, on, inst, repeat, const-if, kind, val, Line, module-line, header-line, item-line}
 use Rattle.spec.specs.Syntax as Syntax
 use Rattle.spec.specs.Show.{show-kind, show-bound, show-header, show-line, show-item}
 use Rattle.spec.specs.Decode.{depth-limit, decode-line}
@@ -182,7 +182,7 @@ pub record Failed (t : Bytes) (i : ℕ) (b : Before) (k : ℕ) : Type 0 where
 abbrev pub Right : (t : Bytes) (i : ℕ) (b : Before) → Step → Type 0
 Right t i b (Fault k) = Failed t i b k
 Right t i b (Module j) = (bound : Bool) × Passed t i j b (module-line (b .modules) bound) × (b .modules < 32)
-Right t i b (Kind j n) = (k : Syntax.Kind) × Passed t i j b (header-line (kind n k)) × (n < 256)
+Right t i b (Kind j n) = (k : Syntax.Kind) × Passed t i j b (header-line (kind n k)) × (n < name-bound)
 Right t i b (Val j) = (n : ℕ) × (v : ℤ) × Passed t i j b (header-line (val n v))
 Right t i b (ItemStep j) = (x : Item) × Passed t i j b (item-line x)
 
@@ -237,13 +237,13 @@ first-number t at n xs z e =
 
 -- the names that have a kind
 abbrev pub Seen : List ℕ → List ℕ → Type 0
-Seen seen names = (n : ℕ) → n < 256 → eqb (getD seen n 0) 0 ≡ opposite (has-name n names)
+Seen seen names = (n : ℕ) → n < name-bound → eqb (getD seen n 0) 0 ≡ opposite (has-name n names)
 
 caps-same : (v n m : ℕ) → m ≤ 32 → Caps v n → eqb v m ≡ eqb n m
 caps-same v n m h (inl e) = ap (λ (x : ℕ). eqb x m) e
 caps-same v n m h (inr e) = let a = e .0 in let b = e .1 in ne-eqb v m (λ z. omega arith) ∙ sym (ne-eqb n m (λ z. omega arith))
 
-caps-small : (v n : ℕ) → n < 256 → Caps v n → v ≡ n
+caps-small : (v n : ℕ) → n < name-bound → Caps v n → v ≡ n
 caps-small v n h (inl e) = e
 caps-small v n h (inr e) = let a = e .1 in absurd (omega arith)
 
@@ -297,7 +297,7 @@ module _ (t : Bytes) (i j : ℕ) (b : Before) (small : b .modules ≤ 32) where
         rw (← e) (module-case m bd w (n .value) (n .next) (caps-same (n .value) m (b .modules) small (n .caps)))
 
     -- a name's first kind, or its second
-    kind-case : (n : ℕ) (k : Syntax.Kind) → n < 256 → (0 < b .modules) → b .has-item ≡ false → Wrote t i j (header-line (kind n k)) → (x : ℕ) → Right t i b (kindStep (Is n x) seen j)
+    kind-case : (n : ℕ) (k : Syntax.Kind) → n < name-bound → (0 < b .modules) → b .has-item ≡ false → Wrote t i j (header-line (kind n k)) → (x : ℕ) → Right t i b (kindStep (Is n x) seen j)
     unfolding line-in-range in-place first-kind line-places
     kind-case n k s m z w x = go (has-name n (b .kinds)) refl
       where
@@ -307,12 +307,12 @@ module _ (t : Bytes) (i j : ℕ) (b : Before) (small : b .modules ≤ 32) where
         go : (y : Bool) → has-name n (b .kinds) ≡ y → Right t i b (kindStep (Is n x) seen j)
         go true p =
             let u : eqb (getD seen n 0) 0 ≡ false = agree n s ∙ ap opposite p in
-            rw (lt-leb 256 n s, u, kindStep) (wrote-fails t i j (header-line (kind n k)) b 7 w (fault-first b (header-line (kind n k)) (lt-ltb n 256 s) here (ap opposite p)) (omega arith))
+            rw (lt-leb name-bound n s, u, kindStep) (wrote-fails t i j (header-line (kind n k)) b 7 w (fault-first b (header-line (kind n k)) (lt-ltb n name-bound s) here (ap opposite p)) (omega arith))
         go false p =
             let u : eqb (getD seen n 0) 0 ≡ true = agree n s ∙ ap opposite p in
-            rw (lt-leb 256 n s, u, kindStep) (k, wrote-passes t i j (header-line (kind n k)) b w (fault-none b (header-line (kind n k)) (lt-ltb n 256 s) here (ap opposite p) refl), s)
+            rw (lt-leb name-bound n s, u, kindStep) (k, wrote-passes t i j (header-line (kind n k)) b w (fault-none b (header-line (kind n k)) (lt-ltb n name-bound s) here (ap opposite p) refl), s)
 
-    kind-right : (n : ℕ) (k : Syntax.Kind) (p : Bool) → n < 256 → Wrote t i j (header-line (kind n k)) → Right t i b (headStep t (i + 1) j p (b .modules) (b .has-item) seen)
+    kind-right : (n : ℕ) (k : Syntax.Kind) (p : Bool) → n < name-bound → Wrote t i j (header-line (kind n k)) → Right t i b (headStep t (i + 1) j p (b .modules) (b .has-item) seen)
     unfolding show-line show-header all-wordly classOf line-in-range in-place key code-after
     kind-right n k p s w = go (eqb (b .modules) 0) refl (b .has-item) refl
       where
@@ -332,10 +332,10 @@ module _ (t : Bytes) (i j : ℕ) (b : Before) (small : b .modules ≤ 32) where
         go true q y r =
             let e = eqb-true (b .modules) 0 q in
             rw (← head-none t (i + 1) j p (b .modules) (b .has-item) seen no e)
-            (wrote-fails t i j (header-line (kind n k)) b 6 w (fault-place b (header-line (kind n k)) (lt-ltb n 256 s) (rw (le-ltb 0 (b .modules) (omega arith)))) (omega arith))
+            (wrote-fails t i j (header-line (kind n k)) b 6 w (fault-place b (header-line (kind n k)) (lt-ltb n name-bound s) (rw (le-ltb 0 (b .modules) (omega arith)))) (omega arith))
         go false q true r =
             rw (← head-late t (i + 1) j p (b .modules) (b .has-item) seen no (eqb-false (b .modules) 0 q) is r)
-            (wrote-fails t i j (header-line (kind n k)) b 6 w (fault-place b (header-line (kind n k)) (lt-ltb n 256 s) (rw r (and-false (ltb 0 (b .modules))))) (omega arith))
+            (wrote-fails t i j (header-line (kind n k)) b 6 w (fault-place b (header-line (kind n k)) (lt-ltb n name-bound s) (rw r (and-false (ltb 0 (b .modules))))) (omega arith))
         go false q false r =
             let m = eqb-false (b .modules) 0 q in
             let g : numberAfter t (wordAt t (i + 1) .next) ≡ Is n (f .next) = ap (λ (x : Word). numberAfter t (x .next)) (h .0) ∙ f .is ∙ ap (λ (v : ℕ). Is v (f .next)) (caps-small (f .value) n s (f .caps)) in
@@ -421,7 +421,7 @@ module _ (t : Bytes) (i : ℕ) (b : Before) (small : b .modules ≤ 32) (seen : 
   head-right : (j : ℕ) (l : Line) → line-in-range l ≡ true → Wrote t i j l → Right t i b (headStep t (i + 1) j (line-places l) (b .modules) (b .has-item) seen)
   unfolding line-in-range show-line
   head-right j (module-line m bd) s w = module-right t i j b small seen agree m bd (line-places (module-line m bd)) w
-  head-right j (header-line (kind n k)) s w = kind-right t i j b small seen agree n k (line-places (header-line (kind n k))) (ltb-true n 256 s) w
+  head-right j (header-line (kind n k)) s w = kind-right t i j b small seen agree n k (line-places (header-line (kind n k))) (ltb-true n name-bound s) w
   head-right j (header-line (val n v)) s w = val-right t i j b small seen agree n v (line-places (header-line (val n v))) s w
   head-right j (item-line x) s w =
       let h = item-head x t i (10 ∷ drop (j + 1) t) (w .span) in

@@ -12,7 +12,7 @@ use lib.ListN.{length, getD, drop, set, length-append, length-drop, length-set, 
 use lib.Seq.{getD-set-same, getD-set-other, ext-getD}
 use borrow.Author.Tests.{eqb-true, eqb-false, eq-eqb, ne-eqb, ltb-true, not-true}
 use Rattle.spec.specs.Bytes.{Bytes, bytes, show-number, show-rest, show-form}
-use Rattle.spec.specs.Syntax.{Kind, in-kind, out-kind, wire-kind, reg-kind, mem-kind, inst-kind, Header, kind, val, Items, Design, Line, module-line, header-line, item-line}
+use Rattle.spec.specs.Syntax.{name-bound, Kind, in-kind, out-kind, wire-kind, reg-kind, mem-kind, inst-kind, Header, kind, val, Items, Design, Line, module-line, header-line, item-line}
 use Rattle.spec.specs.Syntax as Syntax
 use Rattle.spec.specs.Show.{show-kind, show-bound, show-header, show-line, show-lines, header-lines, item-lines}
 use Rattle.spec.specs.Refusal.{lines, Before, in-place, line-in-range, tree-fault, decode-lines, gather, Gathered, decode}
@@ -253,9 +253,9 @@ module _ (t : Bytes) (at modules : ℕ) (items : Bool) (first : ℕ) (kinds₀ m
       (header-some modules (rest-of t at .header) kinds (b .0) ∙ ap (λ (x : List Header). put-header (modules - 1) x kinds) gh ∙ hk ∙ sym (header-some modules (rest′ .header) kinds′ (b .0)))
       gm (omega arith) (omega arith) hl items (λ e. refl)
 
-  pub filled-kind : (n : ℕ) (k : Kind) → Passed t at feed before (header-line (kind n k)) → Filled t (feed + 1) modules items (feed + 1) kinds₀ mods₀ (set kinds ((modules - 1) * 256 + n) (kind-number k)) (marked mods (modules - 1) (feed + 1) (feed + 1))
+  pub filled-kind : (n : ℕ) (k : Kind) → Passed t at feed before (header-line (kind n k)) → Filled t (feed + 1) modules items (feed + 1) kinds₀ mods₀ (set kinds ((modules - 1) * name-bound + n) (kind-number k)) (marked mods (modules - 1) (feed + 1) (feed + 1))
   unfolding put-header
-  filled-kind n k p = header-turn (kind n k) p (set kinds ((modules - 1) * 256 + n) (kind-number k)) refl (length-set kinds ((modules - 1) * 256 + n) (kind-number k))
+  filled-kind n k p = header-turn (kind n k) p (set kinds ((modules - 1) * name-bound + n) (kind-number k)) refl (length-set kinds ((modules - 1) * name-bound + n) (kind-number k))
 
   pub filled-val : (n : ℕ) (v : ℤ) → Passed t at feed before (header-line (val n v)) → Filled t (feed + 1) modules items (feed + 1) kinds₀ mods₀ kinds (marked mods (modules - 1) (feed + 1) (feed + 1))
   unfolding put-header

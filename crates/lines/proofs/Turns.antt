@@ -11,7 +11,7 @@ use lib.ListN.{length, getD, drop, set, replicate, length-append, length-drop, d
 use lib.Seq.{getD-set-same, getD-set-other}
 use borrow.Author.Tests.{eqb-true, eqb-false, lt-ltb, le-ltb}
 use Rattle.spec.specs.Bytes.{Bytes, onto}
-use Rattle.spec.specs.Syntax.{Line}
+use Rattle.spec.specs.Syntax.{name-bound, Line}
 use Rattle.spec.specs.Show.{show-line}
 use Rattle.spec.specs.Refusal.{Verdict, well-formed, refused, lines, ends-in-feed, Before, at-start, after-line, has-name, line-fault, lines-fault, decode-lines, gather, in-set, byte-fault, set-fault, refusal, decode}
 use Rattle.spec.proofs.Shown.{decode-show-line, show-line-set}
@@ -51,18 +51,18 @@ module _ (t : Bytes) (at feed : ℕ) (b : Before) (l : Line) (p : Passed t at fe
       ends-rest (c ∷ []) r e = behind-feed r (unfold ends-in-feed in e)
       ends-rest (c ∷ d ∷ x) r e = ends-rest (d ∷ x) r (unfold ends-in-feed in e)
 
-zeros-seen : Seen (replicate 256 0) []
+zeros-seen : Seen (replicate name-bound 0) []
 unfolding has-name
-zeros-seen n h = rw (getD-replicate {A = ℕ} 256 n 0 0 h)
+zeros-seen n h = rw (getD-replicate {A = ℕ} name-bound n 0 0 h)
 
-pub going-start : (t : Bytes) → Ended t → Going t 0 1 0 false (replicate 256 0)
+pub going-start : (t : Bytes) → Ended t → Going t 0 1 0 false (replicate name-bound 0)
 going-start t e = record { kinds = []; verdict = refl; count = omega arith; agree = zeros-seen; ends = e .ends; few = omega arith; within = omega arith; early = omega arith }
 
 module _ (t : Bytes) (at n modules : ℕ) (items : Bool) (seen : List ℕ) (g : Going t at n modules items seen) (h : at < length t) (feed : ℕ) where
   abbrev before : Before
   before = record { modules = modules; has-item = items; kinds = g .kinds }
 
-  pub going-module : Right t at before (Module feed) → Going t (feed + 1) (n + 1) (modules + 1) false (replicate 256 0)
+  pub going-module : Right t at before (Module feed) → Going t (feed + 1) (n + 1) (modules + 1) false (replicate name-bound 0)
   unfolding after-line modules-in gather
   going-module r =
       let p = r .1 in
@@ -79,7 +79,7 @@ module _ (t : Bytes) (at n modules : ℕ) (items : Bool) (seen : List ℕ) (g : 
       }
 
   -- one more name has a kind
-  kind-seen : (k : ℕ) → k < 256 → length seen ≡ 256 → Seen (set seen k 1) (k ∷ g .kinds)
+  kind-seen : (k : ℕ) → k < name-bound → length seen ≡ name-bound → Seen (set seen k 1) (k ∷ g .kinds)
   unfolding has-name
   kind-seen k s z n q = go (eqb n k) refl
     where
@@ -92,7 +92,7 @@ module _ (t : Bytes) (at n modules : ℕ) (items : Bool) (seen : List ℕ) (g : 
           let v : getD (set seen k 1) n 0 ≡ getD seen n 0 = getD-set-other seen k n 1 0 (eqb-false n k e) in
           rw (v, e) (g .agree n q)
 
-  pub going-kind : (k : ℕ) → Right t at before (Kind feed k) → length seen ≡ 256 → Going t (feed + 1) (n + 1) modules items (set seen k 1)
+  pub going-kind : (k : ℕ) → Right t at before (Kind feed k) → length seen ≡ name-bound → Going t (feed + 1) (n + 1) modules items (set seen k 1)
   unfolding after-line modules-in gather
   going-kind k r z =
       let p = r .1 in

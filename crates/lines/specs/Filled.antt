@@ -7,7 +7,7 @@ use Prim.Native.Nat.{ℕ, _+_, _-_}
 use lib.Dec.{eqb}
 use lib.ListN.{length, drop}
 use Rattle.spec.specs.Bytes.{Bytes}
-use Rattle.spec.specs.Syntax.{Header}
+use Rattle.spec.specs.Syntax.{name-bound, Header}
 use Rattle.spec.specs.Refusal.{lines, decode-lines, gather, Gathered, decode}
 use Rattle.lines.specs.Verdict.{Going}
 use Rattle.lines.specs.Tables.{put-header, put-kinds, marked, header-size, items-size, put-mods}
@@ -39,5 +39,5 @@ pub record Filled (t : Bytes) (at modules : ℕ) (items : Bool) (first : ℕ) (k
 pub record Filling (t : Bytes) (at modules : ℕ) (items : Bool) (first : ℕ) (seen kinds₀ mods₀ kinds mods : List ℕ) : Type 0 where
   pub row : ℕ
   pub going : Going t at row modules items seen
-  pub long : length seen ≡ 256
+  pub long : length seen ≡ name-bound
   pub filled : Filled t at modules items first kinds₀ mods₀ kinds mods

@@ -6,6 +6,7 @@ use Prim.Native.Nat.{ℕ, suc, _+_, _-_}
 use lib.Dec.{eqb, leb}
 use lib.ListN.{getD, drop}
 use Rattle.spec.specs.Bytes.{Bytes, bytes}
+use Rattle.spec.specs.Syntax.{name-bound}
 use Rattle.spec.specs.Decode.{depth-limit}
 use Rattle.spec.specs.Refusal.{Verdict, well-formed, refused, set-fault}
 use Rattle.lines.specs.Parse.{key, wordAt, numberAt, scan}
@@ -52,7 +53,7 @@ moduleStep (Is v j) modules feed = elim (eqb v modules) [ true ↦ elim (leb 32 
 
 abbrev pub kindStep : Number → List ℕ → ℕ → Step
 kindStep None seen feed = Fault 4
-kindStep (Is v j) seen feed = elim (leb 256 v) [ true ↦ Fault 5 | false ↦ elim (eqb (getD seen v 0) 0) [ true ↦ Kind feed v | false ↦ Fault 7 ] ]
+kindStep (Is v j) seen feed = elim (leb name-bound v) [ true ↦ Fault 5 | false ↦ elim (eqb (getD seen v 0) 0) [ true ↦ Kind feed v | false ↦ Fault 7 ] ]
 
 unfoldable pub headStep : Bytes → ℕ → ℕ → Bool → ℕ → Bool → List ℕ → Step
 headStep t at feed places modules items seen =

@@ -2,10 +2,11 @@
 -- Assumes nothing: these are definitions.
 use mathlib.Core.Bool.{true, false}
 use mathlib.Core.List.{List}
-use Prim.Native.Nat.{ℕ}
+use Prim.Native.Nat.{ℕ, _*_}
 use lib.Dec.{ltb}
 use lib.ListN.{length, replicate}
 use Rattle.spec.specs.Bytes.{Bytes}
+use Rattle.spec.specs.Syntax.{name-bound}
 use Rattle.spec.specs.Refusal.{Verdict, well-formed, refused, refusal, decode}
 use Rattle.lines.specs.Tables.{put-kinds, put-mods}
 use Rattle.lines.specs.declared.tables.Read.{Read}
@@ -28,7 +29,7 @@ by-verdict bad good well-formed = good
 by-verdict bad good (refused k n) = bad k n
 
 unfoldable pub by-room : {A : Type 0} → A → A → ℕ → ℕ → A
-by-room short fits kinds mods = elim (ltb kinds 8192) [ true ↦ short | false ↦ elim (ltb mods 128) [ true ↦ short | false ↦ fits ] ]
+by-room short fits kinds mods = elim (ltb kinds (32 * name-bound)) [ true ↦ short | false ↦ elim (ltb mods 128) [ true ↦ short | false ↦ fits ] ]
 
 unfoldable pub read-as : ℕ → ℕ → Bytes → Read
 read-as kinds mods t = by-room Short (by-verdict Refused (Accepted (length (decode t))) (refusal t)) kinds mods

@@ -6,7 +6,7 @@ use mathlib.Core.List.{List, [], _∷_}
 use Prim.Native.Nat.{ℕ, zero, suc, _+_, _*_, _-_, _≤_, _<_}
 use lib.ListN.{length, getD, take, drop, replicate}
 use Rattle.spec.specs.Bytes.{Bytes}
-use Rattle.spec.specs.Syntax.{Kind, Module, Design}
+use Rattle.spec.specs.Syntax.{name-bound, Kind, Module, Design}
 use Rattle.spec.specs.Show.{show-lines, header-lines, item-lines}
 use Rattle.spec.specs.Site.{kind-of}
 use Rattle.spec.specs.Refusal.{decode}
@@ -36,6 +36,6 @@ All-placed t table m (k ∷ ms) = Placed t table m k × All-placed t table (suc 
 -- of every accepted text, with tables that were zero and are long enough
 pub record Says (t : Bytes) (kinds mods : ℕ) : Type 0 where
   pub few : length (decode t) ≤ 32
-  pub kinds-say : (m n : ℕ) → n < 256 → getD (put-kinds 0 (decode t) (replicate kinds 0)) (m * 256 + n) 0 ≡ kind-at (decode t) m n
+  pub kinds-say : (m n : ℕ) → n < name-bound → getD (put-kinds 0 (decode t) (replicate kinds 0)) (m * name-bound + n) 0 ≡ kind-at (decode t) m n
   pub mods-say : All-placed t (put-mods 0 0 (decode t) (replicate mods 0)) 0 (decode t)
   pub mods-zero : (i : ℕ) → length (decode t) * 4 ≤ i → getD (put-mods 0 0 (decode t) (replicate mods 0)) i 0 ≡ 0

@@ -7,7 +7,7 @@ use Prim.Native.Nat.{ℕ, suc, _+_, _*_, _≤_}
 use lib.Dec.{eqb}
 use lib.ListN.{length, getD, set}
 use Rattle.spec.specs.Bytes.{Bytes, bytes}
-use Rattle.spec.specs.Syntax.{Kind, in-kind, out-kind, wire-kind, reg-kind, mem-kind, inst-kind, Header, kind, val, Items, Design, module-line}
+use Rattle.spec.specs.Syntax.{name-bound, Kind, in-kind, out-kind, wire-kind, reg-kind, mem-kind, inst-kind, Header, kind, val, Items, Design, module-line}
 use Rattle.spec.specs.Show.{show-line, show-lines, header-lines, item-lines}
 use Rattle.spec.specs.Refusal.{refusal, well-formed}
 use Rattle.lines.specs.Parse.{key, wordAt}
@@ -31,7 +31,7 @@ flag false = 0
 -- the kinds of module m: the kind of name n at m * 256 + n
 unfoldable pub put-header : ℕ → List Header → List ℕ → List ℕ
 put-header m [] table = table
-put-header m (kind n k ∷ hs) table = put-header m hs (set table (m * 256 + n) (kind-number k))
+put-header m (kind n k ∷ hs) table = put-header m hs (set table (m * name-bound + n) (kind-number k))
 put-header m (val n v ∷ hs) table = put-header m hs table
 
 unfoldable pub put-kinds : ℕ → Design → List ℕ → List ℕ
@@ -79,5 +79,5 @@ flagOf k = elim (eqb k (key (bytes "bound"))) [ true ↦ 1 | false ↦ 0 ]
 -- a well formed text, and tables for 32 modules
 pub record Fitting (t : Bytes) (kinds mods : List ℕ) : Type 0 where
   pub formed : refusal t ≡ well-formed
-  pub kinds-fit : 8192 ≤ length kinds
+  pub kinds-fit : 32 * name-bound ≤ length kinds
   pub mods-fit : 128 ≤ length mods

@@ -7,6 +7,7 @@ use Prim.Native.Nat.{ℕ, _+_, _≤_, _<_}
 use lib.Dec.{eqb}
 use lib.ListN.{length, getD, drop}
 use Rattle.spec.specs.Bytes.{Bytes}
+use Rattle.spec.specs.Syntax.{name-bound}
 use Rattle.spec.specs.Refusal.{Verdict, well-formed, refused, lines, ends-in-feed, at-start, has-name, lines-fault, decode-lines, gather}
 use Rattle.lines.specs.declared.read.Verdict.{Verdict as Answer}
 use Rattle.lines.specs.declared.read.Verdict.the-variants.{Refused, Formed}
@@ -39,7 +40,7 @@ pub record Going (t : Bytes) (at n modules : ℕ) (items : Bool) (seen : List �
   pub kinds : List ℕ
   pub verdict : lines-fault at-start 1 (lines t) ≡ lines-fault (record { modules = modules; has-item = items; kinds = kinds }) n (lines (drop at t))
   pub count : modules-in (lines t) ≡ modules + modules-in (lines (drop at t))
-  pub agree : (k : ℕ) → k < 256 → eqb (getD seen k 0) 0 ≡ not (has-name k kinds)
+  pub agree : (k : ℕ) → k < name-bound → eqb (getD seen k 0) 0 ≡ not (has-name k kinds)
   pub ends : ends-in-feed (drop at t) ≡ true
   pub few : modules ≤ 32
   pub within : at ≤ length t

@@ -1,6 +1,7 @@
 -- `lines::parse::atom` meets its contract: each category's case. Assumes nothing.
 use Rattle.lines.proofs.Laws.{inside, place-single, place-at}
 use Rattle.spec.specs.Bytes.{bytes}
+use Rattle.spec.specs.Syntax.{name-bound}
 use Rattle.lines.specs.Parse.{key, code-after, numbered, counted, kindOf, either, worded}
 use Rattle.lines.specs.declared.parse.Number.{Number}
 use Rattle.lines.specs.declared.parse.Word.{Word}
@@ -155,13 +156,13 @@ enum-told-21 : tie.Need-enum-told-21
 enum-told-21 c = search needs
 
 returns : tie.Need-returns
-returns c = rw (c .before .before .enum-told .given .1) (c .numbered .ensures ∙ ap (λ (n : Number). numbered n 256) (c .before .number-at .ensures))
+returns c = rw (c .before .before .enum-told .given .1) (c .numbered .ensures ∙ ap (λ (n : Number). numbered n name-bound) (c .before .number-at .ensures))
 
 returns-2 : tie.Need-returns-2
 returns-2 c = rw (c .before .before .enum-told2 .given .1) (c .numbered2 .ensures ∙ ap (λ (n : Number). numbered n 2147483648) (c .before .number-at2 .ensures))
 
 returns-3 : tie.Need-returns-3
-returns-3 c = rw (c .before .before .enum-told3 .given .1) (c .numbered3 .ensures ∙ ap (λ (n : Number). numbered n 256) (c .before .number-at3 .ensures))
+returns-3 c = rw (c .before .before .enum-told3 .given .1) (c .numbered3 .ensures ∙ ap (λ (n : Number). numbered n name-bound) (c .before .number-at3 .ensures))
 
 returns-4 : tie.Need-returns-4
 returns-4 c = rw (c .before .before .enum-told4 .given .1) (c .counted .ensures ∙ ap counted (c .before .number-at4 .ensures))

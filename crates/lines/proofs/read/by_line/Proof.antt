@@ -1,5 +1,6 @@
 -- `lines::read::by_line` meets its contract. The invariant: the lines from here on, with what was read before them, give what all lines give. Assumes nothing.
 use borrow.Author.Needs.{needs}
+use Rattle.spec.specs.Syntax.{name-bound}
 use Rattle.lines.proofs.Turns.{pass-room, going-start, going-right, going-module, going-kind, going-val, going-item, going-fault, going-end}
 use Rattle.lines.specs.Verdict.{Going}
 use Rattle.lines.specs.declared.read.Step.the-variants.{Fault, Module, Kind, Val, Item}
@@ -11,13 +12,13 @@ use Rattle.lines.proofs.read.by_line.Statement.{statement}
 use Rattle.lines.proofs.read.by_line.Tie as tie
 
 abbrev Inv-loop : tie.InvT-loop
-Inv-loop s at₀ row₀ modules₀ items₀ seen₀ at row modules items seen = Going s at row modules items seen × (length seen ≡ 256)
+Inv-loop s at₀ row₀ modules₀ items₀ seen₀ at row modules items seen = Going s at row modules items seen × (length seen ≡ name-bound)
 
 abbrev μ-loop : tie.MeasureT-loop
 μ-loop s at₀ row₀ modules₀ items₀ seen₀ at row modules items seen = length s - at
 
 loop-holds : tie.Need-loop-holds Inv-loop μ-loop
-loop-holds c = (going-start (c .before .args .s .now) (c .before .pre), length-replicate {A = ℕ} 256 0)
+loop-holds c = (going-start (c .before .args .s .now) (c .before .pre), length-replicate {A = ℕ} name-bound 0)
 
 line-step-requires : tie.Need-line-step-requires Inv-loop μ-loop
 line-step-requires c κs = search needs
@@ -44,7 +45,7 @@ loop-less : tie.Need-loop-less Inv-loop μ-loop
 loop-less c = let r = going-right (c .before .before .before .before .before .before .before .before .args .s .now) (c .before .before .before .before .before .before .loop .at) (c .before .before .before .before .before .before .loop .row) (c .before .before .before .before .before .before .loop .modules) (c .before .before .before .before .before .before .loop .items) (c .before .before .before .before .before .before .loop .seen) (c .before .before .before .before .before .before .loop .inv .0) (c .before .before .before .before .before .loop-test .taken) (Module (c .before .feed .given .0 .0)) (sym (c .before .feed .given .1) ∙ c .before .before .before .line-step .ensures) in let m = pass-room (c .before .before .before .before .before .before .before .before .args .s .now) (c .before .before .before .before .before .before .loop .at) (c .before .feed .given .0 .0) (record { modules = c .before .before .before .before .before .before .loop .modules; has-item = c .before .before .before .before .before .before .loop .items; kinds = c .before .before .before .before .before .before .loop .inv .0 .kinds }) _ (r .1) (c .before .before .before .before .before .loop-test .taken) in omega (arith, m .0, m .1)
 
 loop-again : tie.Need-loop-again Inv-loop μ-loop
-loop-again c = let r = going-right (c .before .before .before .before .before .before .before .before .args .s .now) (c .before .before .before .before .before .before .loop .at) (c .before .before .before .before .before .before .loop .row) (c .before .before .before .before .before .before .loop .modules) (c .before .before .before .before .before .before .loop .items) (c .before .before .before .before .before .before .loop .seen) (c .before .before .before .before .before .before .loop .inv .0) (c .before .before .before .before .before .loop-test .taken) (Module (c .before .feed .given .0 .0)) (sym (c .before .feed .given .1) ∙ c .before .before .before .line-step .ensures) in (going-module (c .before .before .before .before .before .before .before .before .args .s .now) (c .before .before .before .before .before .before .loop .at) (c .before .before .before .before .before .before .loop .row) (c .before .before .before .before .before .before .loop .modules) (c .before .before .before .before .before .before .loop .items) (c .before .before .before .before .before .before .loop .seen) (c .before .before .before .before .before .before .loop .inv .0) (c .before .before .before .before .before .loop-test .taken) (c .before .feed .given .0 .0) r, length-replicate {A = ℕ} 256 0)
+loop-again c = let r = going-right (c .before .before .before .before .before .before .before .before .args .s .now) (c .before .before .before .before .before .before .loop .at) (c .before .before .before .before .before .before .loop .row) (c .before .before .before .before .before .before .loop .modules) (c .before .before .before .before .before .before .loop .items) (c .before .before .before .before .before .before .loop .seen) (c .before .before .before .before .before .before .loop .inv .0) (c .before .before .before .before .before .loop-test .taken) (Module (c .before .feed .given .0 .0)) (sym (c .before .feed .given .1) ∙ c .before .before .before .line-step .ensures) in (going-module (c .before .before .before .before .before .before .before .before .args .s .now) (c .before .before .before .before .before .before .loop .at) (c .before .before .before .before .before .before .loop .row) (c .before .before .before .before .before .before .loop .modules) (c .before .before .before .before .before .before .loop .items) (c .before .before .before .before .before .before .loop .seen) (c .before .before .before .before .before .before .loop .inv .0) (c .before .before .before .before .before .loop-test .taken) (c .before .feed .given .0 .0) r, length-replicate {A = ℕ} name-bound 0)
 
 enum-known-feed-2 : tie.Need-enum-known-feed-2 Inv-loop μ-loop
 enum-known-feed-2 c = search needs
