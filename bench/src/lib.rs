@@ -2,4 +2,5 @@
 //!
 //! A module for each archive, and `timing`, which they share.
 pub mod consteval;
+pub mod graph;
 pub mod timing;

@@ -69,10 +69,10 @@ front-then p q = record { size = q .size ∙ p .size; at = λ j h d. q .at j h d
 pub front-count : (own : List ℕ) (v : ℕ) → Front own (set own 6 v)
 front-count own v = record { size = length-set own 6 v; at = λ j h d. getD-set-other own 6 j v 0 d }
 
-pub front-sets : (own : List ℕ) (i : ℕ) (vs : List ℕ) → 8968 ≤ i → Front own (sets own i vs)
+pub front-sets : (own : List ℕ) (i : ℕ) (vs : List ℕ) → conflict-table .base ≤ i → Front own (sets own i vs)
 front-sets own i vs p = record { size = length-sets own i vs; at = λ j h d. getD-sets-below own j i vs (omega arith) }
 
-row-front : (t : Table) (a b : List ℕ) → Front a b → (j : ℕ) → 8 ≤ t .base → t .base + t .width * j + t .width ≤ 8968 → row t b j ≡ row t a j
+row-front : (t : Table) (a b : List ℕ) → Front a b → (j : ℕ) → 8 ≤ t .base → t .base + t .width * j + t .width ≤ conflict-table .base → row t b j ≡ row t a j
 row-front t a b p j g h =
     ext-getD 0 (row t b j) (row t a j) (same-length a b p) (λ i q.
     let w = short i q in
@@ -84,12 +84,12 @@ row-front t a b p j g h =
     short : (i : ℕ) → i < length (row t b j) → i < t .width
     short i q = omega (arith, row-length t b j)
 
-pub front-items : {A : Type 0} (f : List ℕ → A) (t : Table) (a b : List ℕ) → Front a b → T (leb 8 (t .base)) → T (ltb (t .count) 6) → T (leb (t .base + t .width * t .limit) 8968) → items f t b ≡ items f t a
+pub front-items : {A : Type 0} (f : List ℕ → A) (t : Table) (a b : List ℕ) → Front a b → T (leb 8 (t .base)) → T (ltb (t .count) 6) → T (leb (t .base + t .width * t .limit) (conflict-table .base)) → items f t b ≡ items f t a
 unfolding rows-in
 front-items f t a b p x y z =
     let x′ = leb→le 8 (t .base) x in
     let y′ = ltb→lt (t .count) 6 y in
-    let z′ = leb→le (t .base + t .width * t .limit) 8968 z in
+    let z′ = leb→le (t .base + t .width * t .limit) (conflict-table .base) z in
     let e : rows-in t b ≡ rows-in t a = ap (λ (k : ℕ). min k (t .limit)) (p .at (t .count) (omega arith) (λ e. omega arith)) in
     ap (λ (k : ℕ). run (λ i. f (row t b i)) 0 k) e
     ∙ run-ext (λ i. f (row t b i)) (λ i. f (row t a i)) 0 (rows-in t a)
@@ -102,27 +102,27 @@ front-own a b p =
     (front-items storage-from reg-table a b p tt tt tt) (front-items storage-from mem-table a b p tt tt tt) (front-items misused-from misuse-table a b p tt tt tt) refl
 
 -- a conflict as it stands in its row
-pub conflict-read : (own : List ℕ) (i : ℕ) → conflict-of (getD own (8968 + 2 * i + 1) 0) (getD own (8968 + 2 * i) 0) ≡ conflict-row own i
+pub conflict-read : (own : List ℕ) (i : ℕ) → conflict-of (getD own (conflict-table .base + 2 * i + 1) 0) (getD own (conflict-table .base + 2 * i) 0) ≡ conflict-row own i
 conflict-read own i =
-    let z : 8968 + 2 * i + 0 ≡ 8968 + 2 * i = omega arith in
+    let z : conflict-table .base + 2 * i + 0 ≡ conflict-table .base + 2 * i = omega arith in
     λ k. record { start = sym (row-at conflict-table own i 1 (omega arith)) k; name = sym (row-at conflict-table own i 0 (omega arith) ∙ ap (λ (x : ℕ). getD own x 0) z) k }
 
 -- a row takes the place of another, which is carried on
 module _ (own : List ℕ) (n i a s : ℕ) (h : i < n) (m : n ≤ 1024) (len : length own ≡ places) where
   abbrev own′ : List ℕ
-  own′ = sets own (8968 + 2 * i) (a ∷ s ∷ [])
+  own′ = sets own (conflict-table .base + 2 * i) (a ∷ s ∷ [])
 
-  pub shift-more : run (conflict-row own′) 0 (i + 1) ++ (record { start = getD own (8968 + 2 * i + 1) 0; name = getD own (8968 + 2 * i) 0 } ∷ run (conflict-row own′) (i + 1) (n - (i + 1)))
+  pub shift-more : run (conflict-row own′) 0 (i + 1) ++ (record { start = getD own (conflict-table .base + 2 * i + 1) 0; name = getD own (conflict-table .base + 2 * i) 0 } ∷ run (conflict-row own′) (i + 1) (n - (i + 1)))
       ≡ run (conflict-row own) 0 i ++ (record { start = s; name = a } ∷ run (conflict-row own) i (n - i))
   shift-more =
       let c : Conflict = record { start = s; name = a } in
-      let d : Conflict = record { start = getD own (8968 + 2 * i + 1) 0; name = getD own (8968 + 2 * i) 0 } in
+      let d : Conflict = record { start = getD own (conflict-table .base + 2 * i + 1) 0; name = getD own (conflict-table .base + 2 * i) 0 } in
       let e : d ≡ conflict-row own i = conflict-read own i in
       let here : conflict-row own′ i ≡ c = ap conflict-from (row-sets-same conflict-table own i (a ∷ s ∷ []) refl (omega arith)) in
       let front : run (conflict-row own′) 0 i ≡ run (conflict-row own) 0 i =
-      run-ext (conflict-row own′) (conflict-row own) 0 i (λ j p q. ap conflict-from (row-sets-above conflict-table own j (8968 + 2 * i) (a ∷ s ∷ []) (omega arith))) in
+      run-ext (conflict-row own′) (conflict-row own) 0 i (λ j p q. ap conflict-from (row-sets-above conflict-table own j (conflict-table .base + 2 * i) (a ∷ s ∷ []) (omega arith))) in
       let back : run (conflict-row own′) (i + 1) (n - (i + 1)) ≡ run (conflict-row own) (i + 1) (n - (i + 1)) =
-      run-ext (conflict-row own′) (conflict-row own) (i + 1) (n - (i + 1)) (λ j p q. ap conflict-from (row-sets-before conflict-table own j (8968 + 2 * i) (a ∷ s ∷ []) (omega arith))) in
+      run-ext (conflict-row own′) (conflict-row own) (i + 1) (n - (i + 1)) (λ j p q. ap conflict-from (row-sets-before conflict-table own j (conflict-table .base + 2 * i) (a ∷ s ∷ []) (omega arith))) in
       sym (run-next c (conflict-row own′) n i (d ∷ run (conflict-row own′) (i + 1) (n - (i + 1))))
       ∙ (λ k. front k ++ (here k ∷ (e k ∷ back k)))
       ∙ ap (λ (l : List Conflict). run (conflict-row own) 0 i ++ (c ∷ l)) (sym (run-step (conflict-row own) i n h))
@@ -134,8 +134,8 @@ shift-end g c n i e = ap (λ (l : List Conflict). run g 0 i ++ (c ∷ l)) (run-e
 module _ (own vs : List ℕ) (len : length own ≡ places) (w : length vs ≡ 2) (r : rows-in conflict-table own < 1024) where
   pub pushed-front : Front own (pushed conflict-table own vs)
   pushed-front =
-      let p = front-sets own (8968 + 2 * rows-in conflict-table own) vs (omega arith) in
-      let q = front-count (sets own (8968 + 2 * rows-in conflict-table own) vs) (rows-in conflict-table own + 1) in
+      let p = front-sets own (conflict-table .base + 2 * rows-in conflict-table own) vs (omega arith) in
+      let q = front-count (sets own (conflict-table .base + 2 * rows-in conflict-table own) vs) (rows-in conflict-table own + 1) in
       rw (push-room conflict-table own vs r) (front-then p q)
 
   pub pushed-rows : conflict-rows (pushed conflict-table own vs) ≡ conflict-rows own ++ (conflict-from vs ∷ [])

@@ -69,11 +69,11 @@ module _ (own : List ℕ) (name : ℕ) where
   abbrev pub pair-at : ℕ → Pair
   pair-at i = pair-from (row pair-table own i)
 
-  pub count-own : (i n : ℕ) → i < n → getD own (5128 + 2 * i) 0 ≡ name → block-count name (run pair-at i (n - i)) ≡ suc (block-count name (run pair-at (i + 1) (n - (i + 1))))
+  pub count-own : (i n : ℕ) → i < n → getD own (pair-table .base + 2 * i) 0 ≡ name → block-count name (run pair-at i (n - i)) ≡ suc (block-count name (run pair-at (i + 1) (n - (i + 1))))
   unfolding block-count
   count-own i n h e = ap (block-count name) (run-step pair-at i n h) ∙ rw (eq-eqb name (getD (row pair-table own i) 0 0) (sym (row-name pair-table own i (omega arith) ∙ e)), block-count)
 
-  pub count-other : (i n : ℕ) → i < n → ¬ (getD own (5128 + 2 * i) 0 ≡ name) → block-count name (run pair-at i (n - i)) ≡ block-count name (run pair-at (i + 1) (n - (i + 1)))
+  pub count-other : (i n : ℕ) → i < n → ¬ (getD own (pair-table .base + 2 * i) 0 ≡ name) → block-count name (run pair-at i (n - i)) ≡ block-count name (run pair-at (i + 1) (n - (i + 1)))
   unfolding block-count
   count-other i n h d = ap (block-count name) (run-step pair-at i n h) ∙ rw (ne-eqb name (getD (row pair-table own i) 0 0) (λ x. d (sym (x ∙ row-name pair-table own i (omega arith)))), block-count)
 

@@ -1,4 +1,5 @@
 pub mod Rows
+pub mod Cleared
 pub mod Added
 pub mod Pairs
 pub mod Sites
@@ -7,3 +8,5 @@ pub mod Marks
 pub mod Conflicts
 pub mod Lines
 pub mod Kept
+pub mod Reports
+pub mod Room

@@ -1,6 +1,6 @@
 -- Lines as they stand in their rows. Assumes nothing.
-use mathlib.Core.Path.{_≡_, sym, ap, _∙_}
-use mathlib.Core.List.{List}
+use mathlib.Core.Path.{_≡_, refl, sym, ap, _∙_}
+use mathlib.Core.List.{List, []}
 use Prim.Native.Nat.{ℕ, _+_, _*_, _<_}
 use native.Mathlib.Omega.{arith}
 use lib.ListN.{getD}
@@ -18,7 +18,7 @@ pub storage-read : (t : Table) (own : List ℕ) (i : ℕ) → 1 < t .width
 storage-read t own i h = λ k. record { name = sym (row-name t own i (omega arith)) k; start = sym (row-at t own i 1 h) k }
 
 pub port-read : (own : List ℕ) (i : ℕ)
-    → _≡_ {A = Port} (record { name = getD own (6152 + 4 * i) 0; start = getD own (6152 + 4 * i + 1) 0; from = getD own (6152 + 4 * i + 2) 0; to = getD own (6152 + 4 * i + 3) 0 }) (port-from (row port-table own i))
+    → _≡_ {A = Port} (record { name = getD own (port-table .base + 4 * i) 0; start = getD own (port-table .base + 4 * i + 1) 0; from = getD own (port-table .base + 4 * i + 2) 0; to = getD own (port-table .base + 4 * i + 3) 0 }) (port-from (row port-table own i))
 port-read own i =
     let a = row-name port-table own i (omega arith) in
     let b = row-at port-table own i 1 (omega arith) in
@@ -26,8 +26,8 @@ port-read own i =
     let d = row-at port-table own i 3 (omega arith) in
     λ k. record { name = sym a k; start = sym b k; from = sym c k; to = sym d k }
 
-pub misused-read : (own : List ℕ) (i : ℕ) (m : Misuse) → misuse-of m ≡ misuse-from (getD own (8200 + 3 * i + 2) 0)
-    → _≡_ {A = Misused} (record { name = getD own (8200 + 3 * i) 0; start = getD own (8200 + 3 * i + 1) 0; misuse = misuse-of m }) (misused-from (row misuse-table own i))
+pub misused-read : (own : List ℕ) (i : ℕ) (m : Misuse) → misuse-of m ≡ misuse-from (getD own (misuse-table .base + 3 * i + 2) 0)
+    → _≡_ {A = Misused} (record { name = getD own (misuse-table .base + 3 * i) 0; start = getD own (misuse-table .base + 3 * i + 1) 0; misuse = misuse-of m }) (misused-from (row misuse-table own i))
 misused-read own i m e =
     let a = row-name misuse-table own i (omega arith) in
     let b = row-at misuse-table own i 1 (omega arith) in
@@ -49,3 +49,8 @@ misuse-mem z y e = sym (rw (ne-eqb _ _ z, ne-eqb _ _ y, eq-eqb _ _ e, misuse-fro
 pub misuse-arrow : {c : ℕ} → ¬ (c ≡ 0) → ¬ (c ≡ 1) → ¬ (c ≡ 2) → misuse-of misuse.Arrow ≡ misuse-from c
 unfolding misuse-from
 misuse-arrow z y x = sym (rw (ne-eqb _ _ z, ne-eqb _ _ y, ne-eqb _ _ x, misuse-from))
+
+-- the row that is not there
+pub zero-row : _≡_ {A = Misused} (record { name = 0; start = 0; misuse = misuse-of misuse.Wire }) (misused-from [])
+unfolding misuse-from
+zero-row = refl

@@ -15,7 +15,7 @@ pub row-name : (t : Table) (own : List ℕ) (i : ℕ) → 0 < t .width → getD 
 row-name t own i h = let z : t .base + t .width * i + 0 ≡ t .base + t .width * i = omega arith in row-at t own i 0 h ∙ ap (λ (k : ℕ). getD own k 0) z
 
 module _ (own : List ℕ) (i : ℕ) (p : Pair) (qs : List Pair) where
-  pub pair-here : getD own (5128 + 2 * i) 0 ≡ p .name → getD own (5128 + 2 * i + 1) 0 ≡ p .block → has-pair p (pair-from (row pair-table own i) ∷ qs) ≡ true
+  pub pair-here : getD own (pair-table .base + 2 * i) 0 ≡ p .name → getD own (pair-table .base + 2 * i + 1) 0 ≡ p .block → has-pair p (pair-from (row pair-table own i) ∷ qs) ≡ true
   unfolding has-pair
   pair-here e d =
       rw (
@@ -23,7 +23,7 @@ module _ (own : List ℕ) (i : ℕ) (p : Pair) (qs : List Pair) where
         eq-eqb (p .block) (getD (row pair-table own i) 1 0) (sym (row-at pair-table own i 1 (omega arith) ∙ d)),
       )
 
-  pub pair-other-block : getD own (5128 + 2 * i) 0 ≡ p .name → ¬ (getD own (5128 + 2 * i + 1) 0 ≡ p .block) → has-pair p (pair-from (row pair-table own i) ∷ qs) ≡ has-pair p qs
+  pub pair-other-block : getD own (pair-table .base + 2 * i) 0 ≡ p .name → ¬ (getD own (pair-table .base + 2 * i + 1) 0 ≡ p .block) → has-pair p (pair-from (row pair-table own i) ∷ qs) ≡ has-pair p qs
   unfolding has-pair
   pair-other-block e d =
       rw (
@@ -31,7 +31,7 @@ module _ (own : List ℕ) (i : ℕ) (p : Pair) (qs : List Pair) where
         ne-eqb (p .block) (getD (row pair-table own i) 1 0) (λ x. d (sym (x ∙ row-at pair-table own i 1 (omega arith)))),
       )
 
-  pub pair-other-name : ¬ (getD own (5128 + 2 * i) 0 ≡ p .name) → has-pair p (pair-from (row pair-table own i) ∷ qs) ≡ has-pair p qs
+  pub pair-other-name : ¬ (getD own (pair-table .base + 2 * i) 0 ≡ p .name) → has-pair p (pair-from (row pair-table own i) ∷ qs) ≡ has-pair p qs
   unfolding has-pair
   pair-other-name d = rw (ne-eqb (p .name) (getD (row pair-table own i) 0 0) (λ x. d (sym (x ∙ row-name pair-table own i (omega arith)))))
 

@@ -6,7 +6,7 @@ use mathlib.Core.Option.{Option, some, none}
 use Prim.Native.Nat.{ℕ, suc, _+_, _*_, _-_, _<_, _≤_}
 use native.Mathlib.Omega.{arith}
 use native.Mathlib.Numerals.{add-one}
-use lib.Dec.{eqb, leb}
+use lib.Dec.{eqb, leb, ltb, leb·suc-suc}
 use lib.ListN.{getD}
 use borrow.Author.Tests.{eq-eqb, ne-eqb, lt-leb, le-leb}
 use Rattle.spec.specs.Site.{Extent, Whole, Range, Dynamic, Unknown, Site, meets, sites-of, meets-any, first-conflict}
@@ -45,8 +45,8 @@ hits-own n x s e = rw (eq-eqb n (s .name) (sym e), hits)
 pub ranges-apart : (l h l′ h′ : ℕ) → h′ < l → (leb l h′ && leb l′ h) ≡ false
 ranges-apart l h l′ h′ e = rw (lt-leb l h′ e)
 
-pub ranges-from : (l h l′ h′ : ℕ) → l ≤ h′ → (leb l h′ && leb l′ h) ≡ leb l′ h
-ranges-from l h l′ h′ e = rw (le-leb l h′ e)
+pub ranges-from : (l h l′ h′ : ℕ) → l ≤ h′ → (leb l h′ && leb l′ h) ≡ ltb l′ (h + 1)
+ranges-from l h l′ h′ e = rw (le-leb l h′ e) (sym (leb·suc-suc l′ h) ∙ ap (ltb l′) (sym (add-one h)))
 
 -- earlier sites, the newest first
 module _ (n : ℕ) (f : ℕ → Site) where

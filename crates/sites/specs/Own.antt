@@ -196,6 +196,10 @@ own-of own =
       conflicts = items conflict-from conflict-table own;
     }
 
+-- tables with no row
+abbrev pub no-rows : Own
+no-rows = record { sites = []; pairs = []; outputs = []; regs = []; mems = []; misuses = []; conflicts = [] }
+
 -- what an addition answers, and the tables that it leaves
 pub record Added : Type 0 where
   pub answer : Stored

@@ -3,11 +3,15 @@
 ghost use mathlib.Core.Path.{_≡_};
 ghost use Prim.Native.Nat.{_+_, _-_, _*_, _≤_, _<_, min};
 ghost use mathlib.Core.List.{[], _∷_, _++_};
-ghost use lib.ListN.{length, getD, take};
+ghost use lib.ListN.{length, getD, take, replicate};
 ghost use lib.Seq.{sets};
 ghost use lib.Dec.{leb};
-ghost use mathlib.Core.Bool.{_&&_};
+ghost use mathlib.Core.Bool.{false, _&&_};
 ghost use Rattle.spec.specs.Site as site;
+ghost use Rattle.sites.specs.declared.Stored.the-variants as stored;
+ghost use Rattle.sites.specs.declared.Found.the-variants as found;
+ghost use Rattle.sites.specs.declared.Blocks.the-variants as blocks;
+ghost use Rattle.sites.specs.declared.Cover.the-variants as cover;
 ghost use Rattle.spec.specs.Refusal.{has-name};
 ghost use Rattle.spec.specs.Block.{has-pair, block-count};
 ghost use Rattle.sites.specs.Own.{extent-of, site-of, misuse-of, extent-from, misuse-from, pair-from, row, rows-in, pair-table, site-table, site-from, found-of, hits, value-of, blocks-by, cover-by, range-test, unmarked-from, within, Marked, conflict-of, conflict-row, conflict-rows, conflict-table, conflict-step, with-conflicts, poisoned-names, misuse-poison, row-names, skip-at, site-row, Front, table, Shape, pushed, push-answer, first-row, places, run, own-of, added, add-site, add-pair, add-output, add-reg, add-mem, add-misuse, names, reg-table, mem-table, port-table, misuse-table, storage-of, storage-from, port-of, port-from, misused-of, misused-from};
@@ -100,6 +104,17 @@ fn has_row(own: &[u32], at: usize, width: usize, n: usize, name: u32) -> bool
     false
 }
 
+// Makes all words 0: tables that are empty.
+pub fn clear(own: &mut [u32])
+    ensures { λ _. ⌜ now (own .exit) ≡ replicate (length (now (own .entry))) 0 ⌝ }
+{
+    let mut i: usize = 0;
+    while i < own.len() {
+        own[i] = 0;
+        i += 1;
+    }
+}
+
 // One row more at the end of a table, where there is room.
 fn push(
     own: &mut [u32],
@@ -178,9 +193,13 @@ fn misuse_code(m: Misuse) -> u32
 
 // A drive site of an output; one past 1,024 gives Full.
 pub fn add_site(own: &mut [u32], s: Site) -> Stored
-    requires { ⌜ length (now own) ≡ places ⌝ }
-    ensures { λ r. ⌜ added r (own-of (now (own .exit))) ≡ add-site (site-of s) (own-of (now (own .entry))) ⌝ }
+    ensures { λ r. ⌜ (length (now (own .entry)) ≡ places → added r (own-of (now (own .exit))) ≡ add-site (site-of s) (own-of (now (own .entry)))) ⌝ }
+    ensures { λ r. ⌜ (¬ (length (now (own .entry)) ≡ places) → (now (own .exit) ≡ now (own .entry)) × (r ≡ stored.Full)) ⌝ }
+    ensures { λ _. ⌜ length (now (own .exit)) ≡ length (now (own .entry)) ⌝ }
 {
+    if own.len() != OWN {
+        return Stored::Full;
+    }
     let e = s.extent;
     let x = extent_code(e);
     push(
@@ -195,35 +214,51 @@ pub fn add_site(own: &mut [u32], s: Site) -> Stored
 
 // An output's first collected line; its width stands at from..to of the text.
 pub fn add_output(own: &mut [u32], name: u32, start: u32, from: u32, to: u32)
-    requires { ⌜ length (now own) ≡ places ⌝ }
-    ensures { λ _. ⌜ own-of (now (own .exit))
-        ≡ add-output (record { name = name; start = start; from = from; to = to }) (own-of (now (own .entry))) ⌝ }
+    ensures { λ _. ⌜ (length (now (own .entry)) ≡ places → own-of (now (own .exit))
+        ≡ add-output (record { name = name; start = start; from = from; to = to }) (own-of (now (own .entry)))) ⌝ }
+    ensures { λ _. ⌜ (¬ (length (now (own .entry)) ≡ places) → now (own .exit) ≡ now (own .entry)) ⌝ }
+    ensures { λ _. ⌜ length (now (own .exit)) ≡ length (now (own .entry)) ⌝ }
 {
+    if own.len() != OWN {
+        return;
+    }
     push_first(own, 2, OUTPUTS, 4, NAMES, [name, start, from, to, 0]);
 }
 
 // A register's first collected line.
 pub fn add_reg(own: &mut [u32], name: u32, start: u32)
-    requires { ⌜ length (now own) ≡ places ⌝ }
-    ensures { λ _. ⌜ own-of (now (own .exit)) ≡ add-reg (record { name = name; start = start }) (own-of (now (own .entry))) ⌝ }
+    ensures { λ _. ⌜ (length (now (own .entry)) ≡ places → own-of (now (own .exit)) ≡ add-reg (record { name = name; start = start }) (own-of (now (own .entry)))) ⌝ }
+    ensures { λ _. ⌜ (¬ (length (now (own .entry)) ≡ places) → now (own .exit) ≡ now (own .entry)) ⌝ }
+    ensures { λ _. ⌜ length (now (own .exit)) ≡ length (now (own .entry)) ⌝ }
 {
+    if own.len() != OWN {
+        return;
+    }
     push_first(own, 3, REGS, 2, NAMES, [name, start, 0, 0, 0]);
 }
 
 // A memory's first collected line.
 pub fn add_mem(own: &mut [u32], name: u32, start: u32)
-    requires { ⌜ length (now own) ≡ places ⌝ }
-    ensures { λ _. ⌜ own-of (now (own .exit)) ≡ add-mem (record { name = name; start = start }) (own-of (now (own .entry))) ⌝ }
+    ensures { λ _. ⌜ (length (now (own .entry)) ≡ places → own-of (now (own .exit)) ≡ add-mem (record { name = name; start = start }) (own-of (now (own .entry)))) ⌝ }
+    ensures { λ _. ⌜ (¬ (length (now (own .entry)) ≡ places) → now (own .exit) ≡ now (own .entry)) ⌝ }
+    ensures { λ _. ⌜ length (now (own .exit)) ≡ length (now (own .entry)) ⌝ }
 {
+    if own.len() != OWN {
+        return;
+    }
     push_first(own, 4, MEMS, 2, NAMES, [name, start, 0, 0, 0]);
 }
 
 // The first misuse of a name, which poisons it.
 pub fn add_misuse(own: &mut [u32], name: u32, start: u32, kind: Misuse)
-    requires { ⌜ length (now own) ≡ places ⌝ }
-    ensures { λ _. ⌜ own-of (now (own .exit))
-        ≡ add-misuse (record { name = name; start = start; misuse = misuse-of kind }) (own-of (now (own .entry))) ⌝ }
+    ensures { λ _. ⌜ (length (now (own .entry)) ≡ places → own-of (now (own .exit))
+        ≡ add-misuse (record { name = name; start = start; misuse = misuse-of kind }) (own-of (now (own .entry)))) ⌝ }
+    ensures { λ _. ⌜ (¬ (length (now (own .entry)) ≡ places) → now (own .exit) ≡ now (own .entry)) ⌝ }
+    ensures { λ _. ⌜ length (now (own .exit)) ≡ length (now (own .entry)) ⌝ }
 {
+    if own.len() != OWN {
+        return;
+    }
     let code = misuse_code(kind);
     push_first(own, 5, MISUSES, 3, NAMES, [name, start, code, 0, 0]);
 }
@@ -249,9 +284,13 @@ fn has_pair(own: &[u32], n: usize, name: u32, block: u32) -> bool
 
 // A pair of name and block, where it is a new one; one past 512 gives Full.
 pub fn add_pair(own: &mut [u32], name: u32, block: u32) -> Stored
-    requires { ⌜ length (now own) ≡ places ⌝ }
-    ensures { λ r. ⌜ added r (own-of (now (own .exit))) ≡ add-pair (record { name = name; block = block }) (own-of (now (own .entry))) ⌝ }
+    ensures { λ r. ⌜ (length (now (own .entry)) ≡ places → added r (own-of (now (own .exit))) ≡ add-pair (record { name = name; block = block }) (own-of (now (own .entry)))) ⌝ }
+    ensures { λ r. ⌜ (¬ (length (now (own .entry)) ≡ places) → (now (own .exit) ≡ now (own .entry)) × (r ≡ stored.Full)) ⌝ }
+    ensures { λ _. ⌜ length (now (own .exit)) ≡ length (now (own .entry)) ⌝ }
 {
+    if own.len() != OWN {
+        return Stored::Full;
+    }
     let n = count_at(own, 1, PAIR_LIMIT);
     if has_pair(own, n, name, block) {
         return Stored::Done;
@@ -281,7 +320,7 @@ fn extent_from(code: u32, low: u32, high: u32) -> Extent
 }
 
 // How many sites there are.
-pub fn site_count(own: &[u32]) -> usize
+fn site_count(own: &[u32]) -> usize
     requires { ⌜ length (now own) ≡ places ⌝ }
     ensures { λ r. ⌜ (r ≡ rows-in site-table (now (own .entry))) × (r ≤ 1024) ⌝ }
 {
@@ -289,7 +328,7 @@ pub fn site_count(own: &[u32]) -> usize
 }
 
 // The site in row i.
-pub fn site_at(own: &[u32], i: usize) -> Site
+fn site_at(own: &[u32], i: usize) -> Site
     requires { ⌜ (length (now own) ≡ places) × (i < 1024) ⌝ }
     ensures { λ r. ⌜ site-of r ≡ site-from (row site-table (now (own .entry)) i) ⌝ }
 {
@@ -338,7 +377,8 @@ fn ranges_meet(low: u32, high: u32, from: u32, to: u32) -> bool
     if to < low {
         return false;
     }
-    from <= high
+    let end = high as usize + 1;
+    (from as usize) < end
 }
 
 // Whether the site in row i is one of the name and meets the extent.
@@ -356,9 +396,12 @@ fn meets_at(own: &[u32], i: usize, name: u32, x: Extent) -> bool
 
 // The START of the first later site of a name that meets an earlier one.
 pub fn first_conflict(own: &[u32], name: u32) -> Found
-    requires { ⌜ length (now own) ≡ places ⌝ }
-    ensures { λ r. ⌜ found-of r ≡ site.first-conflict [] (site.sites-of name (own-of (now (own .entry)) .sites)) ⌝ }
+    ensures { λ r. ⌜ (length (now (own .entry)) ≡ places → found-of r ≡ site.first-conflict [] (site.sites-of name (own-of (now (own .entry)) .sites))) ⌝ }
+    ensures { λ r. ⌜ (¬ (length (now (own .entry)) ≡ places) → r ≡ found.Nothing) ⌝ }
 {
+    if own.len() != OWN {
+        return Found::Nothing;
+    }
     let n = site_count(own);
     let mut found = Found::Nothing;
     let mut later: usize = 0;
@@ -436,7 +479,7 @@ pub enum Blocks {
 }
 
 // How many blocks set a name.
-pub fn block_count(own: &[u32], name: u32) -> usize
+fn block_count(own: &[u32], name: u32) -> usize
     requires { ⌜ length (now own) ≡ places ⌝ }
     ensures { λ r. ⌜ r ≡ block-count name (own-of (now (own .entry)) .pairs) ⌝ }
 {
@@ -456,9 +499,12 @@ pub fn block_count(own: &[u32], name: u32) -> usize
 
 // Whether a name has no block, one, or several.
 pub fn blocks_of(own: &[u32], name: u32) -> Blocks
-    requires { ⌜ length (now own) ≡ places ⌝ }
-    ensures { λ r. ⌜ r ≡ blocks-by (block-count name (own-of (now (own .entry)) .pairs)) ⌝ }
+    ensures { λ r. ⌜ (length (now (own .entry)) ≡ places → r ≡ blocks-by (block-count name (own-of (now (own .entry)) .pairs))) ⌝ }
+    ensures { λ r. ⌜ (¬ (length (now (own .entry)) ≡ places) → r ≡ blocks.None) ⌝ }
 {
+    if own.len() != OWN {
+        return Blocks::None;
+    }
     let k = block_count(own, name);
     if k == 0 {
         return Blocks::None;
@@ -489,9 +535,12 @@ fn is_range(e: Extent) -> bool
 
 // Whether an output has no site, one that is no range, or ranges only.
 pub fn cover_of(own: &[u32], name: u32) -> Cover
-    requires { ⌜ length (now own) ≡ places ⌝ }
-    ensures { λ r. ⌜ r ≡ cover-by (site.sites-of name (own-of (now (own .entry)) .sites)) ⌝ }
+    ensures { λ r. ⌜ (length (now (own .entry)) ≡ places → r ≡ cover-by (site.sites-of name (own-of (now (own .entry)) .sites))) ⌝ }
+    ensures { λ r. ⌜ (¬ (length (now (own .entry)) ≡ places) → r ≡ cover.Never) ⌝ }
 {
+    if own.len() != OWN {
+        return Cover::Never;
+    }
     let n = site_count(own);
     let mut seen = false;
     let mut i: usize = 0;
@@ -592,9 +641,12 @@ fn first_unmarked(marks: &[u8], limit: usize) -> Found
 
 // The first of the lowest min(width, 4,096) bits that no site of the name covers.
 pub fn first_gap(own: &[u32], name: u32, width: u32) -> Found
-    requires { ⌜ length (now own) ≡ places ⌝ }
-    ensures { λ r. ⌜ found-of r ≡ site.first-gap (site.sites-of name (own-of (now (own .entry)) .sites)) width ⌝ }
+    ensures { λ r. ⌜ (length (now (own .entry)) ≡ places → found-of r ≡ site.first-gap (site.sites-of name (own-of (now (own .entry)) .sites)) width) ⌝ }
+    ensures { λ r. ⌜ (¬ (length (now (own .entry)) ≡ places) → r ≡ found.Nothing) ⌝ }
 {
+    if own.len() != OWN {
+        return Found::Nothing;
+    }
     let mut marks = [0u8; 4096];
     let limit = least(width as usize, 4096);
     mark_sites(own, name, &mut marks, limit);
@@ -654,7 +706,7 @@ fn insert_conflict(own: &mut [u32], start: u32, name: u32)
 }
 
 // Whether a name has a misuse.
-pub fn misused(own: &[u32], name: u32) -> bool
+fn misused(own: &[u32], name: u32) -> bool
     requires { ⌜ length (now own) ≡ places ⌝ }
     ensures { λ r. ⌜ r ≡ has-name name (misuse-poison (now (own .entry))) ⌝ }
 {
@@ -663,7 +715,7 @@ pub fn misused(own: &[u32], name: u32) -> bool
 }
 
 // Whether a name has a conflict in the table.
-pub fn conflicted(own: &[u32], name: u32) -> bool
+fn conflicted(own: &[u32], name: u32) -> bool
     requires { ⌜ length (now own) ≡ places ⌝ }
     ensures { λ r. ⌜ r ≡ has-name name (row-names conflict-table (now (own .entry))) ⌝ }
 {
@@ -673,9 +725,12 @@ pub fn conflicted(own: &[u32], name: u32) -> bool
 
 // Whether a name is poisoned, by a misuse or a conflict.
 pub fn poisoned(own: &[u32], name: u32) -> bool
-    requires { ⌜ length (now own) ≡ places ⌝ }
-    ensures { λ r. ⌜ r ≡ has-name name (poisoned-names (own-of (now (own .entry)))) ⌝ }
+    ensures { λ r. ⌜ (length (now (own .entry)) ≡ places → r ≡ has-name name (poisoned-names (own-of (now (own .entry))))) ⌝ }
+    ensures { λ r. ⌜ (¬ (length (now (own .entry)) ≡ places) → r ≡ false) ⌝ }
 {
+    if own.len() != OWN {
+        return false;
+    }
     if conflicted(own, name) {
         return true;
     }
@@ -719,10 +774,14 @@ fn take_conflict(own: &mut [u32], k: usize)
 
 // The conflicts of the names that are not misused, by START, then by name, into their table.
 pub fn find_conflicts(own: &mut [u32])
-    requires { ⌜ length (now own) ≡ places ⌝ }
-    ensures { λ _. ⌜ own-of (now (own .exit)) ≡ with-conflicts (site.conflicts (misuse-poison (now (own .entry)))
-        (own-of (now (own .entry)) .sites) (own-of (now (own .entry)) .sites)) (own-of (now (own .entry))) ⌝ }
+    ensures { λ _. ⌜ (length (now (own .entry)) ≡ places → own-of (now (own .exit)) ≡ with-conflicts (site.conflicts (misuse-poison (now (own .entry)))
+        (own-of (now (own .entry)) .sites) (own-of (now (own .entry)) .sites)) (own-of (now (own .entry)))) ⌝ }
+    ensures { λ _. ⌜ (¬ (length (now (own .entry)) ≡ places) → now (own .exit) ≡ now (own .entry)) ⌝ }
+    ensures { λ _. ⌜ length (now (own .exit)) ≡ length (now (own .entry)) ⌝ }
 {
+    if own.len() != OWN {
+        return;
+    }
     own[6] = 0;
     let n = site_count(own);
     let mut k = n;
@@ -754,49 +813,76 @@ pub struct MisusedLine {
 
 // How many outputs there are.
 pub fn output_count(own: &[u32]) -> usize
-    requires { ⌜ length (now own) ≡ places ⌝ }
-    ensures { λ r. ⌜ (r ≡ rows-in port-table (now (own .entry))) × (r ≤ names) ⌝ }
+    ensures { λ r. ⌜ (length (now (own .entry)) ≡ places → r ≡ rows-in port-table (now (own .entry))) ⌝ }
+    ensures { λ r. ⌜ (¬ (length (now (own .entry)) ≡ places) → r ≡ 0) ⌝ }
+    ensures { λ r. ⌜ r ≤ names ⌝ }
 {
+    if own.len() != OWN {
+        return 0;
+    }
     count_at(own, 2, NAMES)
 }
 
 // How many registers there are.
 pub fn reg_count(own: &[u32]) -> usize
-    requires { ⌜ length (now own) ≡ places ⌝ }
-    ensures { λ r. ⌜ (r ≡ rows-in reg-table (now (own .entry))) × (r ≤ names) ⌝ }
+    ensures { λ r. ⌜ (length (now (own .entry)) ≡ places → r ≡ rows-in reg-table (now (own .entry))) ⌝ }
+    ensures { λ r. ⌜ (¬ (length (now (own .entry)) ≡ places) → r ≡ 0) ⌝ }
+    ensures { λ r. ⌜ r ≤ names ⌝ }
 {
+    if own.len() != OWN {
+        return 0;
+    }
     count_at(own, 3, NAMES)
 }
 
 // How many memories there are.
 pub fn mem_count(own: &[u32]) -> usize
-    requires { ⌜ length (now own) ≡ places ⌝ }
-    ensures { λ r. ⌜ (r ≡ rows-in mem-table (now (own .entry))) × (r ≤ names) ⌝ }
+    ensures { λ r. ⌜ (length (now (own .entry)) ≡ places → r ≡ rows-in mem-table (now (own .entry))) ⌝ }
+    ensures { λ r. ⌜ (¬ (length (now (own .entry)) ≡ places) → r ≡ 0) ⌝ }
+    ensures { λ r. ⌜ r ≤ names ⌝ }
 {
+    if own.len() != OWN {
+        return 0;
+    }
     count_at(own, 4, NAMES)
 }
 
 // How many misused names there are.
 pub fn misuse_count(own: &[u32]) -> usize
-    requires { ⌜ length (now own) ≡ places ⌝ }
-    ensures { λ r. ⌜ (r ≡ rows-in misuse-table (now (own .entry))) × (r ≤ names) ⌝ }
+    ensures { λ r. ⌜ (length (now (own .entry)) ≡ places → r ≡ rows-in misuse-table (now (own .entry))) ⌝ }
+    ensures { λ r. ⌜ (¬ (length (now (own .entry)) ≡ places) → r ≡ 0) ⌝ }
+    ensures { λ r. ⌜ r ≤ names ⌝ }
 {
+    if own.len() != OWN {
+        return 0;
+    }
     count_at(own, 5, NAMES)
 }
 
 // How many conflicts there are.
 pub fn conflict_count(own: &[u32]) -> usize
-    requires { ⌜ length (now own) ≡ places ⌝ }
-    ensures { λ r. ⌜ (r ≡ rows-in conflict-table (now (own .entry))) × (r ≤ 1024) ⌝ }
+    ensures { λ r. ⌜ (length (now (own .entry)) ≡ places → r ≡ rows-in conflict-table (now (own .entry))) ⌝ }
+    ensures { λ r. ⌜ (¬ (length (now (own .entry)) ≡ places) → r ≡ 0) ⌝ }
+    ensures { λ r. ⌜ r ≤ 1024 ⌝ }
 {
+    if own.len() != OWN {
+        return 0;
+    }
     count_at(own, 6, SITE_LIMIT)
 }
 
 // The register in row i.
 pub fn reg_at(own: &[u32], i: usize) -> Line
-    requires { ⌜ (length (now own) ≡ places) × (i < names) ⌝ }
-    ensures { λ r. ⌜ storage-of r ≡ storage-from (row reg-table (now (own .entry)) i) ⌝ }
+    ensures { λ r. ⌜ (length (now (own .entry)) ≡ places → i < names → storage-of r ≡ storage-from (row reg-table (now (own .entry)) i)) ⌝ }
+    ensures { λ r. ⌜ (¬ (length (now (own .entry)) ≡ places) → storage-of r ≡ storage-from []) ⌝ }
+    ensures { λ r. ⌜ (¬ (i < names) → storage-of r ≡ storage-from []) ⌝ }
 {
+    if own.len() != OWN {
+        return Line { name: 0, start: 0 };
+    }
+    if NAMES <= i {
+        return Line { name: 0, start: 0 };
+    }
     let at = REGS + 2 * i;
     Line {
         name: own[at],
@@ -806,9 +892,16 @@ pub fn reg_at(own: &[u32], i: usize) -> Line
 
 // The memory in row i.
 pub fn mem_at(own: &[u32], i: usize) -> Line
-    requires { ⌜ (length (now own) ≡ places) × (i < names) ⌝ }
-    ensures { λ r. ⌜ storage-of r ≡ storage-from (row mem-table (now (own .entry)) i) ⌝ }
+    ensures { λ r. ⌜ (length (now (own .entry)) ≡ places → i < names → storage-of r ≡ storage-from (row mem-table (now (own .entry)) i)) ⌝ }
+    ensures { λ r. ⌜ (¬ (length (now (own .entry)) ≡ places) → storage-of r ≡ storage-from []) ⌝ }
+    ensures { λ r. ⌜ (¬ (i < names) → storage-of r ≡ storage-from []) ⌝ }
 {
+    if own.len() != OWN {
+        return Line { name: 0, start: 0 };
+    }
+    if NAMES <= i {
+        return Line { name: 0, start: 0 };
+    }
     let at = MEMS + 2 * i;
     Line {
         name: own[at],
@@ -818,9 +911,16 @@ pub fn mem_at(own: &[u32], i: usize) -> Line
 
 // The conflict in row i.
 pub fn conflict_at(own: &[u32], i: usize) -> Line
-    requires { ⌜ (length (now own) ≡ places) × (i < 1024) ⌝ }
-    ensures { λ r. ⌜ storage-of r ≡ storage-from (row conflict-table (now (own .entry)) i) ⌝ }
+    ensures { λ r. ⌜ (length (now (own .entry)) ≡ places → i < 1024 → storage-of r ≡ storage-from (row conflict-table (now (own .entry)) i)) ⌝ }
+    ensures { λ r. ⌜ (¬ (length (now (own .entry)) ≡ places) → storage-of r ≡ storage-from []) ⌝ }
+    ensures { λ r. ⌜ (¬ (i < 1024) → storage-of r ≡ storage-from []) ⌝ }
 {
+    if own.len() != OWN {
+        return Line { name: 0, start: 0 };
+    }
+    if SITE_LIMIT <= i {
+        return Line { name: 0, start: 0 };
+    }
     let at = CONFLICTS + 2 * i;
     Line {
         name: own[at],
@@ -830,9 +930,26 @@ pub fn conflict_at(own: &[u32], i: usize) -> Line
 
 // The output in row i.
 pub fn output_at(own: &[u32], i: usize) -> OutputLine
-    requires { ⌜ (length (now own) ≡ places) × (i < names) ⌝ }
-    ensures { λ r. ⌜ port-of r ≡ port-from (row port-table (now (own .entry)) i) ⌝ }
+    ensures { λ r. ⌜ (length (now (own .entry)) ≡ places → i < names → port-of r ≡ port-from (row port-table (now (own .entry)) i)) ⌝ }
+    ensures { λ r. ⌜ (¬ (length (now (own .entry)) ≡ places) → port-of r ≡ port-from []) ⌝ }
+    ensures { λ r. ⌜ (¬ (i < names) → port-of r ≡ port-from []) ⌝ }
 {
+    if own.len() != OWN {
+        return OutputLine {
+            name: 0,
+            start: 0,
+            from: 0,
+            to: 0,
+        };
+    }
+    if NAMES <= i {
+        return OutputLine {
+            name: 0,
+            start: 0,
+            from: 0,
+            to: 0,
+        };
+    }
     let at = OUTPUTS + 4 * i;
     OutputLine {
         name: own[at],
@@ -859,9 +976,24 @@ fn misuse_from(code: u32) -> Misuse
 
 // The misuse in row i.
 pub fn misuse_at(own: &[u32], i: usize) -> MisusedLine
-    requires { ⌜ (length (now own) ≡ places) × (i < names) ⌝ }
-    ensures { λ r. ⌜ misused-of r ≡ misused-from (row misuse-table (now (own .entry)) i) ⌝ }
+    ensures { λ r. ⌜ (length (now (own .entry)) ≡ places → i < names → misused-of r ≡ misused-from (row misuse-table (now (own .entry)) i)) ⌝ }
+    ensures { λ r. ⌜ (¬ (length (now (own .entry)) ≡ places) → misused-of r ≡ misused-from []) ⌝ }
+    ensures { λ r. ⌜ (¬ (i < names) → misused-of r ≡ misused-from []) ⌝ }
 {
+    if own.len() != OWN {
+        return MisusedLine {
+            name: 0,
+            start: 0,
+            kind: Misuse::Wire,
+        };
+    }
+    if NAMES <= i {
+        return MisusedLine {
+            name: 0,
+            start: 0,
+            kind: Misuse::Wire,
+        };
+    }
     let at = MISUSES + 3 * i;
     let kind = misuse_from(own[at + 2]);
     MisusedLine {

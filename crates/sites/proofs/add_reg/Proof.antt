@@ -1,11 +1,14 @@
 -- `sites::add_reg` meets its contract. The first row of a name is kept. Assumes nothing.
 use mathlib.Core.Path.{refl, ap, _∙_}
 use mathlib.Core.List.{[], _∷_}
-use borrow.Author.Needs.{needs}
 use Rattle.sites.specs.Own.{own-of}
 use Rattle.sites.proofs.Added.{reg-added}
+use borrow.Author.Needs.{needs}
 use Rattle.sites.proofs.add_reg.Statement.{statement}
 use Rattle.sites.proofs.add_reg.Tie as tie
+
+returns : tie.Need-returns
+returns c = (λ h. absurd (c .if1 .taken h), (λ _. refl, refl))
 
 push-first-requires : tie.Need-push-first-requires
 push-first-requires c κs = search needs
@@ -13,8 +16,8 @@ push-first-requires c κs = search needs
 same-length : tie.Need-same-length
 same-length c = search needs
 
-returns : tie.Need-returns
-returns c = ap own-of (c .before .before .push-first .ensures) ∙ reg-added (c .before .before .before .before .before .args .own .now) (c .before .before .before .before .before .args .name ∷ c .before .before .before .before .before .args .start ∷ []) (c .before .before .before .before .before .pre) refl
+returns-2 : tie.Need-returns-2
+returns-2 c = (λ h. ap own-of (c .before .before .push-first .ensures) ∙ reg-added (c .before .before .before .before .before .before .args .own .now) (c .before .before .before .before .before .before .args .name ∷ c .before .before .before .before .before .before .args .start ∷ []) (c .before .before .before .before .if1 .left) refl, (λ n. absurd (n (c .before .before .before .before .if1 .left)), c .before .before .push-first .kept .0))
 
 pub add-reg-spec : {M : Type 1} → statement M
-add-reg-spec = tie.close (tie.spec push-first-requires same-length returns)
+add-reg-spec = tie.close (tie.spec returns push-first-requires same-length returns-2)

@@ -18,7 +18,7 @@ has-row-requires : tie.Need-has-row-requires
 has-row-requires c κs = search needs
 
 returns : tie.Need-returns
-returns c = c .has-row .ensures ∙ ap (λ (k : ℕ). has-name (c .before .before .before .args .name) (run (λ (i : ℕ). getD (c .before .before .before .args .own .now) (8968 + 2 * i) 0) 0 k)) (c .before .count-at .ensures ∙ count-is conflict-table (c .before .before .before .args .own .now)) ∙ ap (has-name (c .before .before .before .args .name)) (names-are conflict-table (c .before .before .before .args .own .now))
+returns c = c .has-row .ensures ∙ ap (λ (k : ℕ). has-name (c .before .before .before .args .name) (run (λ (i : ℕ). getD (c .before .before .before .args .own .now) (conflict-table .base + 2 * i) 0) 0 k)) (c .before .count-at .ensures ∙ count-is conflict-table (c .before .before .before .args .own .now)) ∙ ap (has-name (c .before .before .before .args .name)) (names-are conflict-table (c .before .before .before .args .own .now))
 
 pub conflicted-spec : {M : Type 1} → statement M
 conflicted-spec = tie.close (tie.spec count-at-requires has-row-requires returns)

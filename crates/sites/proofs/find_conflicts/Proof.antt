@@ -1,4 +1,5 @@
 -- `sites::find_conflicts` meets its contract. The invariant: the table has the conflicts of the sites from here on. Assumes nothing.
+use mathlib.Core.Path.{refl}
 use mathlib.Core.Path.{_≡_, ap, _∙_}
 use mathlib.Core.List.{List, []}
 use Prim.Native.Nat.{ℕ, _+_, _-_, _≤_, _<_}
@@ -18,14 +19,17 @@ Inv-loop own₀ n k₀ own k = (k ≤ n) × Front own₀ own × (conflict-rows o
 abbrev μ-loop : tie.MeasureT-loop
 μ-loop own₀ n k₀ own k = k
 
+returns : tie.Need-returns Inv-loop μ-loop
+returns c = (λ h. absurd (c .if1 .taken h), (λ _. refl, refl))
+
 slice-write-own : tie.Need-slice-write-own Inv-loop μ-loop
 slice-write-own c = search needs
 
 site-count-requires : tie.Need-site-count-requires Inv-loop μ-loop
-site-count-requires c κs = simp length-set (c .before .before .pre)
+site-count-requires c κs = simp length-set (c .before .if1 .left)
 
 loop-holds : tie.Need-loop-holds Inv-loop μ-loop
-loop-holds c = (omega arith, front-same (set (c .before .before .before .args .own .now) 6 0), start-rows (c .before .before .before .args .own .now) (skip-at (misuse-poison (set (c .before .before .before .args .own .now) 6 0)) (site-row (set (c .before .before .before .args .own .now) 6 0)) (c .site-count .result)) (items site-from site-table (set (c .before .before .before .args .own .now) 6 0)) (site-row (set (c .before .before .before .args .own .now) 6 0)) (c .site-count .result) (omega (arith, c .before .before .before .pre)))
+loop-holds c = (omega arith, front-same (set (c .before .before .before .before .args .own .now) 6 0), start-rows (c .before .before .before .before .args .own .now) (skip-at (misuse-poison (set (c .before .before .before .before .args .own .now) 6 0)) (site-row (set (c .before .before .before .before .args .own .now) 6 0)) (c .site-count .result)) (items site-from site-table (set (c .before .before .before .before .args .own .now) 6 0)) (site-row (set (c .before .before .before .before .args .own .now) 6 0)) (c .site-count .result) (omega (arith, c .before .before .if1 .left)))
 
 sub-k : tie.Need-sub-k Inv-loop μ-loop
 sub-k c = search needs
@@ -33,7 +37,7 @@ sub-k c = search needs
 take-conflict-requires : tie.Need-take-conflict-requires Inv-loop μ-loop
 take-conflict-requires c κs =
     let few = rows-few (c .before .before .loop .own) _ _ _ _ _ (c .before .before .loop .inv .2) in
-    omega (arith, c .before .before .before .before .before .before .pre, c .before .before .before .site-count .ensures, c .before .before .loop .inv .1 .size, c .before .before .loop .inv .0, c .before .loop-test .taken, length-set (c .before .before .before .before .before .before .args .own .now) 6 0, few)
+    omega (arith, c .before .before .before .before .before .if1 .left, c .before .before .before .site-count .ensures, c .before .before .loop .inv .1 .size, c .before .before .loop .inv .0, c .before .loop-test .taken, length-set (c .before .before .before .before .before .before .before .args .own .now) 6 0, few)
 
 loop-less : tie.Need-loop-less Inv-loop μ-loop
 loop-less c = search needs
@@ -44,20 +48,22 @@ loop-again c =
     let z : c .before .before .before .before .before .loop .k ≡ c .before .before .before .before .before .loop .k - 1 + 1 = omega (arith, c .before .before .before .before .loop-test .taken) in (
       omega (arith, c .before .before .before .before .before .loop .inv .0),
       front-then (c .before .before .before .before .before .loop .inv .1) (c .before .before .take-conflict .ensures .0),
-      c .before .before .take-conflict .ensures .1 ∙ step-front (set (c .before .before .before .before .before .before .before .before .before .args .own .now) 6 0) (c .before .before .before .before .before .loop .own) (c .before .before .before .before .before .loop .inv .1) (c .before .before .before .before .before .loop .k - 1) (omega (arith, c .before .before .before .before .before .before .site-count .ensures, c .before .before .before .before .before .loop .inv .0, c .before .before .before .before .loop-test .taken)) (conflict-rows (c .before .before .before .before .before .loop .own))
-          ∙ ap (conflict-step (set (c .before .before .before .before .before .before .before .before .before .args .own .now) 6 0) (c .before .before .before .before .before .loop .k - 1)) (c .before .before .before .before .before .loop .inv .2 ∙ ap (λ (j : ℕ). site.conflicts (skip-at (misuse-poison (set (c .before .before .before .before .before .before .before .before .before .args .own .now) 6 0)) (site-row (set (c .before .before .before .before .before .before .before .before .before .args .own .now) 6 0)) j) (items site-from site-table (set (c .before .before .before .before .before .before .before .before .before .args .own .now) 6 0)) (run (site-row (set (c .before .before .before .before .before .before .before .before .before .args .own .now) 6 0)) j (c .before .before .before .before .before .before .site-count .result - j))) z)
-          ∙ conflicts-step (set (c .before .before .before .before .before .before .before .before .before .args .own .now) 6 0) (c .before .before .before .before .before .before .site-count .result) (c .before .before .before .before .before .loop .k - 1) h,
+      c .before .before .take-conflict .ensures .1 ∙ step-front (set (c .before .before .before .before .before .before .before .before .before .before .args .own .now) 6 0) (c .before .before .before .before .before .loop .own) (c .before .before .before .before .before .loop .inv .1) (c .before .before .before .before .before .loop .k - 1) (omega (arith, c .before .before .before .before .before .before .site-count .ensures, c .before .before .before .before .before .loop .inv .0, c .before .before .before .before .loop-test .taken)) (conflict-rows (c .before .before .before .before .before .loop .own))
+          ∙ ap (conflict-step (set (c .before .before .before .before .before .before .before .before .before .before .args .own .now) 6 0) (c .before .before .before .before .before .loop .k - 1)) (c .before .before .before .before .before .loop .inv .2 ∙ ap (λ (j : ℕ). site.conflicts (skip-at (misuse-poison (set (c .before .before .before .before .before .before .before .before .before .before .args .own .now) 6 0)) (site-row (set (c .before .before .before .before .before .before .before .before .before .before .args .own .now) 6 0)) j) (items site-from site-table (set (c .before .before .before .before .before .before .before .before .before .before .args .own .now) 6 0)) (run (site-row (set (c .before .before .before .before .before .before .before .before .before .before .args .own .now) 6 0)) j (c .before .before .before .before .before .before .site-count .result - j))) z)
+          ∙ conflicts-step (set (c .before .before .before .before .before .before .before .before .before .before .args .own .now) 6 0) (c .before .before .before .before .before .before .site-count .result) (c .before .before .before .before .before .loop .k - 1) h,
     )
 
 same-length : tie.Need-same-length Inv-loop μ-loop
 same-length c = c .before .loop .inv .1 .size ∙ simp length-set
 
-returns : tie.Need-returns Inv-loop μ-loop
+returns-2 : tie.Need-returns-2 Inv-loop μ-loop
 unfolding own-of
-returns c =
-    let p = front-count (c .before .before .before .before .before .args .own .now) 0 in
-    front-own (c .before .before .before .before .before .args .own .now) (c .before .loop .own) (front-then p (c .before .loop .inv .1))
-    ∙ ap (λ (cs : List site.Conflict). with-conflicts cs (own-of (c .before .before .before .before .before .args .own .now))) (c .before .loop .inv .2 ∙ final-rows (c .before .before .before .before .before .args .own .now) (set (c .before .before .before .before .before .args .own .now) 6 0) p (c .before .before .site-count .result) (c .before .loop .k) (c .before .before .site-count .ensures .0) (omega (arith, c .loop-test .left)))
+returns-2 c = (
+  λ _. let p = front-count (c .before .before .before .before .before .before .args .own .now) 0 in
+      front-own (c .before .before .before .before .before .before .args .own .now) (c .before .loop .own) (front-then p (c .before .loop .inv .1))
+      ∙ ap (λ (cs : List site.Conflict). with-conflicts cs (own-of (c .before .before .before .before .before .before .args .own .now))) (c .before .loop .inv .2 ∙ final-rows (c .before .before .before .before .before .before .args .own .now) (set (c .before .before .before .before .before .before .args .own .now) 6 0) p (c .before .before .site-count .result) (c .before .loop .k) (c .before .before .site-count .ensures .0) (omega (arith, c .loop-test .left))),
+  (λ n. absurd (n (c .before .before .before .before .if1 .left)), c .before .loop .inv .1 .size ∙ simp length-set),
+)
 
 pub find-conflicts-spec : {M : Type 1} → statement M
 find-conflicts-spec =
@@ -65,6 +71,7 @@ find-conflicts-spec =
     (tie.spec
     Inv-loop
     μ-loop
+    returns
     slice-write-own
     site-count-requires
     loop-holds
@@ -73,4 +80,4 @@ find-conflicts-spec =
     loop-less
     loop-again
     same-length
-    returns)
+    returns-2)

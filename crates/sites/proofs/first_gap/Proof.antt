@@ -1,14 +1,18 @@
 -- `sites::first_gap` meets its contract. Marks, and the first place without one. Assumes nothing.
+use mathlib.Core.Path.{refl}
 use mathlib.Core.Path.{_∙_}
 use mathlib.Core.List.{[]}
 use native.Mathlib.Omega.{arith}
-use borrow.Author.Needs.{needs}
 use Rattle.sites.specs.Own.{own-of}
 use lib.ListN.{replicate}
 use Rattle.spec.specs.Site as site
 use Rattle.sites.proofs.Marks.{gap-found, fresh}
+use borrow.Author.Needs.{needs}
 use Rattle.sites.proofs.first_gap.Statement.{statement}
 use Rattle.sites.proofs.first_gap.Tie as tie
+
+returns : tie.Need-returns
+returns c = (λ h. absurd (c .if1 .taken h), λ _. refl)
 
 least-requires : tie.Need-least-requires
 least-requires c κs = search needs
@@ -17,7 +21,7 @@ slice-aggregate-mark-sites : tie.Need-slice-aggregate-mark-sites
 slice-aggregate-mark-sites c = search needs
 
 mark-sites-requires : tie.Need-mark-sites-requires
-mark-sites-requires c κs = (c .before .before .before .pre, omega (arith, c .before .least .ensures))
+mark-sites-requires c κs = (c .before .before .if1 .left, omega (arith, c .before .least .ensures))
 
 slice-aggregate-first-unmarked : tie.Need-slice-aggregate-first-unmarked
 slice-aggregate-first-unmarked c = search needs
@@ -25,16 +29,20 @@ slice-aggregate-first-unmarked c = search needs
 first-unmarked-requires : tie.Need-first-unmarked-requires
 first-unmarked-requires c κs = omega (arith, c .before .before .before .before .least .ensures, c .before .before .mark-sites .kept .1 .1 .0)
 
-returns : tie.Need-returns
-returns c = c .first-unmarked .ensures ∙ gap-found (replicate 4096 0) (c .before .before .before .mark-sites .last .1 .1 .0) (site.sites-of (c .before .before .before .before .before .before .before .args .name) (own-of (c .before .before .before .before .before .before .before .args .own .now) .sites)) (c .before .before .before .before .before .before .before .args .width) (c .before .before .before .before .before .least .result) (c .before .before .before .before .before .least .ensures) fresh (c .before .before .before .mark-sites .ensures)
+returns-2 : tie.Need-returns-2
+returns-2 c = (
+  λ _. c .first-unmarked .ensures ∙ gap-found (replicate 4096 0) (c .before .before .before .mark-sites .last .1 .1 .0) (site.sites-of (c .before .before .before .before .before .before .before .before .args .name) (own-of (c .before .before .before .before .before .before .before .before .args .own .now) .sites)) (c .before .before .before .before .before .before .before .before .args .width) (c .before .before .before .before .before .least .result) (c .before .before .before .before .before .least .ensures) fresh (c .before .before .before .mark-sites .ensures),
+  λ n. absurd (n (c .before .before .before .before .before .before .if1 .left)),
+)
 
 pub first-gap-spec : {M : Type 1} → statement M
 first-gap-spec =
     tie.close
     (tie.spec
+    returns
     least-requires
     slice-aggregate-mark-sites
     mark-sites-requires
     slice-aggregate-first-unmarked
     first-unmarked-requires
-    returns)
+    returns-2)

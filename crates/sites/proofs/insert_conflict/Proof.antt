@@ -4,7 +4,7 @@ use mathlib.Core.List.{List, [], _∷_}
 use Prim.Native.Nat.{ℕ, _+_, _*_, _-_, _≤_, _<_}
 use native.Mathlib.Omega.{arith}
 use lib.ListN.{length, getD}
-use Rattle.sites.specs.Own.{rows-in, run}
+use Rattle.sites.specs.Own.{places, rows-in, run}
 use mathlib.Core.List.{_++_}
 use Rattle.spec.specs.Site as site
 use Rattle.sites.specs.Own.{conflict-of, conflict-row, conflict-rows, conflict-table, Front}
@@ -62,12 +62,12 @@ loop-less c = omega (arith, c .before .before .before .before .before .before .l
 loop-again : tie.Need-loop-again Inv-loop μ-loop
 loop-again c =
     let e = c .before .before .put-row .ensures in
-    let len : length (c .before .before .before .before .before .before .before .loop .own) ≡ 11016 = omega (arith, c .before .before .before .before .before .before .before .before .before .before .before .before .before .pre, c .before .before .before .before .before .before .before .loop .inv .1 .size) in (
+    let len : length (c .before .before .before .before .before .before .before .loop .own) ≡ places = omega (arith, c .before .before .before .before .before .before .before .before .before .before .before .before .before .pre, c .before .before .before .before .before .before .before .loop .inv .1 .size) in (
       omega (arith, c .before .before .before .before .before .before .loop-test .taken),
-      front-then (c .before .before .before .before .before .before .before .loop .inv .1) (subst (λ (l : List ℕ). Front (c .before .before .before .before .before .before .before .loop .own) l) (sym e) (front-sets (c .before .before .before .before .before .before .before .loop .own) (8968 + 2 * c .before .before .before .before .before .before .before .loop .i) (c .before .before .before .before .before .before .before .loop .a ∷ c .before .before .before .before .before .before .before .loop .s ∷ []) (omega arith))),
-      subst (λ (l : List ℕ). run (conflict-row l) 0 (c .before .before .before .before .before .before .before .loop .i + 1) ++ (conflict-of (getD (c .before .before .before .before .before .before .before .loop .own) (8968 + 2 * c .before .before .before .before .before .before .before .loop .i + 1) 0) (getD (c .before .before .before .before .before .before .before .loop .own) (8968 + 2 * c .before .before .before .before .before .before .before .loop .i) 0) ∷ run (conflict-row l) (c .before .before .before .before .before .before .before .loop .i + 1) (c .before .before .before .before .before .before .before .before .before .before .count-at .result - (c .before .before .before .before .before .before .before .loop .i + 1))) ≡ site.insert-conflict (conflict-of (c .before .before .before .before .before .before .before .before .before .before .before .before .before .args .start) (c .before .before .before .before .before .before .before .before .before .before .before .before .before .args .name)) (run (conflict-row (c .before .before .before .before .before .before .before .before .before .before .before .before .before .args .own .now)) 0 (c .before .before .before .before .before .before .before .before .before .before .count-at .result))) (sym e)
+      front-then (c .before .before .before .before .before .before .before .loop .inv .1) (subst (λ (l : List ℕ). Front (c .before .before .before .before .before .before .before .loop .own) l) (sym e) (front-sets (c .before .before .before .before .before .before .before .loop .own) (conflict-table .base + 2 * c .before .before .before .before .before .before .before .loop .i) (c .before .before .before .before .before .before .before .loop .a ∷ c .before .before .before .before .before .before .before .loop .s ∷ []) (omega arith))),
+      subst (λ (l : List ℕ). run (conflict-row l) 0 (c .before .before .before .before .before .before .before .loop .i + 1) ++ (conflict-of (getD (c .before .before .before .before .before .before .before .loop .own) (conflict-table .base + 2 * c .before .before .before .before .before .before .before .loop .i + 1) 0) (getD (c .before .before .before .before .before .before .before .loop .own) (conflict-table .base + 2 * c .before .before .before .before .before .before .before .loop .i) 0) ∷ run (conflict-row l) (c .before .before .before .before .before .before .before .loop .i + 1) (c .before .before .before .before .before .before .before .before .before .before .count-at .result - (c .before .before .before .before .before .before .before .loop .i + 1))) ≡ site.insert-conflict (conflict-of (c .before .before .before .before .before .before .before .before .before .before .before .before .before .args .start) (c .before .before .before .before .before .before .before .before .before .before .before .before .before .args .name)) (run (conflict-row (c .before .before .before .before .before .before .before .before .before .before .before .before .before .args .own .now)) 0 (c .before .before .before .before .before .before .before .before .before .before .count-at .result))) (sym e)
           (shift-more (c .before .before .before .before .before .before .before .loop .own) (c .before .before .before .before .before .before .before .before .before .before .count-at .result) (c .before .before .before .before .before .before .before .loop .i) (c .before .before .before .before .before .before .before .loop .a) (c .before .before .before .before .before .before .before .loop .s) (c .before .before .before .before .before .before .loop-test .taken) (omega (arith, c .before .before .before .before .before .before .before .before .before .before .count-at .ensures)) len ∙ c .before .before .before .before .before .before .before .loop .inv .2),
-      ap (λ (l : List ℕ). getD l 6 0) e ∙ getD-sets-below (c .before .before .before .before .before .before .before .loop .own) 6 (8968 + 2 * c .before .before .before .before .before .before .before .loop .i) (c .before .before .before .before .before .before .before .loop .a ∷ c .before .before .before .before .before .before .before .loop .s ∷ []) (omega arith) ∙ c .before .before .before .before .before .before .before .loop .inv .3,
+      ap (λ (l : List ℕ). getD l 6 0) e ∙ getD-sets-below (c .before .before .before .before .before .before .before .loop .own) 6 (conflict-table .base + 2 * c .before .before .before .before .before .before .before .loop .i) (c .before .before .before .before .before .before .before .loop .a ∷ c .before .before .before .before .before .before .before .loop .s ∷ []) (omega arith) ∙ c .before .before .before .before .before .before .before .loop .inv .3,
     )
 
 push-requires : tie.Need-push-requires Inv-loop μ-loop
@@ -79,7 +79,7 @@ same-length c = c .before .before .push .kept .0 ∙ c .before .before .before .
 returns : tie.Need-returns Inv-loop μ-loop
 returns c =
     let n≡ : c .before .before .before .before .before .before .before .before .count-at .result ≡ rows-in conflict-table (c .before .before .before .before .before .before .before .before .before .before .before .args .own .now) = c .before .before .before .before .before .before .before .before .count-at .ensures ∙ count-is conflict-table (c .before .before .before .before .before .before .before .before .before .before .before .args .own .now) in
-    let len : length (c .before .before .before .before .before .loop .own) ≡ 11016 = omega (arith, c .before .before .before .before .before .before .before .before .before .before .before .pre, c .before .before .before .before .before .loop .inv .1 .size) in
+    let len : length (c .before .before .before .before .before .loop .own) ≡ places = omega (arith, c .before .before .before .before .before .before .before .before .before .before .before .pre, c .before .before .before .before .before .loop .inv .1 .size) in
     let rows : rows-in conflict-table (c .before .before .before .before .before .loop .own) ≡ rows-in conflict-table (c .before .before .before .before .before .before .before .before .before .before .before .args .own .now) = count-same (c .before .before .before .before .before .before .before .before .before .before .before .args .own .now) (c .before .before .before .before .before .loop .own) (c .before .before .before .before .before .loop .inv .3) in
     let r : rows-in conflict-table (c .before .before .before .before .before .loop .own) < 1024 = omega (arith, c .before .before .before .before .before .before .before .before .before .before .before .pre, rows) in
     let e = c .before .before .push .ensures .0 in (

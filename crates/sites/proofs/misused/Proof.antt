@@ -19,7 +19,7 @@ has-row-requires : tie.Need-has-row-requires
 has-row-requires c κs = search needs
 
 returns : tie.Need-returns
-returns c = c .has-row .ensures ∙ ap (λ (k : ℕ). has-name (c .before .before .before .args .name) (run (λ (i : ℕ). getD (c .before .before .before .args .own .now) (8200 + 3 * i) 0) 0 k)) (c .before .count-at .ensures ∙ count-is misuse-table (c .before .before .before .args .own .now)) ∙ ap (has-name (c .before .before .before .args .name)) (names-are misuse-table (c .before .before .before .args .own .now) ∙ sym (poison-rows (c .before .before .before .args .own .now)))
+returns c = c .has-row .ensures ∙ ap (λ (k : ℕ). has-name (c .before .before .before .args .name) (run (λ (i : ℕ). getD (c .before .before .before .args .own .now) (misuse-table .base + 3 * i) 0) 0 k)) (c .before .count-at .ensures ∙ count-is misuse-table (c .before .before .before .args .own .now)) ∙ ap (has-name (c .before .before .before .args .name)) (names-are misuse-table (c .before .before .before .args .own .now) ∙ sym (poison-rows (c .before .before .before .args .own .now)))
 
 pub misused-spec : {M : Type 1} → statement M
 misused-spec = tie.close (tie.spec count-at-requires has-row-requires returns)

@@ -1,9 +1,17 @@
 -- `sites::output_at` meets its contract. The numbers of the row. Assumes nothing.
+use native.Mathlib.Omega.{arith}
+use mathlib.Core.Path.{refl}
 use mathlib.Core.List.{[]}
-use borrow.Author.Needs.{needs}
 use Rattle.sites.proofs.Lines.{port-read}
+use borrow.Author.Needs.{needs}
 use Rattle.sites.proofs.output_at.Statement.{statement}
 use Rattle.sites.proofs.output_at.Tie as tie
+
+returns : tie.Need-returns
+returns c = (λ h _. absurd (c .if1 .taken h), (λ _. refl, λ _. refl))
+
+returns-2 : tie.Need-returns-2
+returns-2 c = (λ _ h. absurd (omega (arith, h, c .if2 .taken)), (λ _. refl, λ _. refl))
 
 mul-at : tie.Need-mul-at
 mul-at c = search needs
@@ -14,54 +22,56 @@ add-at c = search needs
 mul-t4 : tie.Need-mul-t4
 mul-t4 c = search needs
 
-shared-slice-read-t6 : tie.Need-shared-slice-read-t6
-shared-slice-read-t6 c = search needs
+shared-slice-read-t7 : tie.Need-shared-slice-read-t7
+shared-slice-read-t7 c = search needs
 
-add-t7 : tie.Need-add-t7
-add-t7 c = search needs
+add-t8 : tie.Need-add-t8
+add-t8 c = search needs
 
-mul-t8 : tie.Need-mul-t8
-mul-t8 c = search needs
+mul-t9 : tie.Need-mul-t9
+mul-t9 c = search needs
 
-shared-slice-read-t10 : tie.Need-shared-slice-read-t10
-shared-slice-read-t10 c = search needs
+shared-slice-read-t11 : tie.Need-shared-slice-read-t11
+shared-slice-read-t11 c = search needs
 
-add-t11 : tie.Need-add-t11
-add-t11 c = search needs
+add-t12 : tie.Need-add-t12
+add-t12 c = search needs
 
-mul-t12 : tie.Need-mul-t12
-mul-t12 c = search needs
+mul-t13 : tie.Need-mul-t13
+mul-t13 c = search needs
 
-shared-slice-read-t14 : tie.Need-shared-slice-read-t14
-shared-slice-read-t14 c = search needs
+shared-slice-read-t15 : tie.Need-shared-slice-read-t15
+shared-slice-read-t15 c = search needs
 
-add-t15 : tie.Need-add-t15
-add-t15 c = search needs
+add-t16 : tie.Need-add-t16
+add-t16 c = search needs
 
-mul-t16 : tie.Need-mul-t16
-mul-t16 c = search needs
+mul-t17 : tie.Need-mul-t17
+mul-t17 c = search needs
 
-shared-slice-read-t18 : tie.Need-shared-slice-read-t18
-shared-slice-read-t18 c = search needs
+shared-slice-read-t19 : tie.Need-shared-slice-read-t19
+shared-slice-read-t19 c = search needs
 
-returns : tie.Need-returns
-returns c = port-read (c .before .before .before .before .args .own .now) (c .before .before .before .before .args .i)
+returns-3 : tie.Need-returns-3
+returns-3 c = (λ _ _. port-read (c .before .before .before .before .before .before .args .own .now) (c .before .before .before .before .before .before .args .i), (λ n. absurd (n (c .before .before .before .before .before .if1 .left)), λ n. absurd (n (omega (arith, c .before .before .before .before .if2 .left)))))
 
 pub output-at-spec : {M : Type 1} → statement M
 output-at-spec =
     tie.close
     (tie.spec
+    returns
+    returns-2
     mul-at
     add-at
     mul-t4
-    shared-slice-read-t6
-    add-t7
-    mul-t8
-    shared-slice-read-t10
-    add-t11
-    mul-t12
-    shared-slice-read-t14
-    add-t15
-    mul-t16
-    shared-slice-read-t18
-    returns)
+    shared-slice-read-t7
+    add-t8
+    mul-t9
+    shared-slice-read-t11
+    add-t12
+    mul-t13
+    shared-slice-read-t15
+    add-t16
+    mul-t17
+    shared-slice-read-t19
+    returns-3)

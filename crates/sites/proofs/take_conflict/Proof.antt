@@ -2,13 +2,13 @@
 use mathlib.Core.Path.{sym, ap, _∙_}
 use mathlib.Core.List.{[]}
 use native.Mathlib.Omega.{arith}
-use borrow.Author.Needs.{needs}
 use Rattle.sites.specs.Own.{own-of}
 use mathlib.Core.Option.{none, some}
 use Rattle.spec.specs.Refusal.{has-name}
 use Rattle.spec.specs.Site as site
 use Rattle.sites.specs.Own.{conflict-of, conflict-rows, misuse-poison, skip-at, site-row, found-of}
 use Rattle.sites.proofs.Conflicts.{front-same, step-seen, step-new}
+use borrow.Author.Needs.{needs}
 use Rattle.sites.proofs.take_conflict.Statement.{statement}
 use Rattle.sites.proofs.take_conflict.Tie as tie
 
@@ -25,7 +25,7 @@ returns : tie.Need-returns
 returns c = (front-same (c .before .before .before .before .before .before .args .own .now), step-seen (c .before .before .before .before .before .before .args .own .now) (c .before .before .before .before .before .before .args .k) (conflict-rows (c .before .before .before .before .before .before .args .own .now)) (ap (λ (t : site.Site). has-name (t .name) (skip-at (misuse-poison (c .before .before .before .before .before .before .args .own .now)) (site-row (c .before .before .before .before .before .before .args .own .now)) (c .before .before .before .before .before .before .args .k))) (sym (c .before .before .before .site-at .ensures)) ∙ sym (c .before .seen-before .ensures) ∙ c .if1 .taken))
 
 first-conflict-requires : tie.Need-first-conflict-requires
-first-conflict-requires c κs = c .before .before .before .before .before .before .before .pre .0
+first-conflict-requires c κs = search needs
 
 enum-known-start : tie.Need-enum-known-start
 enum-known-start c = search needs
@@ -41,7 +41,7 @@ unfolding own-of
 returns-2 c = (
   c .before .before .insert-conflict .ensures .0,
   c .before .before .insert-conflict .ensures .1 ∙ ap (λ (t : site.Site). site.insert-conflict (conflict-of (c .before .before .before .before .before .start .given .0 .0) (t .name)) (conflict-rows (c .before .before .before .before .before .before .before .before .before .before .before .before .before .before .before .args .own .now))) (c .before .before .before .before .before .before .before .before .before .before .before .before .site-at .ensures)
-      ∙ step-new (c .before .before .before .before .before .before .before .before .before .before .before .before .before .before .before .args .own .now) (c .before .before .before .before .before .before .before .before .before .before .before .before .before .before .before .args .k) (conflict-rows (c .before .before .before .before .before .before .before .before .before .before .before .before .before .before .before .args .own .now)) (some (c .before .before .before .before .before .start .given .0 .0)) (ap (λ (t : site.Site). has-name (t .name) (skip-at (misuse-poison (c .before .before .before .before .before .before .before .before .before .before .before .before .before .before .before .args .own .now)) (site-row (c .before .before .before .before .before .before .before .before .before .before .before .before .before .before .before .args .own .now)) (c .before .before .before .before .before .before .before .before .before .before .before .before .before .before .before .args .k))) (sym (c .before .before .before .before .before .before .before .before .before .before .before .before .site-at .ensures)) ∙ sym (c .before .before .before .before .before .before .before .before .before .before .seen-before .ensures) ∙ c .before .before .before .before .before .before .before .before .before .if1 .left) (ap found-of (sym (c .before .before .before .before .before .start .given .1)) ∙ c .before .before .before .before .before .before .before .first-conflict .ensures ∙ ap (λ (t : site.Site). site.first-conflict [] (site.sites-of (t .name) (own-of (c .before .before .before .before .before .before .before .before .before .before .before .before .before .before .before .args .own .now) .sites))) (c .before .before .before .before .before .before .before .before .before .before .before .before .site-at .ensures)),
+      ∙ step-new (c .before .before .before .before .before .before .before .before .before .before .before .before .before .before .before .args .own .now) (c .before .before .before .before .before .before .before .before .before .before .before .before .before .before .before .args .k) (conflict-rows (c .before .before .before .before .before .before .before .before .before .before .before .before .before .before .before .args .own .now)) (some (c .before .before .before .before .before .start .given .0 .0)) (ap (λ (t : site.Site). has-name (t .name) (skip-at (misuse-poison (c .before .before .before .before .before .before .before .before .before .before .before .before .before .before .before .args .own .now)) (site-row (c .before .before .before .before .before .before .before .before .before .before .before .before .before .before .before .args .own .now)) (c .before .before .before .before .before .before .before .before .before .before .before .before .before .before .before .args .k))) (sym (c .before .before .before .before .before .before .before .before .before .before .before .before .site-at .ensures)) ∙ sym (c .before .before .before .before .before .before .before .before .before .before .seen-before .ensures) ∙ c .before .before .before .before .before .before .before .before .before .if1 .left) (ap found-of (sym (c .before .before .before .before .before .start .given .1)) ∙ c .before .before .before .before .before .before .before .first-conflict .ensures .0 (c .before .before .before .before .before .before .before .before .before .before .before .before .before .before .before .pre .0) ∙ ap (λ (t : site.Site). site.first-conflict [] (site.sites-of (t .name) (own-of (c .before .before .before .before .before .before .before .before .before .before .before .before .before .before .before .args .own .now) .sites))) (c .before .before .before .before .before .before .before .before .before .before .before .before .site-at .ensures)),
 )
 
 enum-told : tie.Need-enum-told
@@ -52,7 +52,7 @@ same-length-3 c = search needs
 
 returns-3 : tie.Need-returns-3
 unfolding own-of
-returns-3 c = (front-same (c .before .before .before .before .before .before .before .before .before .before .args .own .now), step-new (c .before .before .before .before .before .before .before .before .before .before .args .own .now) (c .before .before .before .before .before .before .before .before .before .before .args .k) (conflict-rows (c .before .before .before .before .before .before .before .before .before .before .args .own .now)) none (ap (λ (t : site.Site). has-name (t .name) (skip-at (misuse-poison (c .before .before .before .before .before .before .before .before .before .before .args .own .now)) (site-row (c .before .before .before .before .before .before .before .before .before .before .args .own .now)) (c .before .before .before .before .before .before .before .before .before .before .args .k))) (sym (c .before .before .before .before .before .before .before .site-at .ensures)) ∙ sym (c .before .before .before .before .before .seen-before .ensures) ∙ c .before .before .before .before .if1 .left) (ap found-of (sym (c .enum-told .given .1)) ∙ c .before .before .first-conflict .ensures ∙ ap (λ (t : site.Site). site.first-conflict [] (site.sites-of (t .name) (own-of (c .before .before .before .before .before .before .before .before .before .before .args .own .now) .sites))) (c .before .before .before .before .before .before .before .site-at .ensures)))
+returns-3 c = (front-same (c .before .before .before .before .before .before .before .before .before .before .args .own .now), step-new (c .before .before .before .before .before .before .before .before .before .before .args .own .now) (c .before .before .before .before .before .before .before .before .before .before .args .k) (conflict-rows (c .before .before .before .before .before .before .before .before .before .before .args .own .now)) none (ap (λ (t : site.Site). has-name (t .name) (skip-at (misuse-poison (c .before .before .before .before .before .before .before .before .before .before .args .own .now)) (site-row (c .before .before .before .before .before .before .before .before .before .before .args .own .now)) (c .before .before .before .before .before .before .before .before .before .before .args .k))) (sym (c .before .before .before .before .before .before .before .site-at .ensures)) ∙ sym (c .before .before .before .before .before .seen-before .ensures) ∙ c .before .before .before .before .if1 .left) (ap found-of (sym (c .enum-told .given .1)) ∙ c .before .before .first-conflict .ensures .0 (c .before .before .before .before .before .before .before .before .before .before .pre .0) ∙ ap (λ (t : site.Site). site.first-conflict [] (site.sites-of (t .name) (own-of (c .before .before .before .before .before .before .before .before .before .before .args .own .now) .sites))) (c .before .before .before .before .before .before .before .site-at .ensures)))
 
 pub take-conflict-spec : {M : Type 1} → statement M
 take-conflict-spec =
