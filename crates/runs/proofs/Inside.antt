@@ -1,23 +1,26 @@
 -- Where the code cuts runs out of a form: behind the bounds of a `repeat`, and behind the words `then` and `else`. On what shows an
--- item these are runs, and their items are those of the decoded item.
+-- item these are the runs of its items.
 -- Assumes nothing.
-use mathlib.Core.Path.{_≡_, refl, sym, _∙_, ap}
+use mathlib.Core.Path.{_≡_, refl, sym, _∙_, ap, ap₂}
+use mathlib.Core.Bool.{true, _&&_}
 use mathlib.Core.List.{List, [], _∷_, _++_}
-use Prim.Native.Nat.{ℕ, zero, suc, _+_, _-_, _≤_, _<_}
+use Prim.Native.Nat.{ℕ, zero, suc, _+_, _-_, _≤_, _<_, min}
 use native.Mathlib.Omega.{arith}
-use lib.ListN.{length, take, drop, length-take}
-use lib.Seq.{take-at, drop-at, drop-drop}
-use Rattle.spec.specs.Bytes.{Bytes, bytes, lookup-word, number, onto, parts-from, parts, show-number, show-rest, show-form}
-use Rattle.spec.specs.Syntax.{Expr, Item, Items, repeat, const-if}
+use lib.ListN.{length, take, drop, length-take, length-drop, length-append}
+use lib.Seq.{take-at, drop-at, drop-drop, take-nil, drop-nil}
+use lib.Dec.{ltb}
+use borrow.Author.Tests.{ltb-true}
+use Rattle.spec.specs.Bytes.{Bytes, bytes, onto, parts-from, show-number, show-rest, show-form}
+use Rattle.spec.specs.Syntax.{name-bound, Expr, Items, repeat, const-if}
 use Rattle.spec.specs.Show.{show-expr, show-item, show-items}
-use Rattle.spec.specs.Decode.{depth-limit, by-head, ItemHead, repeat-head, const-if-head, no-item, item-heads, decode-expr, items-by, items-in, repeat-by, item-by, decode-item}
-use Rattle.spec.specs.Refusal.{item-depth, items-depth}
-use Rattle.spec.proofs.Parts.{before, Part, Parts, word-part, number-part, form-part, form-parts}
-use Rattle.spec.proofs.Shown.{expr-shown, item-shown, items-shown}
+use Rattle.spec.specs.Refusal.{expr-depth, item-depth, expr-in-range, item-in-range, items-in-range}
+use Rattle.spec.proofs.Nodes.{and-parts}
+use Rattle.spec.proofs.Parts.{before, Part, word-part, number-part, form-part}
+use Rattle.spec.proofs.Shown.{expr-shown, items-shown}
 use Rattle.lines.specs.Parts.{scan, piece, next-end}
 use Rattle.lines.proofs.PartLaws.{scan-le, cut, parts-after, parts-cut}
-use Rattle.runs.specs.Run.{run-items, Runs}
-use Rattle.runs.proofs.Run.{rest-runs, rest-items}
+use Rattle.runs.specs.Run.{head-end, first-end, second-end, third-end, ShowsItem, RunOf}
+use Rattle.runs.proofs.Run.{rest-run}
 
 -- ---- the places of shown parts
 
@@ -60,139 +63,137 @@ placed s e b {x} xs p q =
       follows = sym (drop-drop (scan 0 (drop (e + 1) s)) (e + 1) s) ∙ rw (n, r) (drop-at x (show-rest xs) (length x) refl);
     }
 
--- ---- the decoded item, by its head word and its parts
+-- what follows a part that has others behind it
+pub rest-first : (x : Bytes) (xs : List Bytes) → show-rest (x ∷ xs) ≡ 32 ∷ x ++ show-rest xs
+unfolding show-rest
+rest-first x xs = refl
 
--- the items of `(then I...)` or `(else I...)`, that form being n brackets below the limit
-abbrev pub block-items : Bytes → ℕ → Bytes → Items
-block-items w zero s = Items.none
-block-items w (suc n) s = items-in w (decode-item n) s
+-- a part that others or the last bracket follow ends in the form
+rest-some : (xs : List Bytes) → 0 < length (show-rest xs)
+unfolding show-rest
+rest-some [] = omega arith
+rest-some (x ∷ xs) = omega arith
 
-pub item-parts : (n : ℕ) (s w : Bytes) (ps : List Bytes) (h : ItemHead) → parts s ≡ w ∷ ps → lookup-word item-heads no-item w ≡ h
-    → decode-item (suc n) s ≡ item-by n (decode-item n) (block-items (bytes "then") n) (block-items (bytes "else") n) h ps
-unfolding decode-item by-head
-item-parts zero s w ps h e f = rw (e, by-head, f)
-item-parts (suc n) s w ps h e f = rw (e, by-head, f)
-
--- s shows an item that is at most d brackets deep, and d is not past the limit
-pub record Shows (d : ℕ) (s : Bytes) : Type 0 where
-  pub item : Item
-  pub shown : s ≡ show-item item
-  pub deep : item-depth item ≤ d
-  pub within : d ≤ depth-limit
-
--- what is shown is what is decoded
-pub shows-decoded : {d : ℕ} {s : Bytes} (p : Shows d s) → decode-item d s ≡ p .item
-shows-decoded {d} p = rw (p .shown) (item-shown (p .item) .item .back d (p .deep))
-
--- an item that is decoded shows these bytes
-decoded-shows : {d : ℕ} {s : Bytes} (p : Shows d s) (i : Item) → decode-item d s ≡ i → (s ≡ show-item i) × (item-depth i ≤ d)
-decoded-shows {d} p i e =
-    let q : p .item ≡ i = sym (shows-decoded p) ∙ e in
-    (p .shown ∙ ap show-item q, rw q at (p .deep))
+end-inside : (s : Bytes) (e : ℕ) (xs : List Bytes) → drop e s ≡ show-rest xs → e < length s
+end-inside s e xs q = omega (arith, ap length q, rest-some xs, length-drop e s)
 
 -- ---- `repeat`
 
--- where the third part behind the head word ends
-unfoldable pub third-end : Bytes → ℕ
-third-end s = next-end s (next-end s (next-end s (next-end s 0)))
+-- the parts of a `repeat`, each where it stands, and the run behind its bounds
+pub record InRepeat (x : Bytes) (d n : ℕ) (low high : Expr) (is : Items) : Type 0 where
+  pub deeper : 0 < d
+  pub ends : (head-end x < length x) × (first-end x < length x) × (second-end x < length x) × (third-end x < length x)
+  pub name : piece x (head-end x) (first-end x) ≡ show-number n
+  pub named : n < name-bound
+  pub low-shown : piece x (first-end x) (second-end x) ≡ show-expr low
+  pub low-deep : expr-depth low ≤ d - 1
+  pub low-ranged : expr-in-range low ≡ true
+  pub high-shown : piece x (second-end x) (third-end x) ≡ show-expr high
+  pub high-deep : expr-depth high ≤ d - 1
+  pub high-ranged : expr-in-range high ≡ true
+  pub body : RunOf (d - 1) (drop (third-end x) x) is
 
-shown-repeat : (n : ℕ) (l h : Expr) (is : Items) → drop (third-end (show-item (repeat n l h is))) (show-item (repeat n l h is)) ≡ show-rest (show-items is)
-unfolding third-end show-item show-form show-rest
-shown-repeat n l h is =
-    let s = show-item (repeat n l h is) in
-    let p = placed s 0 40 (show-number n ∷ show-expr l ∷ show-expr h ∷ show-items is) (word-part (bytes "repeat") (omega arith)) refl in
-    let q = placed s (next-end s 0) 32 (show-expr l ∷ show-expr h ∷ show-items is) (number-part n) (p .follows) in
-    let r = placed s (next-end s (next-end s 0)) 32 (show-expr h ∷ show-items is) (expr-shown l .part) (q .follows) in
-    placed s (next-end s (next-end s (next-end s 0))) 32 (show-items is) (expr-shown h .part) (r .follows) .follows
-
--- the run behind the bounds of a `repeat` whose items are d brackets below the limit
-pub record InRepeat (d : ℕ) (s : Bytes) (ps : List Bytes) : Type 0 where
-  pub run : Runs d (drop (third-end s) s)
-  pub items : items-by (decode-item d) ps ≡ run-items d (drop (third-end s) s)
-
-is-repeat : (d : ℕ) (a l h : Bytes) (ps : List Bytes)
-    → item-by d (decode-item d) (block-items (bytes "then") d) (block-items (bytes "else") d) repeat-head (a ∷ l ∷ h ∷ ps) ≡ repeat (number a) (decode-expr d l) (decode-expr d h) (items-by (decode-item d) ps)
-unfolding item-by repeat-by
-is-repeat d a l h ps = refl
-
-repeat-under : (n : ℕ) (l h : Expr) (is : Items) (d : ℕ) → item-depth (repeat n l h is) ≤ suc d → items-depth is ≤ d
-unfolding item-depth
-repeat-under n l h is d e = omega arith
-
-pub repeat-inside : (d : ℕ) (s : Bytes) → Shows (suc d) s → {w a l h : Bytes} {ps : List Bytes} → parts s ≡ w ∷ a ∷ l ∷ h ∷ ps
-    → lookup-word item-heads no-item w ≡ repeat-head → InRepeat d s ps
-repeat-inside d s p {w} {a} {l} {h} {ps} e f =
-    let is = items-by (decode-item d) ps in
-    let i = repeat (number a) (decode-expr d l) (decode-expr d h) is in
-    let q = decoded-shows p i (item-parts d s w (a ∷ l ∷ h ∷ ps) repeat-head e f ∙ is-repeat d a l h ps) in
-    let k = p .within in
-    let g : items-depth is ≤ d = repeat-under (number a) (decode-expr d l) (decode-expr d h) is d (q .1) in
-    let r : drop (third-end s) s ≡ show-rest (show-items is) = rw (q .0) (shown-repeat (number a) (decode-expr d l) (decode-expr d h) is) in
+pub in-repeat : (x : Bytes) (d n : ℕ) (low high : Expr) (is : Items) → ShowsItem x d (repeat n low high is) → InRepeat x d n low high is
+unfolding show-item show-form item-depth item-in-range
+in-repeat x d n low high is h =
+    let e : drop 0 x ≡ 40 ∷ bytes "repeat" ++ show-rest (show-number n ∷ show-expr low ∷ show-expr high ∷ show-items is) = h .shown in
+    let p = placed x 0 40 (show-number n ∷ show-expr low ∷ show-expr high ∷ show-items is) (word-part (bytes "repeat") (omega arith)) e in
+    let q = placed x (head-end x) 32 (show-expr low ∷ show-expr high ∷ show-items is) (number-part n) (p .follows ∙ rest-first _ _) in
+    let r = placed x (first-end x) 32 (show-expr high ∷ show-items is) (expr-shown low .part) (q .follows ∙ rest-first _ _) in
+    let t = placed x (second-end x) 32 (show-items is) (expr-shown high .part) (r .follows ∙ rest-first _ _) in
+    let deep = h .deep in
+    let limit = h .within in
+    let a = and-parts (ltb n name-bound && expr-in-range low && expr-in-range high) (items-in-range is) (h .ranged) in
+    let b = and-parts (ltb n name-bound && expr-in-range low) (expr-in-range high) (a .0) in
+    let c = and-parts (ltb n name-bound) (expr-in-range low) (b .0) in
     record {
-      run = rw r (rest-runs d is g (omega arith));
-      items = sym (ap (run-items d) r ∙ rest-items d is g (omega arith));
+      deeper = omega arith;
+      ends = (end-inside x (head-end x) _ (p .follows), end-inside x (first-end x) _ (q .follows), end-inside x (second-end x) _ (r .follows), end-inside x (third-end x) _ (t .follows));
+      name = q .here;
+      named = ltb-true n name-bound (c .0);
+      low-shown = r .here;
+      low-deep = omega arith;
+      low-ranged = c .1;
+      high-shown = t .here;
+      high-deep = omega arith;
+      high-ranged = b .1;
+      body = rw (t .follows) (rest-run is (a .1) (d - 1) (omega arith) (omega arith));
     }
 
 -- ---- `constif`
 
-is-const-if : (d : ℕ) (c a b : Bytes)
-    → item-by d (decode-item d) (block-items (bytes "then") d) (block-items (bytes "else") d) const-if-head (c ∷ a ∷ b ∷ [])
-    ≡ const-if (decode-expr d c) (block-items (bytes "then") d a) (block-items (bytes "else") d b)
-unfolding item-by
-is-const-if d c a b = refl
+drop-take : (n m : ℕ) (l : Bytes) → drop n (take m l) ≡ take (m - n) (drop n l)
+drop-take zero m l = let z : m ≡ m - 0 = omega arith in ap (λ (x : ℕ). take x l) z
+drop-take (suc n) zero l = drop-nil (suc n) ∙ let z : 0 ≡ 0 - suc n = omega arith in ap (λ (x : ℕ). take x (drop (suc n) l)) z
+drop-take (suc n) (suc m) [] = sym (take-nil (suc m - suc n))
+drop-take (suc n) (suc m) (c ∷ l) = drop-take n m l ∙ let z : m - n ≡ suc m - suc n = omega arith in ap (λ (x : ℕ). take x (drop n l)) z
 
-if-under : (c : Expr) (is js : Items) (d : ℕ) → item-depth (const-if c is js) ≤ suc d → (0 < d) × (items-depth is < d) × (items-depth js < d)
-unfolding item-depth
-if-under c is js d e = (omega arith, omega arith, omega arith)
+-- what stands behind the first n bytes of a part
+piece-later : (s : Bytes) (b n e : ℕ) → piece s (b + n) e ≡ drop n (piece s b e)
+unfolding piece
+piece-later s b n e =
+    let k : e - (b + n + 1) ≡ e - (b + 1) - n = omega arith in
+    let j : b + n + 1 ≡ b + 1 + n = omega arith in
+    ap₂ (λ (u v : ℕ). take u (drop v s)) k j ∙ ap (take (e - (b + 1) - n)) (sym (drop-drop n (b + 1) s)) ∙ sym (drop-take n (e - (b + 1)) (drop (b + 1) s))
 
-shown-if : (c : Expr) (is js : Items)
-    → parts (show-item (const-if c is js)) ≡ bytes "constif" ∷ show-expr c ∷ show-form (bytes "then") (show-items is) ∷ show-form (bytes "else") (show-items js) ∷ []
-unfolding show-item
-shown-if c is js =
-    let q = form-part (word-part (bytes "then") (omega arith)) (items-shown is .parts) _ refl in
-    let r = form-part (word-part (bytes "else") (omega arith)) (items-shown js .parts) _ refl in
-    form-parts (word-part (bytes "constif") (omega arith)) (Parts.more (expr-shown c .part) (Parts.more q (Parts.more r Parts.none)))
+piece-length : (s : Bytes) (e f : ℕ) → length (piece s e f) ≡ min (f - (e + 1)) (length s - (e + 1))
+unfolding piece
+piece-length s e f = length-take (f - (e + 1)) (drop (e + 1) s) ∙ ap (min (f - (e + 1))) (length-drop (e + 1) s)
 
--- the run of a branch, behind its word
-branch-rest : (w : Bytes) → length w ≡ 4 → (is : Items) → drop 5 (show-form w (show-items is)) ≡ show-rest (show-items is)
+-- the run of a branch, behind its word, and that it lies in the form
+record Branch (s : Bytes) (e : ℕ) (is : Items) : Type 0 where
+  inside : e + 5 ≤ next-end s e
+  run : piece s (e + 5) (next-end s e) ≡ show-rest (show-items is)
+
+branch : (s : Bytes) (e : ℕ) (w : Bytes) → length w ≡ 4 → (is : Items) → piece s e (next-end s e) ≡ show-form w (show-items is) → Branch s e is
 unfolding show-form
-branch-rest w e is = drop-at (40 ∷ w) (show-rest (show-items is)) 5 (ap suc e)
+branch s e w l is p =
+    let f = next-end s e in
+    let n : length (piece s e f) ≡ suc (length w + length (show-rest (show-items is))) = ap length p ∙ ap suc (length-append w (show-rest (show-items is))) in
+    let m = piece-length s e f in
+    record {
+      inside = omega arith;
+      run = piece-later s e 5 f ∙ ap (drop 5) p ∙ drop-at (40 ∷ w) (show-rest (show-items is)) 5 (ap suc l);
+    }
 
--- the runs of the branches of a `constif` whose items are d brackets below the limit
-pub record InConstIf (d : ℕ) (a b : Bytes) : Type 0 where
-  pub then-run : Runs d (drop 5 a)
-  pub then-items : items-in (bytes "then") (decode-item d) a ≡ run-items d (drop 5 a)
-  pub else-run : Runs d (drop 5 b)
-  pub else-items : items-in (bytes "else") (decode-item d) b ≡ run-items d (drop 5 b)
+-- the condition of a `constif`, and the runs of its branches
+pub record InConstIf (x : Bytes) (d : ℕ) (c : Expr) (is js : Items) : Type 0 where
+  pub deeper : 1 < d
+  pub ends : (head-end x < length x) × (first-end x < length x) × (second-end x < length x) × (third-end x < length x)
+  pub shown : piece x (head-end x) (first-end x) ≡ show-expr c
+  pub deep : expr-depth c ≤ d - 1
+  pub ranged : expr-in-range c ≡ true
+  pub then-inside : first-end x + 5 ≤ second-end x
+  pub then-run : RunOf (d - 2) (piece x (first-end x + 5) (second-end x)) is
+  pub else-inside : second-end x + 5 ≤ third-end x
+  pub else-run : RunOf (d - 2) (piece x (second-end x + 5) (third-end x)) js
 
-pub const-if-inside : (d : ℕ) (s : Bytes) → Shows (suc d) s → {w c a b : Bytes} → parts s ≡ w ∷ c ∷ a ∷ b ∷ []
-    → lookup-word item-heads no-item w ≡ const-if-head → (m : ℕ) × (d ≡ suc m) × InConstIf m a b
-const-if-inside zero s p {w} {c} {a} {b} e f =
-    let i = const-if (decode-expr 0 c) Items.none Items.none in
-    let q = decoded-shows p i (item-parts 0 s w (c ∷ a ∷ b ∷ []) const-if-head e f ∙ is-const-if 0 c a b) in
-    absurd (omega (arith, if-under (decode-expr 0 c) Items.none Items.none 0 (q .1) .0))
-const-if-inside (suc m) s p {w} {c} {a} {b} e f =
-    let is = items-in (bytes "then") (decode-item m) a in
-    let js = items-in (bytes "else") (decode-item m) b in
-    let x = decode-expr (suc m) c in
-    let q = decoded-shows p (const-if x is js) (item-parts (suc m) s w (c ∷ a ∷ b ∷ []) const-if-head e f ∙ is-const-if (suc m) c a b) in
-    let u = if-under x is js (suc m) (q .1) in
-    let k = p .within in
-    let all : w ∷ c ∷ a ∷ b ∷ [] ≡ bytes "constif" ∷ show-expr x ∷ show-form (bytes "then") (show-items is) ∷ show-form (bytes "else") (show-items js) ∷ [] =
-    sym e ∙ ap parts (q .0) ∙ shown-if x is js in
-    let ea : a ≡ show-form (bytes "then") (show-items is) = cc in
-    let eb : b ≡ show-form (bytes "else") (show-items js) = cc in
-    let ra : drop 5 a ≡ show-rest (show-items is) = ap (drop 5) ea ∙ branch-rest (bytes "then") refl is in
-    let rb : drop 5 b ≡ show-rest (show-items js) = ap (drop 5) eb ∙ branch-rest (bytes "else") refl js in
-    let ga : items-depth is ≤ m = omega arith in
-    let gb : items-depth js ≤ m = omega arith in
-    let km : m ≤ depth-limit = omega arith in (
-      m,
-      refl,
-      record {
-        then-run = rw ra (rest-runs m is ga km);
-        then-items = sym (ap (run-items m) ra ∙ rest-items m is ga km);
-        else-run = rw rb (rest-runs m js gb km);
-        else-items = sym (ap (run-items m) rb ∙ rest-items m js gb km);
-      },
-    )
+pub in-const-if : (x : Bytes) (d : ℕ) (c : Expr) (is js : Items) → ShowsItem x d (const-if c is js) → InConstIf x d c is js
+unfolding show-item show-form item-depth item-in-range
+in-const-if x d c is js h =
+    let a = show-form (bytes "then") (show-items is) in
+    let b = show-form (bytes "else") (show-items js) in
+    let pa = form-part (word-part (bytes "then") (omega arith)) (items-shown is .parts) _ refl in
+    let pb = form-part (word-part (bytes "else") (omega arith)) (items-shown js .parts) _ refl in
+    let e : drop 0 x ≡ 40 ∷ bytes "constif" ++ show-rest (show-expr c ∷ a ∷ b ∷ []) = h .shown in
+    let p = placed x 0 40 (show-expr c ∷ a ∷ b ∷ []) (word-part (bytes "constif") (omega arith)) e in
+    let q = placed x (head-end x) 32 (a ∷ b ∷ []) (expr-shown c .part) (p .follows ∙ rest-first _ _) in
+    let r = placed x (first-end x) 32 (b ∷ []) pa (q .follows ∙ rest-first _ _) in
+    let t = placed x (second-end x) 32 [] pb (r .follows ∙ rest-first _ _) in
+    let u = branch x (first-end x) (bytes "then") refl is (r .here) in
+    let v = branch x (second-end x) (bytes "else") refl js (t .here) in
+    let deep = h .deep in
+    let limit = h .within in
+    let f = and-parts (expr-in-range c && items-in-range is) (items-in-range js) (h .ranged) in
+    let g = and-parts (expr-in-range c) (items-in-range is) (f .0) in
+    record {
+      deeper = omega arith;
+      ends = (end-inside x (head-end x) _ (p .follows), end-inside x (first-end x) _ (q .follows), end-inside x (second-end x) _ (r .follows), end-inside x (third-end x) _ (t .follows));
+      shown = q .here;
+      deep = omega arith;
+      ranged = g .0;
+      then-inside = u .inside;
+      then-run = rw (u .run) (rest-run is (g .1) (d - 2) (omega arith) (omega arith));
+      else-inside = v .inside;
+      else-run = rw (v .run) (rest-run js (f .1) (d - 2) (omega arith) (omega arith));
+    }

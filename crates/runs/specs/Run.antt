@@ -6,13 +6,14 @@ use mathlib.Core.Path.{_≡_}
 use mathlib.Core.Bool.{true, false}
 use mathlib.Core.List.{List, [], _∷_, _++_}
 use Prim.Native.Nat.{ℕ, zero, suc, _+_, _≤_}
-use lib.ListN.{length, take, drop}
+use lib.ListN.{drop}
 use lib.Dec.{eqb}
 use Rattle.spec.specs.Bytes.{Bytes}
 use Rattle.spec.specs.Syntax.{Item, Items}
 use Rattle.spec.specs.Show.{show-item, show-items}
-use Rattle.spec.specs.Decode.{depth-limit, items-by, decode-item}
+use Rattle.spec.specs.Decode.{depth-limit}
 use Rattle.spec.specs.Refusal.{one-form, item-depth, items-depth, item-in-range, items-in-range}
+use Rattle.lines.specs.Parts.{next-end}
 
 -- how many bytes there are to the end of the form that stands first, its last bracket included, k brackets being open in it
 unfoldable pub form-length : ℕ → Bytes → ℕ
@@ -26,35 +27,27 @@ form-length k (c ∷ s) =
       ]
     ]
 
--- the bytes of the items of a run; `fuel` is at least the number of its bytes
-unfoldable pub run-split : ℕ → Bytes → List Bytes
-run-split zero s = []
-run-split (suc fuel) [] = []
-run-split (suc fuel) (b ∷ []) = []
-run-split (suc fuel) (b ∷ c ∷ s) = take (form-length 0 (c ∷ s)) (c ∷ s) ∷ run-split fuel (drop (form-length 0 (c ∷ s)) (c ∷ s))
+-- where the item ends that stands behind the byte at `at`
+unfoldable pub item-end : Bytes → ℕ → ℕ
+item-end s at = at + 1 + form-length 0 (drop (at + 1) s)
 
-unfoldable pub run-parts : Bytes → List Bytes
-run-parts s = run-split (length s) s
+-- where the head word of a form ends, and the parts behind it
+abbrev pub head-end : Bytes → ℕ
+head-end x = next-end x 0
 
--- the items of a run, each at most d brackets deep
-unfoldable pub run-items : ℕ → Bytes → Items
-run-items d s = items-by (decode-item d) (run-parts s)
+abbrev pub first-end : Bytes → ℕ
+first-end x = next-end x (head-end x)
+
+abbrev pub second-end : Bytes → ℕ
+second-end x = next-end x (first-end x)
+
+abbrev pub third-end : Bytes → ℕ
+third-end x = next-end x (second-end x)
 
 -- s is a run of these forms
 pub data Run : Bytes → List Bytes → Type 0 where
   last : (b : ℕ) → Run (b ∷ []) []
   next : (b : ℕ) {x s : Bytes} {xs : List Bytes} → one-form x ≡ true → Run s xs → Run (b ∷ x ++ s) (x ∷ xs)
-
--- s is a run of what shows items that are at most d brackets deep
-pub record Runs (d : ℕ) (s : Bytes) : Type 0 where
-  pub items : Items
-  pub deep : items-depth items ≤ d
-  pub within : d ≤ depth-limit
-  pub run : Run s (show-items items)
-
--- where the item ends that stands behind the byte at `at`
-unfoldable pub item-end : Bytes → ℕ → ℕ
-item-end s at = at + 1 + form-length 0 (drop (at + 1) s)
 
 -- the bytes x show the item i, which is in range and at most d brackets deep, and d is not past the limit
 pub record ShowsItem (x : Bytes) (d : ℕ) (i : Item) : Type 0 where

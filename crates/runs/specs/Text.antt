@@ -1,31 +1,30 @@
--- Where the items of a module stand in a text that shows a design. 01: The line.
+-- Where the lines of a module stand in an accepted text, and what is known of them. 01: The line; Refused because of the text.
 -- Assumes nothing: these are definitions.
 use mathlib.Core.Path.{_≡_}
-use mathlib.Core.List.{List, [], _∷_, _++_}
-use Prim.Native.Nat.{ℕ, zero, suc, _≤_}
+use mathlib.Core.Bool.{Bool, true, _&&_}
+use mathlib.Core.List.{List, [], _∷_}
+use Prim.Native.Nat.{ℕ, _+_, _*_, _-_, _≤_, _<_}
+use lib.ListN.{length, getD, take, drop}
 use Rattle.spec.specs.Bytes.{Bytes}
-use Rattle.spec.specs.Syntax.{Module, Design, Line, module-line}
-use Rattle.spec.specs.Show.{show-line, header-lines, item-lines, show-lines}
+use Rattle.spec.specs.Syntax.{Header, Module, header-line}
 use Rattle.spec.specs.Decode.{depth-limit}
-use Rattle.spec.specs.Refusal.{items-depth}
+use Rattle.spec.specs.Refusal.{text-limit, line-in-range, items-depth, items-in-range}
+use Rattle.lines.specs.Saying.{Placed}
 
--- lines with line feeds between them and none behind the last
-unfoldable pub feeds-between : Line → List Line → Bytes
-feeds-between l [] = show-line l
-feeds-between l (m ∷ ls) = show-line l ++ 10 ∷ feeds-between m ls
+-- 01, Refused because of the text: no number of a header is out of range
+unfoldable pub header-in-range : List Header → Bool
+header-in-range [] = true
+header-in-range (h ∷ hs) = line-in-range (header-line h) && header-in-range hs
 
--- the run of a module's items, from the line feed before the first to that behind the last
-unfoldable pub module-run : Module → Bytes
-module-run k = 10 ∷ show-lines (item-lines (k .items) [])
-
--- what stands before that run: the module's line and header, and all of the modules before it; n is the number of the first
-unfoldable pub run-before : ℕ → List Module → ℕ → Bytes
-run-before n [] m = []
-run-before n (k ∷ ks) zero = feeds-between (module-line n (k .bound)) (header-lines (k .header) [])
-run-before n (k ∷ ks) (suc m) = feeds-between (module-line n (k .bound)) (header-lines (k .header) []) ++ (module-run k ++ run-before (suc n) ks m)
-
--- module k stands in the text as number m
-pub record Stands (text : Bytes) (d : Design) (m : ℕ) (k : Module) : Type 0 where
-  pub behind : Bytes
-  pub placed : text ≡ run-before 0 d m ++ (module-run k ++ behind)
+-- module k is number m of an accepted text whose table of places is `mods`
+pub record ModuleAt (text : Bytes) (mods : List ℕ) (m : ℕ) (k : Module) : Type 0 where
+  pub short : length text ≤ text-limit
+  pub placed : Placed text mods m k
+  pub before : 0 < getD mods (m * 4 + 2) 0
+  pub header-ranged : header-in-range (k .header) ≡ true
+  pub ranged : items-in-range (k .items) ≡ true
   pub deep : items-depth (k .items) ≤ depth-limit
+
+-- the run of the items of module m, from the byte before the first to the line feed behind the last
+abbrev pub items-run : Bytes → List ℕ → ℕ → Bytes
+items-run text mods m = take (getD mods (m * 4 + 3) 0 - (getD mods (m * 4 + 2) 0 - 1)) (drop (getD mods (m * 4 + 2) 0 - 1) text)

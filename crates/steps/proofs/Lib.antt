@@ -1,0 +1,4 @@
+pub mod HeadLaws
+pub mod Ways
+pub mod StepLaws
+pub mod ModuleLaws

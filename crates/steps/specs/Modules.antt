@@ -1,0 +1,48 @@
+-- The name table of a module, filled from its lines of an accepted text. 01: The value.
+-- Assumes nothing: these are definitions.
+use mathlib.Core.Path.{_≡_}
+use mathlib.Core.Bool.{true, false}
+use mathlib.Core.List.{List}
+use Prim.Native.Nat.{ℕ, _+_, _-_, _*_, _/_, _≤_}
+use lib.ListN.{length, getD, take, drop}
+use Rattle.spec.specs.Bytes.{Bytes}
+use Rattle.spec.specs.Value.{Table}
+use Rattle.consteval.specs.Worth.{names-of}
+use Rattle.consteval.specs.Fill.{Filling, fill-of}
+use Rattle.consteval.specs.declared.fill.Filled.{Filled}
+use Rattle.consteval.specs.declared.fill.Filled.the-variants as filled
+use Rattle.steps.specs.declared.modules.Named.{Named}
+use Rattle.steps.specs.declared.modules.Named.the-variants.{Used, Outside}
+
+-- places for a name table: two for each `val` and `const` line that a text has room for (3,276, since each has 10 bytes or more), and for
+-- each of 32 repeats that are open one in the other
+abbrev pub name-places : ℕ
+name-places = 6616
+
+-- the lines of the header and of the items of module m
+abbrev pub header-part : Bytes → List ℕ → ℕ → Bytes
+header-part text mods m = take (getD mods (m * 4 + 2) 0 - getD mods (m * 4 + 1) 0) (drop (getD mods (m * 4 + 1) 0) text)
+
+abbrev pub items-part : Bytes → List ℕ → ℕ → Bytes
+items-part text mods m = take (getD mods (m * 4 + 3) 0 - getD mods (m * 4 + 2) 0) (drop (getD mods (m * 4 + 2) 0) text)
+
+-- what filling the table answers and leaves; of an accepted text with places enough there is no other answer than these two
+abbrev pub to-named : Filled → Named
+to-named (filled.Used n) = Used n
+to-named filled.Outside = Outside
+to-named filled.Short = Outside
+to-named filled.Bad = Outside
+
+abbrev pub module-fill : Bytes → List ℕ → ℕ → List ℕ → Filling
+module-fill text mods m names = fill-of (header-part text mods m) (items-part text mods m) names
+
+abbrev pub named-by : Bytes → List ℕ → ℕ → List ℕ → Named
+named-by text mods m names = to-named (module-fill text mods m names .answer)
+
+abbrev pub table-by : Bytes → List ℕ → ℕ → List ℕ → List ℕ
+table-by text mods m names = module-fill text mods m names .table
+
+-- 01, The value: the table is the module's name table, with room for 32 pairs more; or a constant is outside INT
+abbrev pub NamesAre : Named → List ℕ → Table → Type 0
+NamesAre (Used u) t T = (names-of t u ≡ T .names) × (T .out ≡ false) × (u + 32 ≤ length t / 2)
+NamesAre Outside t T = T .out ≡ true
