@@ -9,11 +9,13 @@ use lib.IntN.{ℤ, pos, negsuc}
 use lib.Dec.{eqb, ltb, leb}
 use lib.ListN.{length, getD, set, take, drop}
 use lib.Seq.{sets}
+use Rattle.spec.specs.Syntax.{name-bound}
 use Rattle.spec.specs.Refusal.{has-name}
 use Rattle.spec.specs.Value.{Value, known, missing}
 use Rattle.spec.specs.Site as site
 use Rattle.spec.specs.Site.{Misused, Conflict, misused-names, conflict-names}
 use Rattle.spec.specs.Block.{Pair, Storage, has-pair}
+use Rattle.spec.specs.Check.{site-limit, pair-limit}
 use Rattle.sites.specs.declared.Extent.{Extent}
 use Rattle.sites.specs.declared.Extent.the-variants as extent
 use Rattle.sites.specs.declared.Site.{Site}
@@ -56,32 +58,32 @@ pub record Table : Type 0 where
 
 -- how many names there are at most
 abbrev pub names : ℕ
-names = 256
+names = name-bound
 
 abbrev pub site-table : Table
-site-table = record { count = 0; base = 8; width = 5; limit = 1024 }
+site-table = record { count = 0; base = 8; width = 5; limit = site-limit }
 
 abbrev pub pair-table : Table
-pair-table = record { count = 1; base = 5128; width = 2; limit = 512 }
+pair-table = record { count = 1; base = 8 + 5 * site-limit; width = 2; limit = pair-limit }
 
 abbrev pub port-table : Table
-port-table = record { count = 2; base = 6152; width = 4; limit = names }
+port-table = record { count = 2; base = 8 + 5 * site-limit + 2 * pair-limit; width = 4; limit = names }
 
 abbrev pub reg-table : Table
-reg-table = record { count = 3; base = 6152 + 4 * names; width = 2; limit = names }
+reg-table = record { count = 3; base = port-table .base + 4 * names; width = 2; limit = names }
 
 abbrev pub mem-table : Table
-mem-table = record { count = 4; base = 6152 + 6 * names; width = 2; limit = names }
+mem-table = record { count = 4; base = port-table .base + 6 * names; width = 2; limit = names }
 
 abbrev pub misuse-table : Table
-misuse-table = record { count = 5; base = 6152 + 8 * names; width = 3; limit = names }
+misuse-table = record { count = 5; base = port-table .base + 8 * names; width = 3; limit = names }
 
 abbrev pub conflict-table : Table
-conflict-table = record { count = 6; base = 6152 + 11 * names; width = 2; limit = 1024 }
+conflict-table = record { count = 6; base = port-table .base + 11 * names; width = 2; limit = site-limit }
 
 -- how many numbers hold all the tables
 abbrev pub places : ℕ
-places = 8200 + 11 * names
+places = conflict-table .base + 2 * site-limit
 
 -- what f gives for i, i + 1 and so on, n in all
 unfoldable pub run : {A : Type 0} → (ℕ → A) → ℕ → ℕ → List A
@@ -226,8 +228,8 @@ first-kept f x l = elim (has-name (f x) (names-of f l)) [ true ↦ l | false ↦
 -- 01, Refused because of the state: 1,024 sites, 512 pairs of name and block
 unfoldable pub add-site : site.Site → Own → Added
 add-site s o =
-    added (room 1024 (o .sites))
-    (record { sites = grown 1024 s (o .sites); pairs = o .pairs; outputs = o .outputs; regs = o .regs; mems = o .mems; misuses = o .misuses; conflicts = o .conflicts })
+    added (room site-limit (o .sites))
+    (record { sites = grown site-limit s (o .sites); pairs = o .pairs; outputs = o .outputs; regs = o .regs; mems = o .mems; misuses = o .misuses; conflicts = o .conflicts })
 
 abbrev pub with-pairs : List Pair → Own → Own
 with-pairs ps o = record { sites = o .sites; pairs = ps; outputs = o .outputs; regs = o .regs; mems = o .mems; misuses = o .misuses; conflicts = o .conflicts }
@@ -236,7 +238,7 @@ unfoldable pub add-pair : Pair → Own → Added
 add-pair p o =
     elim (has-pair p (o .pairs)) [
       | true ↦ added stored.Done o
-      | false ↦ added (room 512 (o .pairs)) (with-pairs (grown 512 p (o .pairs)) o)
+      | false ↦ added (room pair-limit (o .pairs)) (with-pairs (grown pair-limit p (o .pairs)) o)
     ]
 
 unfoldable pub add-output : Port → Own → Own
