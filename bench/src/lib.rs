@@ -3,4 +3,5 @@
 //! A module for each archive, and `timing`, which they share.
 pub mod consteval;
 pub mod graph;
+pub mod lines;
 pub mod timing;

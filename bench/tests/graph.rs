@@ -7,7 +7,7 @@ use bench::graph::{original, Head, Node, Report, EDGES, NODES};
 use compare::gen::rng::Rng;
 use std::collections::{HashMap, HashSet};
 
-const GRAPHS: u64 = 36_000;
+const GRAPHS: u64 = 12_000;
 const SEED: u64 = 1;
 
 /// Nodes of the smallest and the largest graph.

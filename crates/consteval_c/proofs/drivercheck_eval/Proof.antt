@@ -1,11 +1,15 @@
 -- `consteval_c::drivercheck_eval` meets its contract: what `eval` answers, coded. Assumes nothing.
+use mathlib.Core.Path.{ap, _∙_}
+use Rattle.spec.specs.Decode.{decode-expr}
+use Rattle.spec.specs.Value.{value}
+use Rattle.consteval.specs.Worth.{names-of}
 use Rattle.consteval_c.proofs.Laws.{known-code, other-code}
 use borrow.Author.Needs.{needs}
 use Rattle.consteval_c.proofs.drivercheck_eval.Statement.{statement}
 use Rattle.consteval_c.proofs.drivercheck_eval.Tie as tie
-use Rattle.consteval_c.proofs.drivercheck_eval.Reads as reads
-use Rattle.consteval_c.proofs.drivercheck_eval.Lts as lts
-use Rattle.consteval.proofs.eval.Reads as eval-reads
+
+bounded-requires : tie.Need-bounded-requires
+bounded-requires c κs = search needs
 
 eval-requires : tie.Need-eval-requires
 eval-requires c κs = search needs
@@ -23,18 +27,19 @@ enum-told-2 : tie.Need-enum-told-2
 enum-told-2 c = search needs
 
 returns : tie.Need-returns
-returns c = known-code _ (c .before .before .before .eval .result) _ (c .before .x .given .1) (c .before .before .before .eval .ensures)
+returns c = known-code _ (c .before .before .before .eval .result) _ (c .before .x .given .1) (c .before .before .before .eval .ensures ∙ ap (λ d. value (names-of (c .before .before .before .before .before .before .before .args .names .now) (c .before .before .before .before .before .before .before .args .used)) (decode-expr d (c .before .before .before .before .before .before .before .args .e .now))) (c .before .before .before .before .bounded .ensures))
 
 returns-2 : tie.Need-returns-2
-returns-2 c = other-code (c .before .before .eval .result) _ _ (c .enum-told .given .1) (c .before .before .eval .ensures)
+returns-2 c = other-code (c .before .before .eval .result) _ _ (c .enum-told .given .1) (c .before .before .eval .ensures ∙ ap (λ d. value (names-of (c .before .before .before .before .before .before .args .names .now) (c .before .before .before .before .before .before .args .used)) (decode-expr d (c .before .before .before .before .before .before .args .e .now))) (c .before .before .before .bounded .ensures))
 
 returns-3 : tie.Need-returns-3
-returns-3 c = other-code (c .before .before .eval .result) _ _ (c .enum-told2 .given .1) (c .before .before .eval .ensures)
+returns-3 c = other-code (c .before .before .eval .result) _ _ (c .enum-told2 .given .1) (c .before .before .eval .ensures ∙ ap (λ d. value (names-of (c .before .before .before .before .before .before .args .names .now) (c .before .before .before .before .before .before .args .used)) (decode-expr d (c .before .before .before .before .before .before .args .e .now))) (c .before .before .before .bounded .ensures))
 
 pub drivercheck-eval-spec : {M : Type 1} → statement M
 drivercheck-eval-spec =
     tie.close
     (tie.spec
+    bounded-requires
     eval-requires
     enum-known-x
     cast-result

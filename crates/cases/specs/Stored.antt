@@ -1,0 +1,105 @@
+-- A file of stored cases, and what is counted over it. compare/README.md: Stored cases.
+-- Assumes nothing: these are definitions.
+use mathlib.Core.Bool.{Bool, true, false}
+use mathlib.Core.List.{List, [], _∷_, _++_}
+use Prim.Native.Nat.{ℕ, zero, suc, _+_, _-_}
+use lib.Dec.{eqb, ltb}
+use lib.ListN.{length, getD, take, drop}
+use Rattle.spec.specs.Bytes.{Bytes, bytes, show-number, show-form}
+use Rattle.lines.specs.Parse.{key, wordAt}
+use Rattle.lines.specs.Parts.{part-end, piece}
+use Rattle.lines.specs.Read.{numberAfter}
+use Rattle.lines.specs.declared.parse.Number.{Number}
+use Rattle.lines.specs.declared.parse.Number.the-variants.{None, Is}
+use Rattle.cases.specs.Answer.{agrees}
+use Rattle.cases.specs.declared.record.Record.{Record}
+use Rattle.cases.specs.declared.record.Record.the-variants as stored
+use Rattle.cases.specs.declared.run.Tally.{Tally}
+
+pub record Case : Type 0 where
+  pub name : Bytes
+  pub text : Bytes
+  pub answer : Bytes
+
+-- the record of a case: a line `(case NAME TEXTLEN ANSWERLEN)`, the text, the answer
+unfoldable pub show-case : Case → Bytes
+show-case c =
+    show-form (bytes "case") (c .name ∷ show-number (length (c .text)) ∷ show-number (length (c .answer)) ∷ []) ++ 10 ∷ c .text ++ c .answer
+
+unfoldable pub show-cases : List Case → Bytes
+show-cases [] = []
+show-cases (c ∷ cs) = show-case c ++ show-cases cs
+
+-- `(case` stands at the head
+unfoldable pub caseKey : Bytes → Bool
+caseKey s = elim (eqb (getD s 0 0) 40) [ true ↦ eqb (wordAt s 1 .key) (key (bytes "case")) | false ↦ false ]
+
+-- a record whose text begins at `body`, where text and answer lie in the bytes
+unfoldable pub sized : Bytes → ℕ → ℕ → ℕ → ℕ → Record
+sized s name body text answer =
+    elim (ltb (length s) body) [
+      | true ↦ stored.Bad
+      | false ↦ elim (ltb (length s - body) text) [
+        | true ↦ stored.Bad
+        | false ↦ elim (ltb (length s - body - text) answer) [ true ↦ stored.Bad | false ↦ stored.Is name body text answer ]
+      ]
+    ]
+
+unfoldable pub closed : Bytes → ℕ → ℕ → ℕ → ℕ → Record
+closed s name at text answer =
+    elim (eqb (getD s at 0) 41) [
+      | true ↦ elim (eqb (getD s (at + 1) 0) 10) [ true ↦ sized s name (at + 2) text answer | false ↦ stored.Bad ]
+      | false ↦ stored.Bad
+    ]
+
+abbrev pub answered : Bytes → ℕ → ℕ → Number → Record
+answered s name text None = stored.Bad
+answered s name text (Is answer at) = closed s name at text answer
+
+abbrev pub texted : Bytes → ℕ → Number → Record
+texted s name None = stored.Bad
+texted s name (Is text at) = answered s name text (numberAfter s at)
+
+unfoldable pub named : Bytes → ℕ → Record
+named s name = texted s name (numberAfter s name)
+
+-- the record at the head of these bytes
+unfoldable pub recordOf : Bytes → Record
+recordOf s = elim (caseKey s) [ true ↦ named s (part-end s 6) | false ↦ stored.Bad ]
+
+-- what a file has: cases, and nothing else behind them
+pub record File : Type 0 where
+  pub cases : List Case
+  pub whole : Bool
+
+abbrev pub more-of : Case → File → File
+more-of c f = record { cases = c ∷ f .cases; whole = f .whole }
+
+abbrev pub case-at : Bytes → ℕ → ℕ → ℕ → ℕ → Case
+case-at s name body text answer = record { name = piece s 5 name; text = take text (drop body s); answer = take answer (drop (body + text) s) }
+
+unfoldable pub file-behind : (Bytes → File) → Bytes → Record → File
+file-behind rest s stored.Bad = record { cases = []; whole = false }
+file-behind rest s (stored.Is name body text answer) = more-of (case-at s name body text answer) (rest (drop (body + text + answer) s))
+
+-- at most `fuel` cases, of which a file has no more than bytes
+unfoldable pub file-within : ℕ → Bytes → File
+file-within zero s = record { cases = []; whole = eqb (length s) 0 }
+file-within (suc fuel) s =
+    elim (eqb (length s) 0) [ true ↦ record { cases = []; whole = true } | false ↦ file-behind (file-within fuel) s (recordOf s) ]
+
+unfoldable pub file-of : Bytes → File
+file-of s = file-within (length s) s
+
+-- the cases whose answer is not the expected one
+unfoldable pub differing : List Case → ℕ
+differing [] = 0
+differing (c ∷ cs) = elim (agrees (c .text) (c .answer)) [ true ↦ differing cs | false ↦ suc (differing cs) ]
+
+abbrev pub remainder : Bool → ℕ
+remainder true = 0
+remainder false = 1
+
+-- how many cases, and how many differ; what is no case counts as one that differs
+abbrev pub tally : File → Tally
+tally f = record { cases = length (f .cases); different = differing (f .cases) + remainder (f .whole) }
