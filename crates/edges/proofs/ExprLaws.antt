@@ -36,7 +36,7 @@ pub number-first : (n : ℕ) → getD (show-number n) 0 0 ≡ 40 → ⊥
 number-first n e = digit-first (show-number n) (number-digits n) e
 
 -- what is read behind all is read with it
-and-none : (q : Reads) → and-reads q no-reads ≡ q
+pub and-none : (q : Reads) → and-reads q no-reads ≡ q
 and-none q = λ i. record { nodes = append-nil (q .nodes) i; out = or-false (q .out) i }
 
 -- how the first bytes tell what is shown

@@ -25,7 +25,7 @@ use Rattle.edges.proofs.ReadLaws.{read-none}
 use Rattle.runs.proofs.Inside.{placed}
 use Rattle.edges.proofs.ExprLaws.{number-first}
 
-getD-drop-here : (l : Bytes) (i : ℕ) → getD (drop i l) 0 0 ≡ getD l i 0
+pub getD-drop-here : (l : Bytes) (i : ℕ) → getD (drop i l) 0 0 ≡ getD l i 0
 getD-drop-here [] zero = refl
 getD-drop-here [] (suc i) = refl
 getD-drop-here (c ∷ l) zero = refl
@@ -88,10 +88,10 @@ index-none (unary o a) b f hs names p = refl
 index-none (binary o a c) b f hs names p = refl
 index-none (all es) b f hs names p = refl
 
-as-not : (v : N.Named) → v ≡ named.Not → (y : Expr) → NamedBy v y → NamedBy named.Not y
+pub as-not : (v : N.Named) → v ≡ named.Not → (y : Expr) → NamedBy v y → NamedBy named.Not y
 as-not v e y h = rw e at h
 
-as-is : (v : N.Named) (i : ℕ) → v ≡ named.Is i → (y : Expr) → NamedBy v y → y ≡ name i
+pub as-is : (v : N.Named) (i : ℕ) → v ≡ named.Is i → (y : Expr) → NamedBy v y → y ≡ name i
 as-is v i e y h = rw e at h
 
 module _ (x : Bytes) (p d : ℕ) (kinds : List ℕ) (names : Names) (g : List ℕ) (from : ℕ) (r : N.Named) (told : (y : Expr) (e : ℕ) → ShowsExpr x e y → NamedBy r y) where

@@ -26,7 +26,7 @@ use Rattle.edges.specs.Shows.{one-read, if-inst, InstRead}
 use Rattle.edges.proofs.ReadLaws.{read-none, read-one, read-out}
 
 -- the whole number that a word holds, in both crates
-same-word : (x : ℕ) → signed x ≡ unbiased x
+pub same-word : (x : ℕ) → signed x ≡ unbiased x
 same-word x = go (ltb x 2147483648) refl
   where
     go : (b : Bool) → ltb x 2147483648 ≡ b → signed x ≡ unbiased x

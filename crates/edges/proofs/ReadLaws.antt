@@ -1,24 +1,17 @@
--- Reading one thing behind the other, and the reads of an expression by its head word and its parts.
+-- Reading one thing behind the other, and heading one node behind the other.
 -- Assumes nothing.
-use mathlib.Core.Path.{_≡_, refl, _∙_, ap}
+use mathlib.Core.Path.{_≡_, refl}
 use mathlib.Core.Bool.{Bool, true, false, _||_, or-true}
 use mathlib.Core.Logic.{_⊎_, inl, inr}
 use mathlib.Core.List.{List, [], _∷_, _++_, append-nil, append-assoc}
-use Prim.Native.Nat.{ℕ, suc}
-use Rattle.spec.specs.Bytes.{Bytes, same-bytes, lookup-word, number, is-form, parts}
-use Rattle.spec.specs.Syntax.{Expr, lit, truth, Header}
-use Rattle.spec.specs.Show.{show-truth}
-use Rattle.spec.specs.Decode.{by-head, ExprHead, name-head, field-head, index-head, if-head, all-head, no-expr, unary-head, binary-head, expr-heads, no-value, exprs-by, expr-by, decode-atom, decode-expr}
-use Rattle.spec.specs.Value.{Names}
-use Rattle.spec.specs.Edge.{Node, Reads, no-reads, and-reads, field-reads, expr-reads, exprs-reads, Head, Heads, no-heads, one-head, over-graph}
+use Prim.Native.Nat.{ℕ}
+use Rattle.spec.specs.Edge.{Node, Reads, no-reads, and-reads, Head, Heads, no-heads, one-head, over-graph}
 use Rattle.spec.proofs.Nodes.{or-parts}
 use Rattle.graph.specs.Stands.{Stands, Heading, head-of, Headed, Read}
 use Rattle.graph.specs.declared.Added as A
 use Rattle.graph.specs.declared.Added.the-variants as added
 use Rattle.graph.proofs.Limits.{over-behind, over-reads}
-use Rattle.graph.proofs.Stands.{stands-within}
-use Rattle.walk.specs.Walk.{full, going, State, head-step}
-use Rattle.edges.specs.Reads.{ReadAll, HeadAll, parts-read, head-reads, bytes-read}
+use Rattle.edges.specs.Reads.{ReadAll, HeadAll}
 
 -- ---- one thing behind the other
 
@@ -92,77 +85,3 @@ module _ (hs : List Head) where
         either (a .out) (over-graph (hs ++ a .heads)) x
         (λ e. true-left (a .out || c .out) _ (true-left (a .out) (c .out) e))
         (λ e. true-right (a .out || c .out) _ (rw (append-assoc hs (a .heads) (c .heads)) at (over-behind (hs ++ a .heads) (c .heads) e)))
-
--- the graph after a line is the state's
-module _ (st : State) (h : Heads) where
-  pub heads-going : (g : List ℕ) → HeadAll true g (st .heads) h → head-step h st ≡ going (record { own = st .own; heads = st .heads ++ h .heads; kept = st .kept })
-  unfolding head-step
-  heads-going g x = let e = stands-within (st .heads ++ h .heads) (x .0) in rw (x .1, e)
-
-  pub heads-full : (g : List ℕ) → HeadAll false g (st .heads) h → head-step h st ≡ full
-  unfolding head-step
-  heads-full g x = rw x
-
--- ---- the reads of bytes
-
-module _ (hs : List Header) (names : Names) where
-  atom-reads : (s : Bytes) → expr-reads (decode-atom s) hs names ≡ no-reads
-  unfolding decode-atom lookup-word expr-reads
-  atom-reads s = go (same-bytes s (show-truth true)) (same-bytes s (show-truth false))
-    where
-      go : (a b : Bool) → expr-reads (elim a as (λ _. Expr) [ true ↦ truth true | false ↦ elim b as (λ _. Expr) [ true ↦ truth false | false ↦ lit (number s) ] ]) hs names ≡ no-reads
-      go true b = refl
-      go false true = refl
-      go false false = refl
-
-  -- bytes that are no form, or lie too deep, read nothing
-  pub reads-shut : (s : Bytes) → bytes-read hs names 0 s ≡ no-reads
-  unfolding bytes-read decode-expr
-  reads-shut s = atom-reads s
-
-  pub reads-atom : (d : ℕ) (s : Bytes) → is-form s ≡ false → bytes-read hs names (suc d) s ≡ no-reads
-  unfolding bytes-read decode-expr
-  reads-atom d s e = ap (λ (b : Bool). expr-reads (elim b as (λ _. Expr) [ true ↦ by-head expr-heads no-expr no-value (expr-by (decode-expr d)) s | false ↦ decode-atom s ]) hs names) e ∙ atom-reads s
-
-  all-read : (d : ℕ) (ps : List Bytes) → exprs-reads (exprs-by (decode-expr d) ps) hs names ≡ parts-read (bytes-read hs names d) ps
-  unfolding exprs-by expr-reads parts-read bytes-read
-  all-read d [] = refl
-  all-read d (x ∷ ps) = ap (and-reads (expr-reads (decode-expr d x) hs names)) (all-read d ps)
-
-  by-read : (d : ℕ) (h : ExprHead) (ps : List Bytes)
-      → expr-reads (expr-by (decode-expr d) h ps) hs names ≡ head-reads hs (bytes-read hs names d) (λ x n. field-reads hs names (decode-expr d x) n) h ps
-  unfolding expr-by head-reads expr-reads bytes-read
-  by-read d name-head [] = refl
-  by-read d name-head (a ∷ []) = refl
-  by-read d name-head (a ∷ b ∷ ps) = refl
-  by-read d field-head [] = refl
-  by-read d field-head (a ∷ []) = refl
-  by-read d field-head (a ∷ b ∷ []) = refl
-  by-read d field-head (a ∷ b ∷ c ∷ ps) = refl
-  by-read d index-head [] = refl
-  by-read d index-head (a ∷ []) = refl
-  by-read d index-head (a ∷ b ∷ []) = refl
-  by-read d index-head (a ∷ b ∷ c ∷ ps) = refl
-  by-read d if-head [] = refl
-  by-read d if-head (a ∷ []) = refl
-  by-read d if-head (a ∷ b ∷ []) = refl
-  by-read d if-head (a ∷ b ∷ c ∷ []) = refl
-  by-read d if-head (a ∷ b ∷ c ∷ e ∷ ps) = refl
-  by-read d all-head ps = all-read d ps
-  by-read d no-expr ps = refl
-  by-read d (unary-head o) [] = refl
-  by-read d (unary-head o) (a ∷ []) = refl
-  by-read d (unary-head o) (a ∷ b ∷ ps) = refl
-  by-read d (binary-head o) [] = refl
-  by-read d (binary-head o) (a ∷ []) = refl
-  by-read d (binary-head o) (a ∷ b ∷ []) = refl
-  by-read d (binary-head o) (a ∷ b ∷ c ∷ ps) = refl
-
-  -- a form reads by its head word and its parts
-  pub reads-form : (d : ℕ) (s w : Bytes) (ps : List Bytes) → is-form s ≡ true → parts s ≡ w ∷ ps
-      → bytes-read hs names (suc d) s ≡ head-reads hs (bytes-read hs names d) (λ x n. field-reads hs names (decode-expr d x) n) (lookup-word expr-heads no-expr w) ps
-  unfolding bytes-read decode-expr by-head
-  reads-form d s w ps e f =
-      ap (λ (b : Bool). expr-reads (elim b as (λ _. Expr) [ true ↦ by-head expr-heads no-expr no-value (expr-by (decode-expr d)) s | false ↦ decode-atom s ]) hs names) e
-      ∙ ap (λ (l : List Bytes). expr-reads (elim l as (λ _. Expr) [ [] ↦ no-value | h ∷ ps ↦ expr-by (decode-expr d) (lookup-word expr-heads no-expr h) ps ]) hs names) f
-      ∙ by-read d (lookup-word expr-heads no-expr w) ps

@@ -7,12 +7,9 @@ use mathlib.Core.List.{List, [], _∷_, _++_}
 use mathlib.Core.Option.{Option, some, none}
 use Prim.Native.Nat.{ℕ, zero, suc}
 use lib.ListN.{getD}
-use Rattle.spec.specs.Bytes.{Bytes, number}
 use Rattle.spec.specs.Syntax.{Kind, in-kind, out-kind, wire-kind, reg-kind, mem-kind, inst-kind, Header}
-use Rattle.spec.specs.Decode.{with-one, with-two, with-three, ExprHead, name-head, field-head, index-head, if-head, all-head, no-expr, unary-head, binary-head, decode-expr}
-use Rattle.spec.specs.Value.{Names}
 use Rattle.spec.specs.Site.{kind-of}
-use Rattle.spec.specs.Edge.{Node, Reads, no-reads, and-reads, name-reads, expr-reads, Head, Heads, over-graph}
+use Rattle.spec.specs.Edge.{Node, Reads, Head, Heads, over-graph}
 use Rattle.graph.specs.Stands.{Stands, Heading, head-of}
 
 -- what a byte of the table of kinds says
@@ -38,23 +35,3 @@ ReadAll false g hs n start rs i q = q .out || over-graph (hs ++ head-of n start 
 abbrev pub HeadAll : Bool → List ℕ → List Head → Heads → Type 0
 HeadAll true g hs h = Stands g (hs ++ h .heads) × (h .out ≡ false)
 HeadAll false g hs h = h .out || over-graph (hs ++ h .heads) ≡ true
-
--- the reads of some parts one behind the other
-unfoldable pub parts-read : (Bytes → Reads) → List Bytes → Reads
-parts-read f [] = no-reads
-parts-read f (x ∷ xs) = and-reads (f x) (parts-read f xs)
-
--- the reads of a form by its head, f being what a part reads and fields what an `f` of a part reads
-unfoldable pub head-reads : List Header → (Bytes → Reads) → (Bytes → ℕ → Reads) → ExprHead → List Bytes → Reads
-head-reads hs f fields name-head ps = with-one no-reads (λ n. name-reads (kind-of hs (number n)) (number n)) ps
-head-reads hs f fields field-head ps = with-two no-reads (λ x n. fields x (number n)) ps
-head-reads hs f fields index-head ps = with-two no-reads (λ a b. and-reads (f a) (f b)) ps
-head-reads hs f fields if-head ps = with-three no-reads (λ a b c. and-reads (f a) (and-reads (f b) (f c))) ps
-head-reads hs f fields all-head ps = parts-read f ps
-head-reads hs f fields no-expr ps = no-reads
-head-reads hs f fields (unary-head o) ps = with-one no-reads f ps
-head-reads hs f fields (binary-head o) ps = with-two no-reads (λ a b. and-reads (f a) (f b)) ps
-
--- what the bytes of an expression read, d being how deep its brackets may go
-unfoldable pub bytes-read : List Header → Names → ℕ → Bytes → Reads
-bytes-read hs names d s = expr-reads (decode-expr d s) hs names

@@ -4,14 +4,14 @@ use mathlib.Core.Path.{_≡_}
 use mathlib.Core.Bool.{Bool, true, false}
 use mathlib.Core.List.{List, [], _∷_}
 use mathlib.Core.Option.{Option}
-use Prim.Native.Nat.{ℕ, _≤_}
-use Rattle.spec.specs.Bytes.{Bytes}
+use Prim.Native.Nat.{ℕ, suc, _≤_}
+use Rattle.spec.specs.Bytes.{Bytes, show-rest}
 use Rattle.spec.specs.Syntax.{Kind, Expr, Exprs, lit, truth, name, field, index, if-else, unary, binary, all, Header}
-use Rattle.spec.specs.Show.{show-expr}
-use Rattle.spec.specs.Refusal.{expr-in-range, expr-depth}
+use Rattle.spec.specs.Show.{show-expr, show-exprs}
+use Rattle.spec.specs.Refusal.{expr-in-range, exprs-in-range, expr-depth, exprs-depth}
 use Rattle.spec.specs.Value.{Names}
 use Rattle.spec.specs.Site.{kind-of}
-use Rattle.spec.specs.Edge.{Node, Reads, no-reads, name-reads, is-inst, field-reads, expr-reads, Head}
+use Rattle.spec.specs.Edge.{Node, Reads, no-reads, name-reads, is-inst, field-reads, expr-reads, exprs-reads, Head}
 use Rattle.graph.specs.Stands.{Heading}
 use Rattle.edges.specs.declared.Named as N
 use Rattle.edges.specs.declared.Named.the-variants as named
@@ -71,3 +71,21 @@ abbrev pub FieldRead : Bool → Bytes → ℕ → ℕ → List ℕ → Names →
 FieldRead r x p d kinds names g g′ from =
     (y : Expr) → ShowsExpr x d y → (header : List Header) → KindsOf kinds header
     → (hs : List Head) (n : Node) (start : ℕ) (rs : List Node) → Heading g hs n start rs from → ReadAll r g′ hs n start rs from (field-reads header names y p)
+
+-- what reading the bytes e of an `f` leaves in the graph of a module, what it is of being at most d brackets deep
+abbrev pub FieldFormRead : Bool → Bytes → ℕ → List ℕ → Names → List ℕ → List ℕ → ℕ → Type 0
+FieldFormRead r e d kinds names g g′ from =
+    (y : Expr) (p : ℕ) → ShowsExpr e (suc d) (field y p) → (header : List Header) → KindsOf kinds header
+    → (hs : List Head) (n : Node) (start : ℕ) (rs : List Node) → Heading g hs n start rs from → ReadAll r g′ hs n start rs from (field-reads header names y p)
+
+-- the bytes s show the expressions es behind a part of a form, which they end; each is in range and at most d brackets deep
+pub record ShowsExprs (s : Bytes) (d : ℕ) (es : Exprs) : Type 0 where
+  pub shown : s ≡ show-rest (show-exprs es)
+  pub deep : exprs-depth es ≤ d
+  pub ranged : exprs-in-range es ≡ true
+
+-- what reading those bytes leaves in the graph of a module
+abbrev pub PartsRead : Bool → Bytes → ℕ → List ℕ → Names → List ℕ → List ℕ → ℕ → Type 0
+PartsRead r s d kinds names g g′ from =
+    (es : Exprs) → ShowsExprs s d es → (header : List Header) → KindsOf kinds header
+    → (hs : List Head) (n : Node) (start : ℕ) (rs : List Node) → Heading g hs n start rs from → ReadAll r g′ hs n start rs from (exprs-reads es header names)

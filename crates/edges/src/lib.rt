@@ -4,14 +4,23 @@ use graph::Added;
 use graph::Node;
 use lines::numbers;
 use lines::parts;
-ghost use Prim.Native.Nat.{ℕ};
+ghost use mathlib.Core.Path.{_≡_};
+ghost use mathlib.Core.List.{_∷_};
+ghost use Prim.Native.Nat.{ℕ, _+_, _-_, min};
+ghost use lib.ListN.{drop, getD};
+ghost use lib.Dec.{eqb};
+ghost use mathlib.Core.Bool.{_&&_};
+ghost use Rattle.spec.specs.Bytes.{Bytes, number};
 ghost use Rattle.spec.specs.Syntax.{Expr};
 ghost use mathlib.Core.Option.{none};
 ghost use Rattle.spec.specs.Decode.{decode-expr};
 ghost use Rattle.spec.specs.Value.{value};
-ghost use Rattle.spec.specs.Edge.{inst-out, indexed-reads};
-ghost use Rattle.consteval.specs.Worth.{names-of};
-ghost use Rattle.edges.specs.Shows.{NameRead, NamedBy, ShowsExpr, InstRead, FieldRead, one-read};
+ghost use Rattle.spec.specs.Edge.{inst-out, indexed-reads, reaches, index-of, has-output};
+ghost use Rattle.graph.specs.Table.{node-of};
+ghost use Rattle.consteval.specs.Worth.{names-of, worth};
+ghost use Rattle.lines.specs.Parts.{piece, next-end};
+ghost use Rattle.edges.specs.Shows.{NameRead, NamedBy, ShowsExpr, InstRead, FieldRead, FieldFormRead, ExprRead, PartsRead, one-read};
+ghost use Rattle.edges.specs.Lines.{WireHeads, DriveHeads, summary-at, IndexIs, ModuleIs, ConnRead, ConnsRead, OutputHead, InstHeads};
 
 // The node `from`, which the last line headed, reads the name n, by its kind: false where a limit is passed.
 pub fn name_read(kinds: &[u8], n: u32, g: &mut [u32], from: u32) -> bool
@@ -149,4 +158,408 @@ pub fn field_read(
             }
         }
     }
+}
+
+// The end of the part behind the byte at `before`; `before` itself past the end.
+fn next_end(s: &[u8], before: usize) -> usize
+    ensures { λ r. ⌜ ((b : ℕ) (t : Bytes) → drop before (now (s .entry)) ≡ b ∷ t → r ≡ next-end (now (s .entry)) before) ⌝ }
+{
+    if before < s.len() {
+        return parts::part_end(s, before + 1);
+    }
+    before
+}
+
+// The number between two places; all that is no u32 gives the last one.
+fn number_at(s: &[u8], before: usize, end: usize) -> u32
+    ensures { λ r. ⌜ r ≡ min (number (piece (now (s .entry)) before end)) 4294967295 ⌝ }
+{
+    let v = numbers::value(parts::between(s, before, end));
+    if 4294967295 < v {
+        return 4294967295;
+    }
+    v as u32
+}
+
+// The node `from` reads the `f` that e is.
+fn field_form(
+    e: &[u8],
+    depth: u32,
+    kinds: &[u8],
+    names: &[u32],
+    used: usize,
+    g: &mut [u32],
+    from: u32,
+) -> bool
+    ensures { λ r. ⌜ FieldFormRead r (now (e .entry)) depth (now (kinds .entry)) (names-of (now (names .entry)) used) (now (g .entry)) (now (g .exit)) from ⌝ }
+{
+    let a = next_end(e, 2);
+    let p = number_at(e, a, next_end(e, a));
+    field_read(
+        parts::between(e, 2, a),
+        p,
+        depth,
+        kinds,
+        names,
+        used,
+        g,
+        from,
+    )
+}
+
+// The node `from` reads what the expression e reads: false where a limit is passed or an index is outside INT.
+pub fn expr_reads(
+    e: &[u8],
+    depth: u32,
+    kinds: &[u8],
+    names: &[u32],
+    used: usize,
+    g: &mut [u32],
+    from: u32,
+) -> bool
+    ensures { λ r. ⌜ ExprRead r (now (e .entry)) depth (now (kinds .entry)) (names-of (now (names .entry)) used) (now (g .entry)) (now (g .exit)) from ⌝ }
+{
+    if parts::byte(e, 0) != b'(' {
+        return true;
+    }
+    match name_of(e) {
+        Named::Is(n) => name_read(kinds, n, g, from),
+        Named::Not => {
+            if depth == 0 {
+                return true;
+            }
+            if parts::byte(e, 1) == b'f' {
+                return field_form(e, depth - 1, kinds, names, used, g, from);
+            }
+            let a = parts::part_end(e, 1);
+            parts_read(e, a, depth - 1, kinds, names, used, g, from)
+        }
+    }
+}
+
+// The node `from` reads what all the parts behind the one that ends at `end` read.
+fn parts_read(
+    e: &[u8],
+    end: usize,
+    depth: u32,
+    kinds: &[u8],
+    names: &[u32],
+    used: usize,
+    g: &mut [u32],
+    from: u32,
+) -> bool
+    ensures { λ r. ⌜ PartsRead r (drop end (now (e .entry))) depth (now (kinds .entry)) (names-of (now (names .entry)) used) (now (g .entry)) (now (g .exit)) from ⌝ }
+{
+    let mut a = end;
+    while parts::more(e, a) {
+        let b = parts::part_end(e, a + 1);
+        if !expr_reads(parts::between(e, a, b), depth, kinds, names, used, g, from) {
+            return false;
+        }
+        a = b;
+    }
+    true
+}
+
+// How deep what stands k brackets inside may be.
+fn under(depth: u32, k: u32) -> u32
+    ensures { λ r. ⌜ r ≡ depth - k ⌝ }
+{
+    if depth < k { 0 } else { depth - k }
+}
+
+// The `wire` line x heads its signal, which reads its expression. The name stands behind the 5 bytes of `(wire`, START behind the expression.
+pub fn wire_heads(
+    x: &[u8],
+    depth: u32,
+    kinds: &[u8],
+    names: &[u32],
+    used: usize,
+    g: &mut [u32],
+) -> bool
+    ensures { λ r. ⌜ WireHeads r (now (x .entry)) depth (now (kinds .entry)) (names-of (now (names .entry)) used) (now (g .entry)) (now (g .exit)) ⌝ }
+{
+    let a = next_end(x, 5);
+    let b = next_end(x, a);
+    let n = number_at(x, 5, a);
+    let start = number_at(x, b, next_end(x, b));
+    match graph::head(g, Node::Signal(n), start) {
+        Added::At(i) => {
+            expr_reads(
+                parts::between(x, a, b),
+                under(depth, 1),
+                kinds,
+                names,
+                used,
+                g,
+                i,
+            )
+        }
+        Added::Full => false,
+    }
+}
+
+// The `drive` line x heads its signal, an output or a wire by its kind (2, 3): it reads the expression, then the indexes. The LV stands
+// behind the 6 bytes of `(drive`, its name behind the 3 of `(lv`.
+pub fn drive_heads(
+    x: &[u8],
+    depth: u32,
+    kinds: &[u8],
+    names: &[u32],
+    used: usize,
+    g: &mut [u32],
+) -> bool
+    ensures { λ r. ⌜ DriveHeads r (now (x .entry)) depth (now (kinds .entry)) (names-of (now (names .entry)) used) (now (g .entry)) (now (g .exit)) ⌝ }
+{
+    let a = next_end(x, 6);
+    let lv = parts::between(x, 6, a);
+    let b = next_end(lv, 3);
+    let n = number_at(lv, 3, b);
+    let kind = parts::byte(kinds, n as usize);
+    if kind < 2 {
+        return true;
+    }
+    if 3 < kind {
+        return true;
+    }
+    let c = next_end(lv, b);
+    let start = number_at(lv, b, c);
+    match graph::head(g, Node::Signal(n), start) {
+        Added::At(i) => {
+            let e = parts::between(x, a, next_end(x, a));
+            if !expr_reads(e, under(depth, 1), kinds, names, used, g, i) {
+                return false;
+            }
+            parts_read(lv, c, under(depth, 2), kinds, names, used, g, i)
+        }
+        Added::Full => false,
+    }
+}
+
+// The value of the index of the `inst` line x, missing where it has none. Its name stands behind the 5 bytes of `(inst`, then the index.
+pub fn inst_index(x: &[u8], depth: u32, names: &[u32], used: usize) -> Value
+    ensures { λ r. ⌜ IndexIs (worth r) (now (x .entry)) depth (names-of (now (names .entry)) used) ⌝ }
+{
+    let a = next_end(x, 5);
+    let e = parts::between(x, a, next_end(x, a));
+    if parts::byte(e, 0) == b'-' {
+        return Value::Missing;
+    }
+    consteval::eval(e, under(depth, 1), names, used)
+}
+
+// The module of the `inst` line x.
+pub fn inst_module(x: &[u8]) -> u32
+    ensures { λ r. ⌜ ((d : ℕ) → ModuleIs r (now (x .entry)) d) ⌝ }
+{
+    let a = next_end(x, 5);
+    let b = next_end(x, a);
+    number_at(x, b, next_end(x, b))
+}
+
+// The word at i, and 0 past the end.
+fn word(w: &[u32], i: usize) -> u32
+    ensures { λ r. ⌜ r ≡ getD (now (w .entry)) i 0 ⌝ }
+{
+    if i < w.len() { w[i] } else { 0 }
+}
+
+// Is the pair at p the output o and the input i?
+fn is_pair(w: &[u32], p: usize, o: u32, i: u32) -> bool
+    ensures { λ r. ⌜ r ≡ eqb o (getD (now (w .entry)) p 0) && eqb i (getD (now (w .entry)) (p + 1) 0) ⌝ }
+{
+    if o != word(w, p) {
+        return false;
+    }
+    if p < w.len() {
+        return i == word(w, p + 1);
+    }
+    i == 0
+}
+
+// The place of the pair behind the one at p; past the end any.
+fn next_pair(w: &[u32], p: usize) -> usize
+    ensures { λ r. ⌜ drop r (now (w .entry)) ≡ drop (p + 2) (now (w .entry)) ⌝ }
+{
+    if w.len() <= p {
+        return p;
+    }
+    let q = p + 1;
+    if w.len() <= q {
+        return q;
+    }
+    q + 1
+}
+
+// Does the output o stand in the summary of `count` pairs from `first` on?
+fn has_output(w: &[u32], first: usize, count: usize, o: u32) -> bool
+    ensures { λ r. ⌜ r ≡ has-output o (summary-at (now (w .entry)) first count) ⌝ }
+{
+    let mut p = first;
+    let mut left = count;
+    while 0 < left {
+        if o == word(w, p) {
+            return true;
+        }
+        p = next_pair(w, p);
+        left -= 1;
+    }
+    false
+}
+
+// Does the output o reach the input i in that summary?
+fn reaches(w: &[u32], first: usize, count: usize, o: u32, i: u32) -> bool
+    ensures { λ r. ⌜ r ≡ reaches o i (summary-at (now (w .entry)) first count) ⌝ }
+{
+    let mut p = first;
+    let mut left = count;
+    while 0 < left {
+        if is_pair(w, p, o, i) {
+            return true;
+        }
+        p = next_pair(w, p);
+        left -= 1;
+    }
+    false
+}
+
+// The node `from` of the output o reads the connection c, if o reaches its input, which stands behind the 5 bytes of `(conn`.
+fn conn_read(
+    c: &[u8],
+    depth: u32,
+    o: u32,
+    w: &[u32],
+    first: usize,
+    count: usize,
+    kinds: &[u8],
+    names: &[u32],
+    used: usize,
+    g: &mut [u32],
+    from: u32,
+) -> bool
+    ensures { λ r. ⌜ ConnRead r o (summary-at (now (w .entry)) first count) (now (c .entry)) depth (now (kinds .entry)) (names-of (now (names .entry)) used) (now (g .entry)) (now (g .exit)) from ⌝ }
+{
+    let a = next_end(c, 5);
+    if !reaches(w, first, count, o, number_at(c, 5, a)) {
+        return true;
+    }
+    expr_reads(
+        parts::between(c, a, next_end(c, a)),
+        depth,
+        kinds,
+        names,
+        used,
+        g,
+        from,
+    )
+}
+
+// It reads so all the connections behind the part of x that ends at `end`.
+fn conns_read(
+    x: &[u8],
+    end: usize,
+    depth: u32,
+    o: u32,
+    w: &[u32],
+    first: usize,
+    count: usize,
+    kinds: &[u8],
+    names: &[u32],
+    used: usize,
+    g: &mut [u32],
+    from: u32,
+) -> bool
+    ensures { λ r. ⌜ ConnsRead r o (summary-at (now (w .entry)) first count) (drop end (now (x .entry))) depth (now (kinds .entry)) (names-of (now (names .entry)) used) (now (g .entry)) (now (g .exit)) from ⌝ }
+{
+    let mut a = end;
+    while parts::more(x, a) {
+        let b = parts::part_end(x, a + 1);
+        let c = parts::between(x, a, b);
+        if !conn_read(c, depth, o, w, first, count, kinds, names, used, g, from) {
+            return false;
+        }
+        a = b;
+    }
+    true
+}
+
+// The node of the output o of the instance i with that index, one without value being none.
+fn output_node(i: u32, index: Value, o: u32) -> Node
+    ensures { λ r. ⌜ node-of r ≡ inst-out i (index-of (worth index)) o ⌝ }
+{
+    match index {
+        Value::Known(v) => Node::OutputAt(i, v, o),
+        Value::Missing => Node::Output(i, o),
+        Value::Outside => Node::Output(i, o),
+    }
+}
+
+// The `inst` line x heads the output o.
+fn output_head(
+    x: &[u8],
+    depth: u32,
+    index: Value,
+    o: u32,
+    w: &[u32],
+    first: usize,
+    count: usize,
+    kinds: &[u8],
+    names: &[u32],
+    used: usize,
+    g: &mut [u32],
+) -> bool
+    ensures { λ r. ⌜ OutputHead r o (worth index) (summary-at (now (w .entry)) first count) (now (x .entry)) depth (now (kinds .entry)) (names-of (now (names .entry)) used) (now (g .entry)) (now (g .exit)) ⌝ }
+{
+    let a = next_end(x, 5);
+    let c = next_end(x, next_end(x, a));
+    let end = next_end(x, c);
+    let n = output_node(number_at(x, 5, a), index, o);
+    match graph::head(g, n, number_at(x, c, end)) {
+        Added::At(i) => conns_read(
+            x,
+            end,
+            under(depth, 2),
+            o,
+            w,
+            first,
+            count,
+            kinds,
+            names,
+            used,
+            g,
+            i,
+        ),
+        Added::Full => false,
+    }
+}
+
+// The `inst` line x heads every output in the summary of its module, `count` pairs of w from `first` on: an output with its last pair.
+pub fn inst_heads(
+    x: &[u8],
+    depth: u32,
+    index: Value,
+    w: &[u32],
+    first: usize,
+    count: usize,
+    kinds: &[u8],
+    names: &[u32],
+    used: usize,
+    g: &mut [u32],
+) -> bool
+    ensures { λ r. ⌜ InstHeads r (worth index) (summary-at (now (w .entry)) first count) (now (x .entry)) depth (now (kinds .entry)) (names-of (now (names .entry)) used) (now (g .entry)) (now (g .exit)) ⌝ }
+{
+    let mut p = first;
+    let mut left = count;
+    while 0 < left {
+        let o = word(w, p);
+        p = next_pair(w, p);
+        left -= 1;
+        if has_output(w, p, left, o) {
+            continue;
+        }
+        if !output_head(x, depth, index, o, w, first, count, kinds, names, used, g) {
+            return false;
+        }
+    }
+    true
 }

@@ -1,0 +1,75 @@
+-- What the heads of a collected line leave in the graph of a module. 01: The edge.
+-- Assumes nothing: these are definitions and statements.
+use mathlib.Core.Path.{_≡_}
+use mathlib.Core.Bool.{Bool, true}
+use mathlib.Core.List.{List, [], _∷_}
+use Prim.Native.Nat.{ℕ, zero, suc, _+_, _≤_}
+use lib.ListN.{getD}
+use Rattle.spec.specs.Bytes.{Bytes, bytes, show-number, show-rest, show-form}
+use Rattle.spec.specs.Syntax.{Expr, LValue, Conn, Inst, wire, drive, inst, Header}
+use Rattle.spec.specs.Show.{show-expr, show-conns}
+use Rattle.spec.specs.Refusal.{expr-depth, conns-in-range, conns-depth}
+use Rattle.spec.specs.Value.{Names, Value}
+use Rattle.spec.specs.Edge.{Node, inst-out, Head, one-head, Summary, conn-reads, index-of, place-value, line-heads, inst-edges}
+use Rattle.runs.specs.Run.{ShowsItem}
+use Rattle.graph.specs.Stands.{Stands, Heading}
+use Rattle.edges.specs.Reads.{KindsOf, ReadAll, HeadAll}
+
+-- a `wire` line
+abbrev pub WireHeads : Bool → Bytes → ℕ → List ℕ → Names → List ℕ → List ℕ → Type 0
+WireHeads r x d kinds names g g′ =
+    (n : ℕ) (e : Expr) (start : ℕ) → ShowsItem x d (wire n e start) → (header : List Header) → KindsOf kinds header
+    → (hs : List Head) → Stands g hs → HeadAll r g′ hs (line-heads header names [] (wire n e start))
+
+-- a `drive` line
+abbrev pub DriveHeads : Bool → Bytes → ℕ → List ℕ → Names → List ℕ → List ℕ → Type 0
+DriveHeads r x d kinds names g g′ =
+    (lv : LValue) (e : Expr) → ShowsItem x d (drive lv e) → (header : List Header) → KindsOf kinds header
+    → (hs : List Head) → Stands g hs → HeadAll r g′ hs (line-heads header names [] (drive lv e))
+
+-- the pairs of output and input that stand in a run of words, `count` of them from `first` on
+unfoldable pub summary-at : List ℕ → ℕ → ℕ → Summary
+summary-at w first zero = []
+summary-at w first (suc count) = (getD w first 0, getD w (first + 1) 0) ∷ summary-at w (first + 2) count
+
+-- an `inst` line: the index of the instance, its module
+abbrev pub IndexIs : Value → Bytes → ℕ → Names → Type 0
+IndexIs v x d names = (i : Inst) → ShowsItem x d (inst i) → v ≡ place-value names (i .place)
+
+abbrev pub ModuleIs : ℕ → Bytes → ℕ → Type 0
+ModuleIs m x d = (i : Inst) → ShowsItem x d (inst i) → m ≡ i .«module»
+
+-- the bytes c show the connection y, which is in range, its expression at most d brackets deep
+pub record ShowsConn (c : Bytes) (d : ℕ) (y : Conn) : Type 0 where
+  pub shown : c ≡ show-form (bytes "conn") (show-number (y .port) ∷ show-expr (y .signal) ∷ [])
+  pub deep : expr-depth (y .signal) ≤ d
+  pub ranged : conns-in-range (y ∷ []) ≡ true
+
+-- the bytes x show the connections cs behind a part of a form, which they end
+pub record ShowsConns (x : Bytes) (d : ℕ) (cs : List Conn) : Type 0 where
+  pub shown : x ≡ show-rest (show-conns cs)
+  pub deep : conns-depth cs ≤ suc d
+  pub ranged : conns-in-range cs ≡ true
+
+-- what reading a connection leaves in the graph of a module, where the output o of the summary s is headed
+abbrev pub ConnRead : Bool → ℕ → Summary → Bytes → ℕ → List ℕ → Names → List ℕ → List ℕ → ℕ → Type 0
+ConnRead r o s c d kinds names g g′ from =
+    (y : Conn) → ShowsConn c d y → (header : List Header) → KindsOf kinds header
+    → (hs : List Head) (n : Node) (start : ℕ) (rs : List Node) → Heading g hs n start rs from → ReadAll r g′ hs n start rs from (conn-reads header names s o (y ∷ []))
+
+abbrev pub ConnsRead : Bool → ℕ → Summary → Bytes → ℕ → List ℕ → Names → List ℕ → List ℕ → ℕ → Type 0
+ConnsRead r o s x d kinds names g g′ from =
+    (cs : List Conn) → ShowsConns x d cs → (header : List Header) → KindsOf kinds header
+    → (hs : List Head) (n : Node) (start : ℕ) (rs : List Node) → Heading g hs n start rs from → ReadAll r g′ hs n start rs from (conn-reads header names s o cs)
+
+-- an `inst` line heads the output o of the summary s, where v is the value of its index
+abbrev pub OutputHead : Bool → ℕ → Value → Summary → Bytes → ℕ → List ℕ → Names → List ℕ → List ℕ → Type 0
+OutputHead r o v s x d kinds names g g′ =
+    (i : Inst) → ShowsItem x d (inst i) → (header : List Header) → KindsOf kinds header
+    → (hs : List Head) → Stands g hs → HeadAll r g′ hs (one-head (inst-out (i .name) (index-of v) o) (i .start) (conn-reads header names s o (i .conns)))
+
+-- all its outputs in the summary s of its module
+abbrev pub InstHeads : Bool → Value → Summary → Bytes → ℕ → List ℕ → Names → List ℕ → List ℕ → Type 0
+InstHeads r v s x d kinds names g g′ =
+    (i : Inst) → ShowsItem x d (inst i) → v ≡ place-value names (i .place) → (header : List Header) → KindsOf kinds header
+    → (hs : List Head) → Stands g hs → HeadAll r g′ hs (inst-edges header names i s)

@@ -1,0 +1,4 @@
+pub mod Table
+pub mod Pairs
+pub mod Ports
+pub mod Making

@@ -1,0 +1,147 @@
+-- The table of summaries: what stores leave of it, one law for each function.
+-- Assumes nothing.
+use mathlib.Core.Path.{_≡_, refl, sym, _∙_}
+use mathlib.Core.Bool.{Bool, true, false}
+use mathlib.Core.List.{List, [], _∷_}
+use mathlib.Core.Option.{some, none, Option·none-ne-some}
+use Prim.Native.Nat.{ℕ, zero, suc, _+_, _*_, _≤_, _<_}
+use native.Mathlib.Omega.{arith}
+use lib.ListN.{length, getD, set, length-set, List·getD-eq-default}
+use lib.Seq.{getD-set-same, getD-set-other, set-out}
+use lib.Dec.{eqb, ltb}
+use borrow.Author.Tests.{eqb-true, eqb-false, eq-eqb, ne-eqb, ltb-true, ltb-false}
+use Rattle.spec.specs.Refusal.{has-name}
+use Rattle.spec.specs.Edge.{Summary}
+use Rattle.spec.specs.Summary.{Kept, kept-summary, triples}
+use Rattle.edges.specs.Lines.{summary-at}
+use Rattle.walk.specs.Alike.{Alike}
+use Rattle.summary.specs.Keeps.{state-of, start-of, count-of, total-of, kept-places, first-of, pairs-of, StateIs, Keeps, Says}
+use Rattle.summary.specs.declared.State.the-variants as states
+
+-- ---- words
+
+-- a store elsewhere
+pub miss : (k : List ℕ) (i j a : ℕ) → ¬ (j ≡ i) → getD (set k i a) j 0 ≡ getD k j 0
+miss k i j a h = getD-set-other k i j a 0 h
+
+-- the same words give the same pairs
+pub pairs-same : (k k′ : List ℕ) (first count : ℕ) → ((i : ℕ) → first ≤ i → i < first + 2 * count → getD k′ i 0 ≡ getD k i 0) → summary-at k′ first count ≡ summary-at k first count
+unfolding summary-at
+pairs-same k k′ first zero h = refl
+pairs-same k k′ first (suc count) h =
+    rw (h first (omega arith) (omega arith), h (first + 1) (omega arith) (omega arith), pairs-same k k′ (first + 2) count (λ i l g. h i (omega arith) (omega arith)))
+
+-- the words of module m, and all pairs, are as they were
+pub record Same (k k′ : List ℕ) (m : ℕ) : Type 0 where
+  pub state : state-of k′ m ≡ state-of k m
+  pub start : start-of k′ m ≡ start-of k m
+  pub count : count-of k′ m ≡ count-of k m
+  pub pairs : (i : ℕ) → 97 ≤ i → i < 97 + 2 * total-of k → getD k′ i 0 ≡ getD k i 0
+  pub total : total-of k ≤ total-of k′
+
+-- then it is kept, in progress or neither as it was
+module _ {k k′ : List ℕ} {m : ℕ} (s : Same k k′ m) (kept kept′ : Kept) (busy busy′ : List ℕ) (e : kept-summary kept′ m ≡ kept-summary kept m) (f : has-name m busy′ ≡ has-name m busy) where
+  carry : (n : ℕ) → StateIs n k m kept busy → StateIs n k′ m kept′ busy′
+  carry zero h = (e ∙ h .0, f ∙ h .1)
+  carry (suc zero) h = (e ∙ h .0, f ∙ h .1)
+  carry (suc (suc n)) h =
+      let l = h .3 in
+      let p : pairs-of k′ m ≡ pairs-of k m = rw (s .start, s .count) (pairs-same k k′ (first-of k m) (count-of k m) (λ i a b. s .pairs i (omega arith) (omega arith))) in
+      (h .0, e ∙ h .1, rw p (h .2), omega (arith, s .start, s .count, s .total))
+
+  pub carried : StateIs (state-of k m) k m kept busy → StateIs (state-of k′ m) k′ m kept′ busy′
+  carried h = rw (s .state) (carry (state-of k m) h)
+
+-- ---- the names in progress
+
+pub name-first : (m : ℕ) (l : List ℕ) → has-name m (m ∷ l) ≡ true
+unfolding has-name
+name-first m l = rw (eq-eqb m m refl)
+
+pub name-other : (n m : ℕ) (l : List ℕ) → ¬ (n ≡ m) → has-name n (m ∷ l) ≡ has-name n l
+unfolding has-name
+name-other n m l h = rw (ne-eqb n m h)
+
+-- ---- what each function leaves
+
+module _ {k : List ℕ} {kept : Kept} {busy : List ℕ} (h : Keeps k kept busy) (m : ℕ) (small : m < 32) {s : ℕ} (q : s ≡ getD k m 0) where
+  here : StateIs s k m kept busy
+  here = rw q (h .each m small)
+
+  pub says-new : s ≡ 0 → Says states.New k m kept busy
+  says-new e = rw e at here
+
+  pub says-busy : s ≡ 1 → Says states.Busy k m kept busy
+  says-busy e = rw e at here
+
+  pub says-kept : ¬ (s ≡ 0) → ¬ (s ≡ 1) → Says states.Kept k m kept busy
+  says-kept a b = go s a b here
+    where
+      go : (n : ℕ) → ¬ (n ≡ 0) → ¬ (n ≡ 1) → StateIs n k m kept busy → Says states.Kept k m kept busy
+      go zero a b t = absurd (a refl)
+      go (suc zero) a b t = absurd (b refl)
+      go (suc (suc n)) a b t = (t .0, t .1, t .2)
+
+-- the pairs of a module whose summary is kept
+pub kept-pairs : {k : List ℕ} {kept : Kept} {busy : List ℕ} → Keeps k kept busy → (m : ℕ) → m < 32 → (s : Summary) → kept-summary kept m ≡ some s → Alike (pairs-of k m) s
+kept-pairs {k} {kept} {busy} h m small s e = go (state-of k m) (h .each m small)
+  where
+    go : (n : ℕ) → StateIs n k m kept busy → Alike (pairs-of k m) s
+    go zero t = absurd (Option·none-ne-some s (sym (t .0) ∙ e))
+    go (suc zero) t = absurd (Option·none-ne-some s (sym (t .0) ∙ e))
+    go (suc (suc n)) t = let d : t .0 ≡ s = cc (t .1) in rw d at (t .2)
+
+-- `begin`
+pub began : (k : List ℕ) (m : ℕ) {k′ : List ℕ} → k′ ≡ set k m 1 → (kept : Kept) (busy : List ℕ) → Keeps k kept busy → m < 32 → kept-summary kept m ≡ none → Keeps k′ kept (m ∷ busy)
+began k m q kept busy h small e =
+    rw q
+    (record {
+      sized = rw length-set (h .sized);
+      each = λ n l. go n l (eqb n m) refl;
+      total = miss k m 96 1 (λ d. omega arith) ∙ h .total;
+      few = h .few;
+    })
+  where
+    go : (n : ℕ) → n < 32 → (b : Bool) → eqb n m ≡ b → StateIs (state-of (set k m 1) n) (set k m 1) n kept (m ∷ busy)
+    go n l true f =
+        let d = eqb-true n m f in
+        let z = h .sized in
+        let o : state-of (set k m 1) n ≡ 1 = rw d (getD-set-same k m 1 0 (omega arith)) in
+        rw o (rw d (e, name-first m busy))
+    go n l false f =
+        let d : ¬ (n ≡ m) = eqb-false n m f in
+        let s : Same k (set k m 1) n =
+        record {
+          state = miss k m n 1 d;
+          start = miss k m (32 + n) 1 (λ g. omega arith);
+          count = miss k m (64 + n) 1 (λ g. omega arith);
+          pairs = λ i a b. miss k m i 1 (λ g. omega arith);
+          total = omega (arith, miss k m 96 1 (λ g. omega arith));
+        } in
+        carried s kept kept busy (m ∷ busy) refl (name-other n m busy d) (h .each n l)
+
+-- `reset`: so many states are 0
+pub zero-here : (k : List ℕ) (i : ℕ) → getD (set k i 0) i 0 ≡ 0
+zero-here k i = go (ltb i (length k)) refl
+  where
+    go : (b : Bool) → ltb i (length k) ≡ b → getD (set k i 0) i 0 ≡ 0
+    go true e = getD-set-same k i 0 0 (ltb-true i (length k) e)
+    go false e = let l = ltb-false i (length k) e in rw (set-out k i 0 l) (List·getD-eq-default k 0 l)
+
+pub zero-more : (k : List ℕ) (i : ℕ) → ((j : ℕ) → j < i → getD k j 0 ≡ 0) → {k′ : List ℕ} → k′ ≡ set k i 0 → (j : ℕ) → j < i + 1 → getD k′ j 0 ≡ 0
+zero-more k i h q j l = rw q (go (eqb j i) refl)
+  where
+    go : (b : Bool) → eqb j i ≡ b → getD (set k i 0) j 0 ≡ 0
+    go true e = rw (eqb-true j i e) (zero-here k i)
+    go false e = let d : ¬ (j ≡ i) = eqb-false j i e in miss k i j 0 d ∙ h j (omega arith)
+
+pub none-kept : (k : List ℕ) → kept-places ≤ length k → ((j : ℕ) → j < 32 → getD k j 0 ≡ 0) → {k′ : List ℕ} → k′ ≡ set k 96 0 → Keeps k′ [] []
+unfolding kept-summary has-name triples
+none-kept k z h q =
+    rw q
+    (record {
+      sized = rw length-set z;
+      each = λ n l. let e : state-of (set k 96 0) n ≡ 0 = miss k 96 n 0 (λ d. omega arith) ∙ h n l in rw e (refl, refl);
+      total = zero-here k 96;
+      few = omega arith;
+    })

@@ -1,0 +1,70 @@
+-- The table of summaries as the code holds it. 01: The edge; Refused because of the state.
+-- Assumes nothing: these are definitions and statements.
+use mathlib.Core.Path.{_≡_}
+use mathlib.Core.Bool.{Bool, true, false}
+use mathlib.Core.List.{List, [], _∷_}
+use mathlib.Core.Option.{some, none}
+use Prim.Native.Nat.{ℕ, zero, suc, _+_, _*_, _≤_, _<_}
+use lib.ListN.{length, getD, set}
+use lib.Dec.{ltb}
+use Rattle.spec.specs.Syntax.{Module}
+use Rattle.spec.specs.Refusal.{has-name}
+use Rattle.spec.specs.Edge.{Head, Summary}
+use Rattle.spec.specs.Summary.{Kept, kept-summary, triples, triple-limit, module-summary}
+use Rattle.edges.specs.Lines.{summary-at}
+use Rattle.walk.specs.Alike.{Alike}
+use Rattle.summary.specs.declared.State as S
+use Rattle.summary.specs.declared.State.the-variants as states
+
+-- Words of the table: 32 of each: state of a module (0 not asked for yet, 1 in progress, else kept), the number of its first pair, how
+-- many it has; then the number of all pairs; then the pairs, an output and an input each, 1,024 of them.
+abbrev pub state-of : List ℕ → ℕ → ℕ
+state-of k m = getD k m 0
+
+abbrev pub start-of : List ℕ → ℕ → ℕ
+start-of k m = getD k (32 + m) 0
+
+abbrev pub count-of : List ℕ → ℕ → ℕ
+count-of k m = getD k (64 + m) 0
+
+abbrev pub total-of : List ℕ → ℕ
+total-of k = getD k 96 0
+
+abbrev pub kept-places : ℕ
+kept-places = 97 + 2 * 1024
+
+-- the word at which the pairs of module m begin
+abbrev pub first-of : List ℕ → ℕ → ℕ
+first-of k m = 97 + 2 * start-of k m
+
+-- the pairs of module m
+abbrev pub pairs-of : List ℕ → ℕ → Summary
+pairs-of k m = summary-at k (first-of k m) (count-of k m)
+
+-- a module of which the table has a summary, that is in progress, or neither
+abbrev pub StateIs : ℕ → List ℕ → ℕ → Kept → List ℕ → Type 0
+StateIs zero k m kept busy = (kept-summary kept m ≡ none) × (has-name m busy ≡ false)
+StateIs (suc zero) k m kept busy = (kept-summary kept m ≡ none) × (has-name m busy ≡ true)
+StateIs (suc (suc n)) k m kept busy = (s : Summary) × (kept-summary kept m ≡ some s) × Alike (pairs-of k m) s × (start-of k m + count-of k m ≤ total-of k)
+
+-- the words k hold the summaries that are kept, and say which modules are in progress
+pub record Keeps (k : List ℕ) (kept : Kept) (busy : List ℕ) : Type 0 where
+  pub sized : kept-places ≤ length k
+  pub each : (m : ℕ) → m < 32 → StateIs (state-of k m) k m kept busy
+  pub total : total-of k ≡ triples kept
+  pub few : triples kept ≤ triple-limit
+
+-- what the state of module m says
+abbrev pub Says : S.State → List ℕ → ℕ → Kept → List ℕ → Type 0
+Says states.New k m kept busy = (kept-summary kept m ≡ none) × (has-name m busy ≡ false)
+Says states.Busy k m kept busy = (kept-summary kept m ≡ none) × (has-name m busy ≡ true)
+Says states.Kept k m kept busy = (s : Summary) × (kept-summary kept m ≡ some s) × Alike (pairs-of k m) s
+
+-- module m is kept, with so many pairs from that number on
+unfoldable pub recorded : List ℕ → ℕ → ℕ → ℕ → List ℕ
+recorded k m start count = set (set (set k (32 + m) start) (64 + m) count) m 2
+
+-- what making the summary of module m leaves, once its heads are known: it is kept, and m is no longer in progress; or there are too many
+abbrev pub Made : Bool → List ℕ → ℕ → Module → List Head → Kept → List ℕ → Type 0
+Made true k m M heads kept busy = Keeps k ((m, module-summary M heads) ∷ kept) busy
+Made false k m M heads kept busy = ltb triple-limit (triples ((m, module-summary M heads) ∷ kept)) ≡ true
