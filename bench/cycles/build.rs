@@ -4,41 +4,7 @@
 use std::path::{Path, PathBuf};
 use std::{env, fs, process};
 
-/// Where the source is looked for, seen from `compare/`, if MIMZ_SRC names no other folder.
-const DEFAULT_SOURCE: &str = "../../shared/docs/src";
-
-/// The part of the source repository that is used.
-const CRATE_SOURCE: &str = "crates/mimz-core/src";
-
-/// Compiled as they are, but for the line behind the driver check.
-const SOURCES: [&str; 9] = [
-    "ast/expr.rs",
-    "ast/foreach_lower.rs",
-    "ast/mod.rs",
-    "bits.rs",
-    "checker/consteval.rs",
-    "checker/drivers.rs",
-    "checker/names/mod.rs",
-    "span.rs",
-    "width_rules.rs",
-];
-
-/// Those of `compare/src/standin`.
-const STAND_INS: [&str; 13] = [
-    "ast/builtin_bundles.rs",
-    "ast/sync_loop_lower.rs",
-    "ast/sync_prim_lower.rs",
-    "checker/mod.rs",
-    "checker/names/exprs.rs",
-    "checker/names/funcs.rs",
-    "checker/names/insts.rs",
-    "checker/names/items.rs",
-    "checker/names/resolve.rs",
-    "checker/widths.rs",
-    "diag.rs",
-    "root.rs",
-    "wide.rs",
-];
+include!("../../compare/src/standin/files.rs");
 
 /// The lines that are put behind a file.
 const BEHIND: [(&str, &str); 2] = [
@@ -69,14 +35,9 @@ fn lay_out() -> Result<(), String> {
     write(&out.join("checker/drivers/face.rs"), &face)?;
     println!("cargo::rerun-if-changed=face.rs");
     println!("cargo::rerun-if-changed=build.rs");
+    println!("cargo::rerun-if-changed=../../compare/src/standin/files.rs");
     println!("cargo::rerun-if-env-changed=MIMZ_SRC");
     Ok(())
-}
-
-fn folder(variable: &str) -> Result<PathBuf, String> {
-    env::var_os(variable)
-        .map(PathBuf::from)
-        .ok_or_else(|| format!("{variable} is not set"))
 }
 
 /// Copies a file, byte for byte, with the line that belongs behind it.
