@@ -148,7 +148,7 @@ module _ (a : C.Cycle) (g w w′ : List ℕ) (f : (rs : List (List Node)) → Aw
     pub taken-loop : (ns ns′ : List ℕ) (r : ℕ) → Copied w′ p (d - p) ns ns′ r → Taken r g w′ ns′ rs
     taken-loop ns ns′ r C =
         subst (λ (z : ℕ). Taken z g w′ ns′ rs) (sym (C .number))
-        (loop-at w′ p (d - p), found .0, words-length w′ p (d - p) (getD w′ (3074 + p) 0), C .begins, found .1, found .3)
+        (loop-at w′ p (d - p), found .0, words-length w′ p (d - p) (getD w′ (3074 + p) 0), C .begins, found .1, found .4)
 
 pub kept-all : (r : ℕ) (ns : List ℕ) → Kept r ns ns
 kept-all r ns = record { size = refl; others = λ i l. refl }

@@ -1,0 +1,146 @@
+-- What the walk over a module's items needs of the text, and what it leaves. 01: The collected item; The edge.
+-- Assumes nothing: these are definitions and statements.
+use mathlib.Core.Path.{_≡_}
+use mathlib.Core.Bool.{Bool, true, false}
+use mathlib.Core.List.{List, [], _++_}
+use Prim.Native.Nat.{ℕ, _+_, _/_, _≤_, _<_}
+use lib.ListN.{length, take, drop, getD, replicate}
+use Rattle.spec.specs.Bytes.{Bytes}
+use Rattle.spec.specs.Syntax.{Item, Items, Header}
+use Rattle.spec.specs.Refusal.{refusal, well-formed, decode}
+use Rattle.spec.specs.Value.{Names}
+use Rattle.spec.specs.Edge.{Head}
+use Rattle.spec.specs.Summary.{Kept}
+use Rattle.lines.specs.Tables.{put-kinds, put-mods}
+use Rattle.graph.specs.Stands.{Stands}
+use Rattle.edges.specs.Reads.{KindsOf}
+use Rattle.runs.specs.Run.{ShowsItem, RunOf}
+use Rattle.walk.specs.Walk.{Got, full, going, then-go, Walked, walked, walk-inner, Own, over-own, State, Walking, Answered, Asking, line-step, walk-items, ask-walk}
+use Rattle.walk.specs.Alike.{Alike}
+use Rattle.items.specs.Held.{Held}
+use Rattle.summary.specs.Keeps.{Keeps, pairs-of}
+use Rattle.steps.specs.Steps.{HeadIs}
+use Rattle.steps.specs.declared.Head as H
+use Rattle.collect.specs.declared.Walked as W
+use Rattle.collect.specs.declared.Walked.the-variants as walks
+use Rattle.collect.specs.declared.Asked as A
+use Rattle.collect.specs.declared.Asked.the-variants as asked
+
+-- the text is accepted, and the tables are those that its reader leaves
+pub record Tabled (text kinds mods : List ℕ) (count : ℕ) : Type 0 where
+  pub formed : refusal text ≡ well-formed
+  pub modules : count ≡ length (decode text)
+  pub kinds-fit : 8192 ≤ length kinds
+  pub mods-fit : 128 ≤ length mods
+  pub kinds-are : kinds ≡ put-kinds 0 (decode text) (replicate (length kinds) 0)
+  pub mods-are : mods ≡ put-mods 0 0 (decode text) (replicate (length mods) 0)
+
+-- the bytes s stand in the text at `base`
+pub record PartOf (text : Bytes) (base : ℕ) (s : Bytes) : Type 0 where
+  pub inside : base + length s ≤ length text
+  pub same : s ≡ take (length s) (drop base text)
+
+-- the own tables, in a module's own check; a summary's walk has none
+abbrev pub OwnIs : Bool → Bytes → List ℕ → Own → Type 0
+OwnIs true text own o = Held text own o × (over-own o ≡ false)
+OwnIs false text own o = Unit {0}
+
+-- what the words stand for where a walk begins: the header of the module, the items to go through, the state, the modules in progress
+pub record World : Type 0 where
+  pub header : List Header
+  pub items : Items
+  pub state : State
+  pub busy : List ℕ
+
+-- the same for one item
+pub record Single : Type 0 where
+  pub header : List Header
+  pub item : Item
+  pub state : State
+  pub busy : List ℕ
+
+-- which walk it is
+pub record Mode : Type 0 where
+  pub own : Bool
+  pub bound : Bool
+
+abbrev pub mode : Bool → Bool → Mode
+mode own bound = record { own = own; bound = bound }
+
+abbrev pub walking-of : Mode → List Header → Walking
+walking-of mo header = record { own = mo .own; bound = mo .bound; header = header }
+
+-- the words hold a state
+pub record Holding (mo : Mode) (text own g k : List ℕ) (busy : List ℕ) (st : State) : Type 0 where
+  pub owned : OwnIs (mo .own) text own (st .own)
+  pub stands : Stands g (st .heads)
+  pub keeps : Keeps k (st .kept) busy
+
+-- what is given where a run of items is walked
+pub record Given (mo : Mode) (text kinds mods : List ℕ) (count : ℕ) (s : Bytes) (base depth : ℕ) (ks names : List ℕ) (used : ℕ) (own g k : List ℕ) (w : World) : Type 0 where
+  pub tabled : Tabled text kinds mods count
+  pub run : RunOf depth s (w .items)
+  pub part : PartOf text base s
+  pub told : KindsOf ks (w .header)
+  pub room : used + depth ≤ length names / 2
+  pub holding : Holding mo text own g k (w .busy) (w .state)
+
+-- and where one item is: h says which one
+pub record OneGiven (h : H.Head) (mo : Mode) (text kinds mods : List ℕ) (count : ℕ) (x : Bytes) (from depth : ℕ) (ks names : List ℕ) (used : ℕ) (own g k : List ℕ) (w : Single) : Type 0 where
+  pub tabled : Tabled text kinds mods count
+  pub shows : ShowsItem x depth (w .item)
+  pub head : HeadIs h (w .item)
+  pub part : PartOf text from x
+  pub told : KindsOf ks (w .header)
+  pub room : used + depth ≤ length names / 2
+  pub holding : Holding mo text own g k (w .busy) (w .state)
+
+-- the step at a collected line
+abbrev pub step-of : ℕ → Bytes → Mode → List Header → List ℕ → Names → Item → State → Got State
+step-of fuel text mo header busy = line-step (ask-walk fuel (decode text) busy) (walking-of mo header)
+
+-- the walk over items
+abbrev pub walk-of : ℕ → Bytes → Mode → World → Names → ℕ → Got (Walked State)
+walk-of fuel text mo w names left = walk-items (w .items) (step-of fuel text mo (w .header) (w .busy)) names left (w .state)
+
+-- the walk over one item: its line, then what it holds
+abbrev pub one-of : ℕ → Bytes → Mode → Single → Names → ℕ → Got (Walked State)
+one-of fuel text mo w names left =
+    then-go (step-of fuel text mo (w .header) (w .busy) names (w .item) (w .state)) (λ st. walk-inner (w .item) (step-of fuel text mo (w .header) (w .busy)) names left st)
+
+-- what a walk leaves: the rounds left and the state, or it is full
+abbrev pub Ends : W.Walked → Mode → (text own g k : List ℕ) → List ℕ → Got (Walked State) → Type 0
+Ends (walks.Left l) mo text own g k busy x = (st : State) × (x ≡ going (walked l st)) × Holding mo text own g k busy st
+Ends walks.Full mo text own g k busy x = x ≡ full
+
+-- the rounds left never grow
+abbrev pub Within : W.Walked → ℕ → Type 0
+Within (walks.Left l) left = l ≤ left
+Within walks.Full left = Unit {0}
+
+-- the names that are used stay as they are
+pub record Framed (used : ℕ) (old new : List ℕ) : Type 0 where
+  pub size : length new ≡ length old
+  pub same : (i : ℕ) → i < used + used → getD new i 0 ≡ getD old i 0
+
+-- what an instance line leaves
+abbrev pub Stepped : Bool → Mode → (text own g k : List ℕ) → List ℕ → Got State → Type 0
+Stepped true mo text own g k busy x = (st : State) × (x ≡ going st) × Holding mo text own g k busy st
+Stepped false mo text own g k busy x = x ≡ full
+
+abbrev pub state-of : Own → List Head → Kept → State
+state-of o hs kept = record { own = o; heads = hs; kept = kept }
+
+-- what a line that holds no items and asks for nothing leaves, whatever is kept
+abbrev pub PlainEnds : Bool → Mode → (text own g : List ℕ) → List Header → Names → Item → Own → List Head → Type 0
+PlainEnds true mo text own g header names i o hs =
+    (o′ : Own) × (hs′ : List Head)
+    × ((ask : Asking) (kept : Kept) → line-step ask (walking-of mo header) names i (state-of o hs kept) ≡ going (state-of o′ hs′ kept))
+    × OwnIs (mo .own) text own o′ × Stands g hs′
+PlainEnds false mo text own g header names i o hs = (ask : Asking) (kept : Kept) → line-step ask (walking-of mo header) names i (state-of o hs kept) ≡ full
+
+-- what asking for the summary of module m leaves: nothing is known of it, its pairs stand in the table, or a limit is passed
+abbrev pub AskedFor : A.Asked → List ℕ → ℕ → List ℕ → Got Answered → Type 0
+AskedFor asked.Empty k m busy x = (a : Answered) × (x ≡ going a) × (a .summary ≡ []) × Keeps k (a .kept) busy
+AskedFor asked.Kept k m busy x = (a : Answered) × (x ≡ going a) × Alike (pairs-of k m) (a .summary) × Keeps k (a .kept) busy × (m < 32)
+AskedFor asked.Full k m busy x = x ≡ full

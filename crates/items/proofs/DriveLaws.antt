@@ -1,0 +1,334 @@
+-- Constants, extents and driven names: one law for each way of `constant_at`, `extent_at`, `drive_output` and `drive_line`.
+-- Assumes nothing.
+use mathlib.Core.Path.{_≡_, refl, sym, _∙_, ap}
+use mathlib.Core.Bool.{Bool, true, false, _||_, or-true, or-false, true≢false}
+use mathlib.Core.List.{List, [], _∷_, _++_, append-nil}
+use mathlib.Core.Option.{Option, some, none}
+use Prim.Native.Nat.{ℕ, zero, suc, _+_, _-_, _≤_, _<_}
+use native.Mathlib.Omega.{arith}
+use lib.ListN.{length, drop, getD, length-append}
+use lib.Dec.{ltb}
+use lib.IntN.{ℤ, pos, negsuc}
+use borrow.Author.Tests.{lt-ltb, ltb-true, ltb-false}
+use Rattle.spec.specs.Bytes.{Bytes, show-number, show-rest}
+use Rattle.spec.specs.Syntax.{name-bound, Kind, in-kind, out-kind, wire-kind, reg-kind, mem-kind, inst-kind, Expr, Index, whole, at-bit, high-low, LValue, drive, Header}
+use Rattle.spec.specs.Show.{show-expr, show-index}
+use Rattle.spec.specs.Decode.{decode-expr}
+use Rattle.spec.specs.Refusal.{expr-depth, index-depth}
+use Rattle.spec.specs.Value.{Value, known, missing, outside, Names, value, is-outside}
+use Rattle.spec.specs.Site as site
+use Rattle.spec.specs.Site.{Site, kind-of, bit-extent, range-extent, lvalue-extent, Driving, an-output, a-wire, a-reg, a-mem, nothing, driving, drive-site, drive-misuse, drive-constants, line-sites, index-constants, line-constants, any-outside, line-misuses, line-outputs, Misused}
+use Rattle.spec.specs.Block.{line-pairs, line-regs, line-mems}
+use Rattle.spec.proofs.Shown.{expr-shown}
+use Rattle.lines.specs.Parts.{part-end, piece, next-end, follows}
+use Rattle.consteval.specs.Worth.{signed, worth}
+use Rattle.consteval.specs.declared.Value.{Value as Answer}
+use Rattle.consteval.specs.declared.Value.the-variants.{Known, Missing, Outside}
+use Rattle.sites.specs.Own as table
+use Rattle.sites.specs.Own.{extent-of, site-of, misuse-of, unbiased, value-of, own-of, grown, room, added, add-site, add-misuse}
+use Rattle.sites.specs.declared.Extent.{Extent}
+use Rattle.sites.specs.declared.Extent.the-variants as extent
+use Rattle.sites.specs.declared.Misuse.{Misuse}
+use Rattle.sites.specs.declared.Misuse.the-variants as misuse
+use Rattle.sites.specs.declared.Stored.{Stored}
+use Rattle.sites.specs.declared.Stored.the-variants as stored
+use Rattle.runs.specs.Run.{ShowsItem}
+use Rattle.runs.proofs.Inside.{placed}
+use Rattle.edges.specs.Reads.{kind-word, KindsOf}
+use Rattle.walk.specs.Walk.{Own, own-line, over-own, add-all, add-new, same-misused}
+use Rattle.items.specs.declared.Named.{Named}
+use Rattle.items.specs.declared.Constant.{Constant}
+use Rattle.items.specs.declared.Extended as E
+use Rattle.items.specs.declared.Extended.the-variants as extended
+use Rattle.items.specs.Held.{Held, OwnAfter}
+use Rattle.items.specs.Lines.{NamedIs, NamedAt, ShowsLValue, ConstantIs, ExtentIs, ExtentAt, with-block, DriveOutput, DriveLine}
+use Rattle.items.proofs.Places.{no-part, one-part, drive-lvalue, lvalue-named}
+use Rattle.items.proofs.Tables.{held-within, held-sites, held-misuse}
+
+-- ---- the kind of a name
+
+pub kind-here : (kinds : List ℕ) (n : ℕ) (header : List Header) → KindsOf kinds header → {m k : ℕ} → m ≡ n → k ≡ getD kinds m 0 → kind-of header n ≡ kind-word k
+kind-here kinds n header w q e = sym (w n) ∙ ap kind-word (sym (e ∙ ap (λ (i : ℕ). getD kinds i 0) q))
+
+-- ---- constants
+
+-- the whole number that a word holds, in both crates
+same-word : (x : ℕ) → signed x ≡ unbiased x
+unfolding unbiased
+same-word x = go (ltb x 2147483648) refl
+  where
+    go : (b : Bool) → ltb x 2147483648 ≡ b → signed x ≡ unbiased x
+    go true e = let l = ltb-true x 2147483648 e in let h : 2147483648 - suc x ≡ 2147483647 - x = omega arith in rw (e, unbiased) (ap negsuc h)
+    go false e = rw (e, unbiased)
+
+module _ (x : Bytes) (b e d : ℕ) (names : Names) {t : Bytes} (qt : t ≡ piece x b e) (r : Answer) (q : worth r ≡ value names (decode-expr d t)) where
+  constant-here : worth r ≡ value names (decode-expr d (piece x b e))
+  constant-here = q ∙ ap (λ (u : Bytes). value names (decode-expr d u)) qt
+
+  pub constant-known : {v : ℕ} → r ≡ Known v → ConstantIs (record { out = false; known = true; value = v }) (value names (decode-expr d (piece x b e)))
+  constant-known {v} f =
+      let z : value names (decode-expr d (piece x b e)) ≡ known (signed v) = sym constant-here ∙ ap worth f in
+      record { out = ap is-outside (sym z); within = λ _. z ∙ ap known (same-word v) }
+
+  pub constant-missing : r ≡ Missing → ConstantIs (record { out = false; known = false; value = 0 }) (value names (decode-expr d (piece x b e)))
+  constant-missing f =
+      let z : value names (decode-expr d (piece x b e)) ≡ missing = sym constant-here ∙ ap worth f in
+      record { out = ap is-outside (sym z); within = λ _. z }
+
+  pub constant-outside : r ≡ Outside → ConstantIs (record { out = true; known = false; value = 0 }) (value names (decode-expr d (piece x b e)))
+  constant-outside f =
+      let z : value names (decode-expr d (piece x b e)) ≡ outside = sym constant-here ∙ ap worth f in
+      record { out = ap is-outside (sym z); within = λ g. absurd (true≢false g) }
+
+-- ---- extents
+
+module _ (y : Bytes) (end : ℕ) (bound : Bool) (d : ℕ) (names : Names) where
+  pub extent-whole : follows y end ≡ false → ExtentAt (extended.Is extent.Whole) y end bound d names
+  unfolding show-index any-outside index-constants lvalue-extent
+  extent-whole f whole q l = (refl, refl)
+  extent-whole f (at-bit e) q l = absurd (no-part y end (show-expr e) [] q f)
+  extent-whole f (high-low h e) q l = absurd (no-part y end (show-expr h) (show-expr e ∷ []) q f)
+
+-- the constant that stands there is the one that is shown
+index-here : (y : Bytes) (end d : ℕ) (names : Names) {a : ℕ} → a ≡ part-end y (end + 1) → (h : Constant) → ConstantIs h (value names (decode-expr d (piece y end a)))
+    → (e : Expr) (xs : List Bytes) → expr-depth e ≤ d → drop end y ≡ show-rest (show-expr e ∷ xs) → ConstantIs h (value names e) × (drop a y ≡ show-rest xs)
+unfolding show-rest next-end
+index-here y end d names {a} qa h c e xs l q =
+    let p = placed y end 32 xs (expr-shown e .part) q in
+    let z : decode-expr d (piece y end a) ≡ e = ap (decode-expr d) (ap (piece y end) qa ∙ p .here) ∙ expr-shown e .back d l in
+    (rw z at c, ap (λ (m : ℕ). drop m y) qa ∙ p .follows)
+
+module _ (y : Bytes) (end : ℕ) (bound : Bool) (d : ℕ) (names : Names) (f : follows y end ≡ true) {a : ℕ} (qa : a ≡ part-end y (end + 1))
+    (h : Constant) (ch : ConstantIs h (value names (decode-expr d (piece y end a)))) where
+  pub extent-out : h .out ≡ true → ExtentAt extended.Outside y end bound d names
+  unfolding show-index any-outside index-constants index-depth
+  extent-out o whole q l = absurd (one-part y end q f)
+  extent-out o (at-bit e) q l = let c = index-here y end d names qa h ch e [] l q in rw (sym (c .0 .out) ∙ o)
+  extent-out o (high-low e k) q l = let c = index-here y end d names qa h ch e (show-expr k ∷ []) (omega arith) q in rw (sym (c .0 .out) ∙ o)
+
+  module _ (o : h .out ≡ false) where
+    pub extent-bit : follows y a ≡ false → (x : Extent) → extent-of x ≡ bit-extent bound (value-of (h .known) (h .value)) → ExtentAt (extended.Is x) y end bound d names
+    unfolding show-index any-outside index-constants lvalue-extent index-depth
+    extent-bit g x w whole q l = absurd (one-part y end q f)
+    extent-bit g x w (at-bit e) q l =
+        let c = index-here y end d names qa h ch e [] l q in
+        (rw (sym (c .0 .out) ∙ o), w ∙ ap (bit-extent bound) (sym (c .0 .within o)))
+    extent-bit g x w (high-low e k) q l =
+        let c = index-here y end d names qa h ch e (show-expr k ∷ []) (omega arith) q in
+        absurd (no-part y a (show-expr k) [] (c .1) g)
+
+    module _ (g : follows y a ≡ true) {b : ℕ} (qb : b ≡ part-end y (a + 1)) (m : Constant) (cm : ConstantIs m (value names (decode-expr d (piece y a b)))) where
+      pub extent-second-out : m .out ≡ true → ExtentAt extended.Outside y end bound d names
+      unfolding show-index any-outside index-constants index-depth
+      extent-second-out n whole q l = absurd (one-part y end q f)
+      extent-second-out n (at-bit e) q l = let c = index-here y end d names qa h ch e [] l q in absurd (one-part y a (c .1) g)
+      extent-second-out n (high-low e k) q l =
+          let c = index-here y end d names qa h ch e (show-expr k ∷ []) (omega arith) q in
+          let v = index-here y a d names qb m cm k [] (omega arith) (c .1) in
+          rw (sym (v .0 .out) ∙ n) (or-true (is-outside (value names e)))
+
+      pub extent-range : m .out ≡ false → (x : Extent) → extent-of x ≡ range-extent bound (value-of (h .known) (h .value)) (value-of (m .known) (m .value)) → ExtentAt (extended.Is x) y end bound d names
+      unfolding show-index any-outside index-constants lvalue-extent index-depth
+      extent-range n x w whole q l = absurd (one-part y end q f)
+      extent-range n x w (at-bit e) q l = let c = index-here y end d names qa h ch e [] l q in absurd (one-part y a (c .1) g)
+      extent-range n x w (high-low e k) q l =
+          let c = index-here y end d names qa h ch e (show-expr k ∷ []) (omega arith) q in
+          let v = index-here y a d names qb m cm k [] (omega arith) (c .1) in (
+            rw (sym (c .0 .out) ∙ o, sym (v .0 .out) ∙ n),
+            w ∙ ap (λ (z : Value). range-extent bound z (value-of (m .known) (m .value))) (sym (c .0 .within o)) ∙ ap (range-extent bound (value names e)) (sym (v .0 .within n)),
+          )
+
+-- ---- what a drive adds, by what driving does
+
+abbrev drive-own : Bool → Names → LValue → Driving → Own → Own
+drive-own bound names lv v o =
+    record {
+      sites = o .sites ++ drive-site v bound names lv;
+      pairs = o .pairs;
+      outputs = o .outputs;
+      regs = o .regs;
+      mems = o .mems;
+      misuses = add-all same-misused (drive-misuse v lv) (o .misuses);
+    }
+
+module _ (bound : Bool) (header : List Header) (names : Names) (lv : LValue) (e : Expr) (v : Driving) (q : driving (kind-of header (lv .name)) ≡ v) where
+  drive-line-own : (o : Own) → own-line bound header names (drive lv e) o ≡ drive-own bound names lv v o
+  unfolding own-line line-sites line-pairs line-outputs line-regs line-mems line-misuses add-all
+  drive-line-own o = ap (λ (u : Driving). drive-own bound names lv u o) q
+
+  pub drive-line-constants : line-constants header (drive lv e) ≡ drive-constants v (lv .index)
+  unfolding line-constants
+  drive-line-constants = ap (λ (u : Driving). drive-constants u (lv .index)) q
+
+  drive-by : any-outside names (drive-constants v (lv .index)) ≡ false → (text : Bytes) (own : List ℕ) (o : Own) → Held text own (drive-own bound names lv v o)
+      → OwnAfter true text own bound header names (drive lv e) o
+  drive-by c text own o h =
+      let k : Held text own (own-line bound header names (drive lv e) o) = rw (drive-line-own o) h in
+      (rw drive-line-constants c, k, held-within text own (own-line bound header names (drive lv e) o) k)
+
+  drive-over : (o : Own) → ltb 1024 (length (o .sites ++ drive-site v bound names lv)) ≡ true → over-own (own-line bound header names (drive lv e) o) ≡ true
+  unfolding over-own
+  drive-over o l = ap over-own (drive-line-own o) ∙ rw l
+
+true-right : (a b : Bool) → b ≡ true → a || b ≡ true
+true-right a b e = rw e (or-true a)
+
+-- ---- the drive of an output
+
+module _ (y : Bytes) (l : Named) (bound : Bool) (d : ℕ) (names : Names) (x : E.Extended) (hx : ExtentAt x y (l .end) bound d names) where
+  extent-told : (lv : LValue) → ShowsLValue y d lv → NamedIs l y (lv .name) (lv .start) (show-index (lv .index)) → (z : E.Extended) → x ≡ z → ExtentIs z bound names (lv .index)
+  extent-told lv p n z q = rw q at (hx (lv .index) (n .behind) (p .deep))
+
+  pub output-outside : (own own′ : List ℕ) → x ≡ extended.Outside → DriveOutput false y l bound d names own own′
+  output-outside own own′ q lv e p n header k text o h =
+      let t = extent-told lv p n extended.Outside q in
+      rw (drive-line-constants bound header names lv e an-output (ap driving k), t)
+
+  module _ (own own′ : List ℕ) (w : Extent) (q : x ≡ extended.Is w) (r : Stored) (size : length own′ ≡ length own)
+      (s : length own ≡ table.places → added r (own-of own′) ≡ add-site (site-of (record { name = l .name; extent = w; start = l .start })) (own-of own)) where
+    abbrev new-site : Site
+    new-site = site-of (record { name = l .name; extent = w; start = l .start })
+
+    site-told : (lv : LValue) → ShowsLValue y d lv → NamedIs l y (lv .name) (lv .start) (show-index (lv .index)) → new-site ∷ [] ≡ drive-site an-output bound names lv
+    site-told lv p n = let t = extent-told lv p n (extended.Is w) q .1 in λ i. record { name = n .name i; extent = t i; start = n .start i } ∷ []
+
+    -- there is room, or there is none
+    site-room : (o : Own) → own-of own .sites ≡ o .sites → ltb (length (o .sites)) 1024 ≡ true
+        → add-site new-site (own-of own) ≡ added stored.Done (record { sites = own-of own .sites ++ new-site ∷ []; pairs = own-of own .pairs; outputs = own-of own .outputs; regs = own-of own .regs; mems = own-of own .mems; misuses = own-of own .misuses; conflicts = own-of own .conflicts })
+    unfolding add-site grown
+    site-room o h e = let f : ltb (length (own-of own .sites)) 1024 ≡ true = ap (λ (z : List Site). ltb (length z) 1024) h ∙ e in rw (f, add-site, grown, room)
+
+    site-over : (o : Own) → own-of own .sites ≡ o .sites → ltb (length (o .sites)) 1024 ≡ false → add-site new-site (own-of own) .answer ≡ stored.Full
+    unfolding add-site
+    site-over o h e = let f : ltb (length (own-of own .sites)) 1024 ≡ false = ap (λ (z : List Site). ltb (length z) 1024) h ∙ e in rw (f, add-site, room)
+
+    module _ (lv : LValue) (e : Expr) (p : ShowsLValue y d lv) (n : NamedIs l y (lv .name) (lv .start) (show-index (lv .index))) (header : List Header)
+        (k : kind-of header (lv .name) ≡ some out-kind) (text : Bytes) (o : Own) (h : Held text own o) where
+      done-room : ltb (length (o .sites)) 1024 ≡ true → OwnAfter true text own′ bound header names (drive lv e) o
+      unfolding add-all
+      done-room f =
+          let g = s (h .sized) ∙ site-room o (h .sites) f in
+          let u : own-of own .sites ++ new-site ∷ [] ≡ o .sites ++ drive-site an-output bound names lv =
+          ap (λ (z : List Site). z ++ new-site ∷ []) (h .sites) ∙ ap (λ (z : List Site). o .sites ++ z) (site-told lv p n) in
+          drive-by bound header names lv e an-output (ap driving k) (extent-told lv p n (extended.Is w) q .0) text own′ o
+          (held-sites text own own′ o h size (own-of own .sites ++ new-site ∷ []) (ap (λ (z : table.Added). z .own) g) (o .sites ++ drive-site an-output bound names lv) u)
+
+      full-over : ltb (length (o .sites)) 1024 ≡ false → OwnAfter false text own′ bound header names (drive lv e) o
+      full-over f =
+          let a = ltb-false (length (o .sites)) 1024 f in
+          let b : ltb 1024 (length (o .sites ++ drive-site an-output bound names lv)) ≡ true =
+          lt-ltb 1024 (length (o .sites ++ drive-site an-output bound names lv)) (omega (arith, length-append (o .sites) (drive-site an-output bound names lv))) in
+          true-right (any-outside names (line-constants header (drive lv e))) (over-own (own-line bound header names (drive lv e) o))
+          (drive-over bound header names lv e an-output (ap driving k) o b)
+
+      is-done : r ≡ stored.Done → (b : Bool) → ltb (length (o .sites)) 1024 ≡ b → OwnAfter true text own′ bound header names (drive lv e) o
+      is-done rd true f = done-room f
+      is-done rd false f =
+          let z : r ≡ stored.Full = ap (λ (u : table.Added). u .answer) (s (h .sized)) ∙ site-over o (h .sites) f in
+          let x : _≡_ {A = ℕ} 0 1 = cc in
+          absurd (omega arith)
+
+      is-full : r ≡ stored.Full → (b : Bool) → ltb (length (o .sites)) 1024 ≡ b → OwnAfter false text own′ bound header names (drive lv e) o
+      is-full rf false f = full-over f
+      is-full rf true f =
+          let z : r ≡ stored.Done = ap (λ (u : table.Added). u .answer) (s (h .sized) ∙ site-room o (h .sites) f) in
+          let x : _≡_ {A = ℕ} 0 1 = cc in
+          absurd (omega arith)
+
+    pub output-done : r ≡ stored.Done → DriveOutput true y l bound d names own own′
+    output-done rd lv e p n header k text o h = is-done lv e p n header k text o h rd (ltb (length (o .sites)) 1024) refl
+
+    pub output-full : r ≡ stored.Full → DriveOutput false y l bound d names own own′
+    output-full rf lv e p n header k text o h = is-full lv e p n header k text o h rf (ltb (length (o .sites)) 1024) refl
+
+-- ---- a drive line, by the kind of its name
+
+pub other-driving : (k : ℕ) → (k ≡ 2 → ⊥) → (k ≡ 3 → ⊥) → (k ≡ 4 → ⊥) → (k ≡ 5 → ⊥) → driving (kind-word k) ≡ nothing
+other-driving zero a b c e = refl
+other-driving (suc zero) a b c e = refl
+other-driving (suc (suc zero)) a b c e = absurd (a refl)
+other-driving (suc (suc (suc zero))) a b c e = absurd (b refl)
+other-driving (suc (suc (suc (suc zero)))) a b c e = absurd (c refl)
+other-driving (suc (suc (suc (suc (suc zero))))) a b c e = absurd (e refl)
+other-driving (suc (suc (suc (suc (suc (suc k)))))) a b c e = refl
+
+module _ (x : Bytes) (bound : Bool) (d : ℕ) (kinds : List ℕ) (names : Names) (own : List ℕ) {a : ℕ} (qa : a ≡ part-end x 7) {y : Bytes} (qy : y ≡ piece x 6 a)
+    (l : Named) (nl : NamedAt l y 3) {k : ℕ} (qk : k ≡ getD kinds (l .name) 0) where
+  line-named : (lv : LValue) (e : Expr) → ShowsItem x d (drive lv e) → NamedIs l y (lv .name) (lv .start) (show-index (lv .index))
+  line-named lv e p = lvalue-named y d lv (drive-lvalue x d lv e p qa qy) l nl
+
+  line-kind : (lv : LValue) (e : Expr) → ShowsItem x d (drive lv e) → (header : List Header) → KindsOf kinds header → kind-of header (lv .name) ≡ kind-word k
+  line-kind lv e p header w = kind-here kinds (lv .name) header w (line-named lv e p .name) qk
+
+  pub line-output : k ≡ 2 → (r : Bool) (own′ : List ℕ) → DriveOutput r y l bound d names own own′ → DriveLine r x bound d kinds names own own′
+  line-output z r own′ f lv e p header w text o h =
+      f lv e (drive-lvalue x d lv e p qa qy) (line-named lv e p) header (line-kind lv e p header w ∙ ap kind-word z) text o h
+
+  pub line-other : driving (kind-word k) ≡ nothing → DriveLine true x bound d kinds names own own
+  unfolding add-all any-outside
+  line-other z lv e p header w text o h =
+      let g : drive-own bound names lv nothing o ≡ o =
+      λ i. record { sites = append-nil (o .sites) i; pairs = o .pairs; outputs = o .outputs; regs = o .regs; mems = o .mems; misuses = o .misuses } in
+      drive-by bound header names lv e nothing (ap driving (line-kind lv e p header w) ∙ z) refl text own o (rw g h)
+
+  module _ (m : Misuse) (own′ : List ℕ) (size : length own′ ≡ length own)
+      (s : length own ≡ table.places → own-of own′ ≡ add-misuse (record { name = l .name; start = l .start; misuse = misuse-of m }) (own-of own)) where
+    line-misused : (v : Driving) → driving (kind-word k) ≡ v → ((lv : LValue) → drive-site v bound names lv ≡ []) → ((i : Index) → any-outside names (drive-constants v i) ≡ false)
+        → ((lv : LValue) → drive-misuse v lv ≡ record { name = lv .name; start = lv .start; misuse = misuse-of m } ∷ []) → DriveLine true x bound d kinds names own own′
+    unfolding add-all
+    line-misused v z ds dc dm lv e p header w text o h =
+        let n = line-named lv e p in
+        let c : Misused = record { name = l .name; start = l .start; misuse = misuse-of m } in
+        let small = drive-lvalue x d lv e p qa qy .name in
+        let u : c ∷ [] ≡ drive-misuse v lv = (λ i. record { name = n .name i; start = n .start i; misuse = misuse-of m } ∷ []) ∙ sym (dm lv) in
+        let t : o .sites ≡ o .sites ++ drive-site v bound names lv = sym (append-nil (o .sites)) ∙ ap (λ (z : List Site). o .sites ++ z) (sym (ds lv)) in
+        let g : with-block [] (c ∷ []) o ≡ drive-own bound names lv v o =
+        λ i. record { sites = t i; pairs = o .pairs; outputs = o .outputs; regs = o .regs; mems = o .mems; misuses = add-all same-misused (u i) (o .misuses) } in
+        drive-by bound header names lv e v (ap driving (line-kind lv e p header w) ∙ z) (dc (lv .index)) text own′ o
+        (rw g at (held-misuse text own own′ o h size c (omega (arith, n .name)) (s (h .sized))))
+
+  module _ (own′ : List ℕ) (size : length own′ ≡ length own) where
+    pub line-wire : k ≡ 3 → (length own ≡ table.places → own-of own′ ≡ add-misuse (record { name = l .name; start = l .start; misuse = misuse-of misuse.Wire }) (own-of own))
+        → DriveLine true x bound d kinds names own own′
+    unfolding any-outside
+    line-wire z s = line-misused misuse.Wire own′ size s a-wire (ap (λ (j : ℕ). driving (kind-word j)) z) (λ lv. refl) (λ i. refl) (λ lv. refl)
+
+    pub line-reg : k ≡ 4 → (length own ≡ table.places → own-of own′ ≡ add-misuse (record { name = l .name; start = l .start; misuse = misuse-of misuse.Reg }) (own-of own))
+        → DriveLine true x bound d kinds names own own′
+    unfolding any-outside
+    line-reg z s = line-misused misuse.Reg own′ size s a-reg (ap (λ (j : ℕ). driving (kind-word j)) z) (λ lv. refl) (λ i. refl) (λ lv. refl)
+
+    pub line-mem : k ≡ 5 → (length own ≡ table.places → own-of own′ ≡ add-misuse (record { name = l .name; start = l .start; misuse = misuse-of misuse.Mem }) (own-of own))
+        → DriveLine true x bound d kinds names own own′
+    unfolding any-outside
+    line-mem z s = line-misused misuse.Mem own′ size s a-mem (ap (λ (j : ℕ). driving (kind-word j)) z) (λ lv. refl) (λ i. refl) (λ lv. refl)
+
+  -- whether a constant of the line is outside INT
+  pub outside-other : (k ≡ 2 → ⊥) → (lv : LValue) (e : Expr) → ShowsItem x d (drive lv e) → (header : List Header) → KindsOf kinds header → false ≡ any-outside names (line-constants header (drive lv e))
+  unfolding any-outside
+  outside-other z lv e p header w = go k (line-kind lv e p header w) z
+    where
+      by : (v : Driving) → driving (kind-of header (lv .name)) ≡ v → any-outside names (drive-constants v (lv .index)) ≡ false → false ≡ any-outside names (line-constants header (drive lv e))
+      by v q c = sym (rw (drive-line-constants bound header names lv e v q) c)
+
+      go : (j : ℕ) → kind-of header (lv .name) ≡ kind-word j → (j ≡ 2 → ⊥) → false ≡ any-outside names (line-constants header (drive lv e))
+      go zero q f = by nothing (ap driving q) refl
+      go (suc zero) q f = by nothing (ap driving q) refl
+      go (suc (suc zero)) q f = absurd (f refl)
+      go (suc (suc (suc zero))) q f = by a-wire (ap driving q) refl
+      go (suc (suc (suc (suc zero)))) q f = by a-reg (ap driving q) refl
+      go (suc (suc (suc (suc (suc zero))))) q f = by a-mem (ap driving q) refl
+      go (suc (suc (suc (suc (suc (suc j)))))) q f = by nothing (ap driving q) refl
+
+  module _ (z : k ≡ 2) (v : E.Extended) (hv : ExtentAt v y (l .end) bound d names) (lv : LValue) (e : Expr) (p : ShowsItem x d (drive lv e)) (header : List Header) (w : KindsOf kinds header) where
+    output-constants : line-constants header (drive lv e) ≡ index-constants (lv .index)
+    output-constants = drive-line-constants bound header names lv e an-output (ap driving (line-kind lv e p header w ∙ ap kind-word z))
+
+    output-told : (u : E.Extended) → v ≡ u → ExtentIs u bound names (lv .index)
+    output-told = extent-told y l bound d names v hv lv (drive-lvalue x d lv e p qa qy) (line-named lv e p)
+
+    pub outside-not : {u : Extent} → v ≡ extended.Is u → false ≡ any-outside names (line-constants header (drive lv e))
+    outside-not {u} q = sym (rw output-constants (output-told (extended.Is u) q .0))
+
+    pub outside-is : v ≡ extended.Outside → true ≡ any-outside names (line-constants header (drive lv e))
+    outside-is q = sym (rw output-constants (output-told extended.Outside q))

@@ -1,0 +1,5 @@
+pub mod Tables
+pub mod Places
+pub mod DriveLaws
+pub mod BlockLaws
+pub mod LineLaws

@@ -1,0 +1,176 @@
+-- What the code says of a collected line and of the parts of one. 01: The site; The block.
+-- Assumes nothing: these are definitions and statements.
+use mathlib.Core.Path.{_≡_}
+use mathlib.Core.Bool.{Bool, true, false}
+use mathlib.Core.List.{List, [], _∷_}
+use mathlib.Core.Option.{some}
+use Prim.Native.Nat.{ℕ, _+_, _≤_, _<_}
+use lib.ListN.{length, getD, take, drop}
+use lib.Dec.{ltb}
+use Rattle.spec.specs.Bytes.{Bytes, show-number, show-rest}
+use Rattle.spec.specs.Syntax.{name-bound, number-bound, out-kind, Expr, Width, Index, LValue, Stmt, Stmts, set, default, Dir, Item, port, wire, reg, mem, const, drive, on, inst, repeat, const-if, Header}
+use Rattle.spec.specs.Show.{show-index, show-lvalue, show-stmt, show-stmts}
+use Rattle.spec.specs.Decode.{decode-expr}
+use Rattle.spec.specs.Refusal.{index-depth, stmt-depth, stmts-depth, stmt-in-range, stmts-in-range}
+use Rattle.spec.specs.Value.{Value, Names, value, is-outside}
+use Rattle.spec.specs.Site.{kind-of, lvalue-extent, index-constants, line-constants, any-outside, Misused, stmt-misuses, stmts-misuses}
+use Rattle.spec.specs.Block.{Pair, stmt-pairs, stmts-pairs}
+use Rattle.spec.specs.Check.{pair-limit}
+use Rattle.lines.specs.Parts.{piece}
+use Rattle.sites.specs.Own.{extent-of, value-of}
+use Rattle.runs.specs.Run.{ShowsItem}
+use Rattle.edges.specs.Reads.{KindsOf}
+use Rattle.steps.specs.Steps.{plain}
+use Rattle.walk.specs.Walk.{Own, add-all, same-pair, same-misused}
+use Rattle.items.specs.declared.Named.{Named}
+use Rattle.items.specs.declared.Constant.{Constant}
+use Rattle.items.specs.declared.Extended as E
+use Rattle.items.specs.declared.Extended.the-variants as extended
+use Rattle.items.specs.Held.{Held, OwnAfter}
+
+-- the bytes x stand in the text from `base` on, and each place of the text is a word
+pub record StandsAt (text : Bytes) (base : ℕ) (x : Bytes) : Type 0 where
+  pub here : x ≡ take (length x) (drop base text)
+  pub inside : base + length x ≤ length text
+  pub short : length text < 4294967296
+
+-- the counts are 0, and every other word stays
+pub record Emptied (old new : List ℕ) : Type 0 where
+  pub size : length new ≡ length old
+  pub counts : (k : ℕ) → k < 7 → getD new k 0 ≡ 0
+  pub others : (k : ℕ) → 7 ≤ k → getD new k 0 ≡ getD old k 0
+
+-- ---- 01, The line: parts of a line
+
+-- r is the number that stands behind the byte at `before`, up to `end`
+abbrev pub NumberIs : ℕ → Bytes → ℕ → ℕ → Type 0
+NumberIs r x before end = (n : ℕ) → piece x before end ≡ show-number n → n < 4294967296 → r ≡ n
+
+-- a name and a START, and where the parts behind them stand
+pub record NamedIs (r : Named) (x : Bytes) (n s : ℕ) (xs : List Bytes) : Type 0 where
+  pub name : r .name ≡ n
+  pub start : r .start ≡ s
+  pub behind : drop (r .end) x ≡ show-rest xs
+
+abbrev pub NamedAt : Named → Bytes → ℕ → Type 0
+NamedAt r x before =
+    (n start : ℕ) (xs : List Bytes) → drop before x ≡ show-rest (show-number n ∷ show-number start ∷ xs) → n < name-bound → start < number-bound
+    → NamedIs r x n start xs
+
+-- the bytes x show an LV, whose indexes are at most d brackets deep
+pub record ShowsLValue (x : Bytes) (d : ℕ) (lv : LValue) : Type 0 where
+  pub shown : x ≡ show-lvalue lv
+  pub deep : index-depth (lv .index) ≤ d
+  pub name : lv .name < name-bound
+  pub start : lv .start < number-bound
+
+-- the bytes x show a statement, which is in range and at most d brackets deep
+pub record ShowsStmt (x : Bytes) (d : ℕ) (s : Stmt) : Type 0 where
+  pub shown : x ≡ show-stmt s
+  pub deep : stmt-depth s ≤ d
+  pub ranged : stmt-in-range s ≡ true
+
+-- the parts of x behind `end` show statements
+pub record ShowsStmts (x : Bytes) (end d : ℕ) (ss : Stmts) : Type 0 where
+  pub shown : drop end x ≡ show-rest (show-stmts ss)
+  pub deep : stmts-depth ss ≤ d
+  pub ranged : stmts-in-range ss ≡ true
+
+-- ---- 01, The site: a drive
+
+-- the value of a constant, if it is not outside INT
+pub record ConstantIs (r : Constant) (v : Value) : Type 0 where
+  pub out : r .out ≡ is-outside v
+  pub within : r .out ≡ false → v ≡ value-of (r .known) (r .value)
+
+-- the extent of an index, or one of its constants is outside INT
+abbrev pub ExtentIs : E.Extended → Bool → Names → Index → Type 0
+ExtentIs (extended.Is e) bound names i = (any-outside names (index-constants i) ≡ false) × (extent-of e ≡ lvalue-extent bound names i)
+ExtentIs extended.Outside bound names i = any-outside names (index-constants i) ≡ true
+
+abbrev pub ExtentAt : E.Extended → Bytes → ℕ → Bool → ℕ → Names → Type 0
+ExtentAt r x end bound d names = (i : Index) → drop end x ≡ show-rest (show-index i) → index-depth i ≤ d → ExtentIs r bound names i
+
+-- ---- 01, The block: statements
+
+-- the tables with these pairs and misuses more, each where it is new
+abbrev pub with-block : List Pair → List Misused → Own → Own
+with-block ps ms o =
+    record {
+      sites = o .sites;
+      pairs = add-all same-pair ps (o .pairs);
+      outputs = o .outputs;
+      regs = o .regs;
+      mems = o .mems;
+      misuses = add-all same-misused ms (o .misuses);
+    }
+
+-- what statements leave: their pairs and misuses; or there are too many pairs
+abbrev pub BlockAfter : Bool → Bytes → List ℕ → List Pair → List Misused → Own → Type 0
+BlockAfter true text own ps ms o = Held text own (with-block ps ms o)
+BlockAfter false text own ps ms o = ltb pair-limit (length (add-all same-pair ps (o .pairs))) ≡ true
+
+-- the tables after a `set`, or a `default`
+abbrev pub SetAfter : Bool → Bytes → ℕ → List ℕ → List ℕ → List ℕ → Type 0
+SetAfter r x block kinds own own′ =
+    (n start d : ℕ) → ShowsStmt x d (set n start) → (header : List Header) → KindsOf kinds header
+    → (text : Bytes) (o : Own) → Held text own o → BlockAfter r text own′ (stmt-pairs (set n start) header block) (stmt-misuses (set n start) header) o
+
+abbrev pub DefaultAfter : Bool → Bytes → ℕ → List ℕ → List ℕ → List ℕ → Type 0
+DefaultAfter r x block kinds own own′ =
+    (n d : ℕ) → ShowsStmt x d (default n) → (header : List Header) → KindsOf kinds header
+    → (text : Bytes) (o : Own) → Held text own o → BlockAfter r text own′ (stmt-pairs (default n) header block) (stmt-misuses (default n) header) o
+
+abbrev pub StmtAfter : Bool → Bytes → ℕ → ℕ → List ℕ → List ℕ → List ℕ → Type 0
+StmtAfter r x block d kinds own own′ =
+    (s : Stmt) → ShowsStmt x d s → (header : List Header) → KindsOf kinds header
+    → (text : Bytes) (o : Own) → Held text own o → BlockAfter r text own′ (stmt-pairs s header block) (stmt-misuses s header) o
+
+abbrev pub StmtsAfter : Bool → Bytes → ℕ → ℕ → ℕ → List ℕ → List ℕ → List ℕ → Type 0
+StmtsAfter r x end block d kinds own own′ =
+    (ss : Stmts) → ShowsStmts x end d ss → (header : List Header) → KindsOf kinds header
+    → (text : Bytes) (o : Own) → Held text own o → BlockAfter r text own′ (stmts-pairs ss header block) (stmts-misuses ss header) o
+
+-- ---- 01, The collected item: lines
+
+-- what a line leaves that evaluates nothing and passes no limit, whatever the module
+abbrev pub Leaves : Bytes → List ℕ → Item → Own → Type 0
+Leaves text own i o = (bound : Bool) (header : List Header) (names : Names) → OwnAfter true text own bound header names i o
+
+abbrev pub PortLine : Bytes → ℕ → List ℕ → List ℕ → Type 0
+PortLine x base own own′ =
+    (text : Bytes) (dir : Dir) (n : ℕ) (w : Width) (start d : ℕ) → ShowsItem x d (port dir n w start) → StandsAt text base x
+    → (o : Own) → Held text own o → Leaves text own′ (port dir n w start) o
+
+abbrev pub RegLine : Bytes → List ℕ → List ℕ → Type 0
+RegLine x own own′ = (text : Bytes) (n start d : ℕ) → ShowsItem x d (reg n start) → (o : Own) → Held text own o → Leaves text own′ (reg n start) o
+
+abbrev pub MemLine : Bytes → List ℕ → List ℕ → Type 0
+MemLine x own own′ = (text : Bytes) (n start d : ℕ) → ShowsItem x d (mem n start) → (o : Own) → Held text own o → Leaves text own′ (mem n start) o
+
+-- the drive of an output, of which l has the name and the START
+abbrev pub DriveOutput : Bool → Bytes → Named → Bool → ℕ → Names → List ℕ → List ℕ → Type 0
+DriveOutput r x l bound d names own own′ =
+    (lv : LValue) (e : Expr) → ShowsLValue x d lv → NamedIs l x (lv .name) (lv .start) (show-index (lv .index)) → (header : List Header)
+    → kind-of header (lv .name) ≡ some out-kind → (text : Bytes) (o : Own) → Held text own o → OwnAfter r text own′ bound header names (drive lv e) o
+
+abbrev pub DriveLine : Bool → Bytes → Bool → ℕ → List ℕ → Names → List ℕ → List ℕ → Type 0
+DriveLine r x bound d kinds names own own′ =
+    (lv : LValue) (e : Expr) → ShowsItem x d (drive lv e) → (header : List Header) → KindsOf kinds header
+    → (text : Bytes) (o : Own) → Held text own o → OwnAfter r text own′ bound header names (drive lv e) o
+
+abbrev pub OnLine : Bool → Bytes → ℕ → List ℕ → List ℕ → List ℕ → Type 0
+OnLine r x d kinds own own′ =
+    (start : ℕ) (ss : Stmts) → ShowsItem x d (on start ss) → (header : List Header) → KindsOf kinds header
+    → (text : Bytes) (o : Own) → Held text own o → (bound : Bool) (names : Names) → OwnAfter r text own′ bound header names (on start ss) o
+
+-- any line that is plain
+abbrev pub OwnLine : Bool → Bytes → ℕ → Bool → ℕ → List ℕ → Names → List ℕ → List ℕ → Type 0
+OwnLine r x base bound d kinds names own own′ =
+    (text : Bytes) (i : Item) → ShowsItem x d i → plain i ≡ true → StandsAt text base x → (header : List Header) → KindsOf kinds header
+    → (o : Own) → Held text own o → OwnAfter r text own′ bound header names i o
+
+-- in a summary's walk, which has no own tables: whether a constant of the line is outside INT
+abbrev pub OutsideIs : Bool → Bytes → ℕ → List ℕ → Names → Type 0
+OutsideIs r x d kinds names =
+    (i : Item) → ShowsItem x d i → plain i ≡ true → (header : List Header) → KindsOf kinds header → r ≡ any-outside names (line-constants header i)
