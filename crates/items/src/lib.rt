@@ -3,6 +3,9 @@ use consteval::Value;
 use lines::numbers;
 use lines::parts;
 use sites::Extent;
+use sites::Misuse;
+use sites::Site;
+use sites::Stored;
 ghost use mathlib.Core.Path.{_≡_};
 ghost use lib.ListN.{length};
 ghost use Rattle.spec.specs.Bytes.{Bytes};
@@ -13,7 +16,7 @@ ghost use Rattle.lines.specs.Parts.{piece};
 ghost use Rattle.sites.specs.Own.{places};
 ghost use Rattle.walk.specs.Walk.{no-own};
 ghost use Rattle.items.specs.Held.{Held};
-ghost use Rattle.items.specs.Lines.{Emptied, NumberIs, NamedAt, ConstantIs};
+ghost use Rattle.items.specs.Lines.{Emptied, NumberIs, NamedAt, ConstantIs, ExtentAt, SetAfter, DefaultAfter, StmtAfter, StmtsAfter, PortLine, RegLine, MemLine, DriveOutput, DriveLine, OnLine, OwnLine, OutsideIs};
 
 // Empties the tables before the first item of a module: the counts become 0, and no other word matters then.
 pub fn reset(own: &mut [u32])
@@ -117,4 +120,287 @@ fn constant_at(
 enum Extended {
     Is(Extent),
     Outside,
+}
+
+// An output's line; its width stands in the text, in which the line begins at `base`. A `port in` line adds nothing.
+fn port_line(x: &[u8], base: u32, own: &mut [u32])
+    ensures { λ _. ⌜ PortLine (now (x .entry)) base (now (own .entry)) (now (own .exit)) ⌝ }
+    ensures { λ _. ⌜ length (now (own .exit)) ≡ length (now (own .entry)) ⌝ }
+{
+    if parts::byte(x, 6) != b'o' {
+        return;
+    }
+    if !parts::more(x, 9) {
+        return;
+    }
+    let a = parts::part_end(x, 10);
+    if !parts::more(x, a) {
+        return;
+    }
+    let b = parts::part_end(x, a + 1);
+    if !parts::more(x, b) {
+        return;
+    }
+    let c = parts::part_end(x, b + 1);
+    if ((4294967295 - base) as usize) < b {
+        return;
+    }
+    let name = number(x, 9, a);
+    let start = number(x, b, c);
+    sites::add_output(own, name, start, base + (a + 1) as u32, base + b as u32);
+}
+
+fn reg_line(x: &[u8], own: &mut [u32])
+    ensures { λ _. ⌜ RegLine (now (x .entry)) (now (own .entry)) (now (own .exit)) ⌝ }
+    ensures { λ _. ⌜ length (now (own .exit)) ≡ length (now (own .entry)) ⌝ }
+{
+    let l = named_at(x, 4);
+    sites::add_reg(own, l.name, l.start);
+}
+
+fn mem_line(x: &[u8], own: &mut [u32])
+    ensures { λ _. ⌜ MemLine (now (x .entry)) (now (own .entry)) (now (own .exit)) ⌝ }
+    ensures { λ _. ⌜ length (now (own .exit)) ≡ length (now (own .entry)) ⌝ }
+{
+    let l = named_at(x, 4);
+    sites::add_mem(own, l.name, l.start);
+}
+
+// The extent of an LV, by the indexes behind its START, which ends at `end`.
+fn extent_at(lv: &[u8], end: usize, bound: bool, depth: u32, names: &[u32], used: usize) -> Extended
+    ensures { λ r. ⌜ ExtentAt r (now (lv .entry)) end bound depth (names-of (now (names .entry)) used) ⌝ }
+{
+    if !parts::more(lv, end) {
+        return Extended::Is(Extent::Whole);
+    }
+    let a = parts::part_end(lv, end + 1);
+    let h = constant_at(lv, end, a, depth, names, used);
+    if h.out {
+        return Extended::Outside;
+    }
+    if !parts::more(lv, a) {
+        let e = sites::bit_extent(bound, h.known, h.value);
+        return Extended::Is(e);
+    }
+    let b = parts::part_end(lv, a + 1);
+    let l = constant_at(lv, a, b, depth, names, used);
+    if l.out {
+        return Extended::Outside;
+    }
+    let e = sites::range_extent(bound, h.known, h.value, l.known, l.value);
+    Extended::Is(e)
+}
+
+// A driven output: a site, unless an index is outside INT or there are too many.
+fn drive_output(
+    lv: &[u8],
+    l: Named,
+    bound: bool,
+    depth: u32,
+    names: &[u32],
+    used: usize,
+    own: &mut [u32],
+) -> bool
+    ensures { λ r. ⌜ DriveOutput r (now (lv .entry)) l bound depth (names-of (now (names .entry)) used) (now (own .entry)) (now (own .exit)) ⌝ }
+    ensures { λ _. ⌜ length (now (own .exit)) ≡ length (now (own .entry)) ⌝ }
+{
+    let end = l.end;
+    match extent_at(lv, end, bound, depth, names, used) {
+        Extended::Is(e) => match sites::add_site(
+            own,
+            Site {
+                name: l.name,
+                extent: e,
+                start: l.start,
+            },
+        ) {
+            Stored::Done => true,
+            Stored::Full => false,
+        },
+        Extended::Outside => false,
+    }
+}
+
+// A driven name: a site of an output, or the misuse of a wire, a register or a memory.
+fn drive_line(
+    x: &[u8],
+    bound: bool,
+    depth: u32,
+    kinds: &[u8],
+    names: &[u32],
+    used: usize,
+    own: &mut [u32],
+) -> bool
+    ensures { λ r. ⌜ DriveLine r (now (x .entry)) bound depth (now (kinds .entry)) (names-of (now (names .entry)) used) (now (own .entry)) (now (own .exit)) ⌝ }
+    ensures { λ _. ⌜ length (now (own .exit)) ≡ length (now (own .entry)) ⌝ }
+{
+    let lv = parts::between(x, 6, parts::part_end(x, 7));
+    let l = named_at(lv, 3);
+    let k = parts::byte(kinds, l.name as usize);
+    if k == 2 {
+        return drive_output(lv, l, bound, depth, names, used, own);
+    }
+    if k == 3 {
+        sites::add_misuse(own, l.name, l.start, Misuse::Wire);
+        return true;
+    }
+    if k == 4 {
+        sites::add_misuse(own, l.name, l.start, Misuse::Reg);
+        return true;
+    }
+    if k == 5 {
+        sites::add_misuse(own, l.name, l.start, Misuse::Mem);
+        return true;
+    }
+    true
+}
+
+// `set`: a block of a register or a memory; an arrow to a wire or an output.
+fn set_stmt(s: &[u8], block: u32, kinds: &[u8], own: &mut [u32]) -> bool
+    ensures { λ r. ⌜ SetAfter r (now (s .entry)) block (now (kinds .entry)) (now (own .entry)) (now (own .exit)) ⌝ }
+    ensures { λ _. ⌜ length (now (own .exit)) ≡ length (now (own .entry)) ⌝ }
+{
+    let l = named_at(s, 4);
+    let k = parts::byte(kinds, l.name as usize);
+    if k < 2 {
+        return true;
+    }
+    if k < 4 {
+        sites::add_misuse(own, l.name, l.start, Misuse::Arrow);
+        return true;
+    }
+    if 5 < k {
+        return true;
+    }
+    match sites::add_pair(own, l.name, block) {
+        Stored::Done => true,
+        Stored::Full => false,
+    }
+}
+
+// `default`: a block of a register.
+fn default_stmt(s: &[u8], block: u32, kinds: &[u8], own: &mut [u32]) -> bool
+    ensures { λ r. ⌜ DefaultAfter r (now (s .entry)) block (now (kinds .entry)) (now (own .entry)) (now (own .exit)) ⌝ }
+    ensures { λ _. ⌜ length (now (own .exit)) ≡ length (now (own .entry)) ⌝ }
+{
+    let n = number(s, 8, parts::part_end(s, 9));
+    if parts::byte(kinds, n as usize) != 4 {
+        return true;
+    }
+    match sites::add_pair(own, n, block) {
+        Stored::Done => true,
+        Stored::Full => false,
+    }
+}
+
+// One statement of a block, by the first byte of its word.
+fn block_stmt(s: &[u8], block: u32, depth: u32, kinds: &[u8], own: &mut [u32]) -> bool
+    ensures { λ r. ⌜ StmtAfter r (now (s .entry)) block depth (now (kinds .entry)) (now (own .entry)) (now (own .exit)) ⌝ }
+    ensures { λ _. ⌜ length (now (own .exit)) ≡ length (now (own .entry)) ⌝ }
+{
+    if depth == 0 {
+        return true;
+    }
+    let c = parts::byte(s, 1);
+    if c == b's' {
+        return set_stmt(s, block, kinds, own);
+    }
+    if c == b'd' {
+        return default_stmt(s, block, kinds, own);
+    }
+    if c == b'l' {
+        return block_stmts(s, 5, block, depth - 1, kinds, own);
+    }
+    let a = parts::part_end(s, 6);
+    if !parts::more(s, a) {
+        return true;
+    }
+    if !block_stmts(parts::between(s, 5, a), 5, block, depth - 1, kinds, own) {
+        return false;
+    }
+    let b = parts::part_end(s, a + 1);
+    block_stmts(parts::between(s, a, b), 5, block, depth - 1, kinds, own)
+}
+
+// The statements behind the part that ends at `end`, in order.
+fn block_stmts(s: &[u8], end: usize, block: u32, depth: u32, kinds: &[u8], own: &mut [u32]) -> bool
+    ensures { λ r. ⌜ StmtsAfter r (now (s .entry)) end block depth (now (kinds .entry)) (now (own .entry)) (now (own .exit)) ⌝ }
+    ensures { λ _. ⌜ length (now (own .exit)) ≡ length (now (own .entry)) ⌝ }
+{
+    let mut e = end;
+    while parts::more(s, e) {
+        let a = parts::part_end(s, e + 1);
+        if !block_stmt(parts::between(s, e, a), block, depth, kinds, own) {
+            return false;
+        }
+        e = a;
+    }
+    true
+}
+
+// The statements of an `on` line: pairs of name and block, and arrows to what is no register or memory.
+fn on_block(x: &[u8], depth: u32, kinds: &[u8], own: &mut [u32]) -> bool
+    ensures { λ r. ⌜ OnLine r (now (x .entry)) depth (now (kinds .entry)) (now (own .entry)) (now (own .exit)) ⌝ }
+    ensures { λ _. ⌜ length (now (own .exit)) ≡ length (now (own .entry)) ⌝ }
+{
+    let a = parts::part_end(x, 4);
+    let block = number(x, 3, a);
+    block_stmts(x, a, block, depth, kinds, own)
+}
+
+// What the collected line x adds to the tables of its module's own check, by the first byte of its word; the line begins at `base` of
+// the text. False where a constant is outside INT or a limit is passed.
+pub fn own_line(
+    x: &[u8],
+    base: u32,
+    bound: bool,
+    depth: u32,
+    kinds: &[u8],
+    names: &[u32],
+    used: usize,
+    own: &mut [u32],
+) -> bool
+    ensures { λ r. ⌜ OwnLine r (now (x .entry)) base bound depth (now (kinds .entry)) (names-of (now (names .entry)) used) (now (own .entry)) (now (own .exit)) ⌝ }
+    ensures { λ _. ⌜ length (now (own .exit)) ≡ length (now (own .entry)) ⌝ }
+{
+    let c = parts::byte(x, 1);
+    if c == b'd' {
+        return drive_line(x, bound, depth, kinds, names, used, own);
+    }
+    if c == b'o' {
+        return on_block(x, depth, kinds, own);
+    }
+    if c == b'p' {
+        port_line(x, base, own);
+        return true;
+    }
+    if c == b'r' {
+        reg_line(x, own);
+        return true;
+    }
+    if c == b'm' {
+        mem_line(x, own);
+        return true;
+    }
+    true
+}
+
+// In a summary's walk, which has no own tables: whether the collected line x has a constant outside INT. Only the drive of an output
+// has constants.
+pub fn drive_outside(x: &[u8], depth: u32, kinds: &[u8], names: &[u32], used: usize) -> bool
+    ensures { λ r. ⌜ OutsideIs r (now (x .entry)) depth (now (kinds .entry)) (names-of (now (names .entry)) used) ⌝ }
+{
+    if parts::byte(x, 1) != b'd' {
+        return false;
+    }
+    let lv = parts::between(x, 6, parts::part_end(x, 7));
+    let l = named_at(lv, 3);
+    if parts::byte(kinds, l.name as usize) != 2 {
+        return false;
+    }
+    let end = l.end;
+    match extent_at(lv, end, true, depth, names, used) {
+        Extended::Is(_) => false,
+        Extended::Outside => true,
+    }
 }

@@ -1,0 +1,67 @@
+-- `drive_outside` meets its contract, one law for each way. Assumes nothing.
+use mathlib.Core.Path.{sym, _∙_}
+use mathlib.Core.Bool.{true, false}
+use mathlib.Core.List.{[]}
+use Rattle.consteval.specs.Worth.{names-of}
+use Rattle.items.proofs.LineLaws.{outside-none, outside-drive}
+use Rattle.items.proofs.DriveLaws.{outside-other, outside-not, outside-is}
+use borrow.Author.Needs.{needs}
+use Rattle.items.proofs.drive_outside.Statement.{statement}
+use Rattle.items.proofs.drive_outside.Tie as tie
+
+byte-requires : tie.Need-byte-requires
+byte-requires c κs = search needs
+
+returns : tie.Need-returns
+returns c = outside-none (c .before .before .before .before .before .args .x .now) (c .before .before .before .before .before .args .depth) (c .before .before .before .before .before .args .kinds .now) (names-of (c .before .before .before .before .before .args .names .now) (c .before .before .before .before .before .args .used)) (λ e. c .if1 .taken (c .before .byte .ensures ∙ e))
+
+part-end-requires : tie.Need-part-end-requires
+part-end-requires c κs = search needs
+
+between-requires : tie.Need-between-requires
+between-requires c κs = search needs
+
+named-at-requires : tie.Need-named-at-requires
+named-at-requires c κs = search needs
+
+cast-byte : tie.Need-cast-byte
+cast-byte c = search needs
+
+byte-requires-2 : tie.Need-byte-requires-2
+byte-requires-2 c κs = search needs
+
+returns-2 : tie.Need-returns-2
+returns-2 c = outside-drive (c .before .before .before .before .before .before .before .before .before .before .before .args .x .now) (c .before .before .before .before .before .before .before .before .before .before .before .args .depth) (c .before .before .before .before .before .before .before .before .before .before .before .args .kinds .now) (names-of (c .before .before .before .before .before .before .before .before .before .before .before .args .names .now) (c .before .before .before .before .before .before .before .before .before .before .before .args .used)) (sym (c .before .before .before .before .before .before .before .byte .ensures) ∙ c .before .before .before .before .before .before .if1 .left) false (λ lv e p header w. outside-other (c .before .before .before .before .before .before .before .before .before .before .before .args .x .now) true (c .before .before .before .before .before .before .before .before .before .before .before .args .depth) (c .before .before .before .before .before .before .before .before .before .before .before .args .kinds .now) (names-of (c .before .before .before .before .before .before .before .before .before .before .before .args .names .now) (c .before .before .before .before .before .before .before .before .before .before .before .args .used)) [] (c .before .before .before .before .before .part-end .ensures) (c .before .before .before .before .between .ensures) (c .before .before .before .named-at .result) (c .before .before .before .named-at .ensures) (c .before .byte2 .ensures) (c .if2 .taken) lv e p header w)
+
+extent-at-requires : tie.Need-extent-at-requires
+extent-at-requires c κs = search needs
+
+enum-told : tie.Need-enum-told
+enum-told c = search needs
+
+enum-told-2 : tie.Need-enum-told-2
+enum-told-2 c = search needs
+
+returns-3 : tie.Need-returns-3
+returns-3 c = outside-drive (c .before .before .before .before .before .before .before .before .before .before .before .before .before .before .args .x .now) (c .before .before .before .before .before .before .before .before .before .before .before .before .before .before .args .depth) (c .before .before .before .before .before .before .before .before .before .before .before .before .before .before .args .kinds .now) (names-of (c .before .before .before .before .before .before .before .before .before .before .before .before .before .before .args .names .now) (c .before .before .before .before .before .before .before .before .before .before .before .before .before .before .args .used)) (sym (c .before .before .before .before .before .before .before .before .before .before .byte .ensures) ∙ c .before .before .before .before .before .before .before .before .before .if1 .left) false (λ lv e p header w. outside-not (c .before .before .before .before .before .before .before .before .before .before .before .before .before .before .args .x .now) true (c .before .before .before .before .before .before .before .before .before .before .before .before .before .before .args .depth) (c .before .before .before .before .before .before .before .before .before .before .before .before .before .before .args .kinds .now) (names-of (c .before .before .before .before .before .before .before .before .before .before .before .before .before .before .args .names .now) (c .before .before .before .before .before .before .before .before .before .before .before .before .before .before .args .used)) [] (c .before .before .before .before .before .before .before .before .part-end .ensures) (c .before .before .before .before .before .before .before .between .ensures) (c .before .before .before .before .before .before .named-at .result) (c .before .before .before .before .before .before .named-at .ensures) (c .before .before .before .before .byte2 .ensures) (c .before .before .before .if2 .left) (c .before .before .extent-at .result) (c .before .before .extent-at .ensures) lv e p header w (c .enum-told .given .1))
+
+returns-4 : tie.Need-returns-4
+returns-4 c = outside-drive (c .before .before .before .before .before .before .before .before .before .before .before .before .before .before .args .x .now) (c .before .before .before .before .before .before .before .before .before .before .before .before .before .before .args .depth) (c .before .before .before .before .before .before .before .before .before .before .before .before .before .before .args .kinds .now) (names-of (c .before .before .before .before .before .before .before .before .before .before .before .before .before .before .args .names .now) (c .before .before .before .before .before .before .before .before .before .before .before .before .before .before .args .used)) (sym (c .before .before .before .before .before .before .before .before .before .before .byte .ensures) ∙ c .before .before .before .before .before .before .before .before .before .if1 .left) true (λ lv e p header w. outside-is (c .before .before .before .before .before .before .before .before .before .before .before .before .before .before .args .x .now) true (c .before .before .before .before .before .before .before .before .before .before .before .before .before .before .args .depth) (c .before .before .before .before .before .before .before .before .before .before .before .before .before .before .args .kinds .now) (names-of (c .before .before .before .before .before .before .before .before .before .before .before .before .before .before .args .names .now) (c .before .before .before .before .before .before .before .before .before .before .before .before .before .before .args .used)) [] (c .before .before .before .before .before .before .before .before .part-end .ensures) (c .before .before .before .before .before .before .before .between .ensures) (c .before .before .before .before .before .before .named-at .result) (c .before .before .before .before .before .before .named-at .ensures) (c .before .before .before .before .byte2 .ensures) (c .before .before .before .if2 .left) (c .before .before .extent-at .result) (c .before .before .extent-at .ensures) lv e p header w (c .enum-told2 .given .1))
+
+pub drive-outside-spec : {M : Type 1} → statement M
+drive-outside-spec =
+    tie.close
+    (tie.spec
+    byte-requires
+    returns
+    part-end-requires
+    between-requires
+    named-at-requires
+    cast-byte
+    byte-requires-2
+    returns-2
+    extent-at-requires
+    enum-told
+    enum-told-2
+    returns-3
+    returns-4)
