@@ -4,6 +4,7 @@
 
 mod collect;
 mod edge;
+pub mod opened;
 mod read;
 mod report;
 mod tree;
@@ -98,4 +99,12 @@ pub fn ties(text: &[u8]) -> Vec<bool> {
         return Vec::new();
     };
     checked.graphs.iter().map(walk::tied).collect()
+}
+
+/// The design of an accepted text, ready to be opened; none where the text is refused.
+pub fn opened(text: &[u8]) -> Option<opened::Opened> {
+    if answer(text, PROGRAM_BUFFER).number != 0 {
+        return None;
+    }
+    opened::Opened::new(read::read(text).ok()?).ok()
 }

@@ -1,22 +1,21 @@
 -- The loop over a run of items: where it stands, and one law for each way of its turn.
 -- Assumes nothing.
-use mathlib.Core.Path.{_≡_, refl, sym, _∙_, ap}
-use mathlib.Core.Bool.{Bool, true, false}
+use mathlib.Core.Path.{_≡_, refl, _∙_, ap}
+use mathlib.Core.Bool.{true}
 use mathlib.Core.List.{List, []}
 use Prim.Native.Nat.{ℕ, zero, suc, _+_, _/_, _≤_, _<_, min}
 use native.Mathlib.Omega.{arith}
-use lib.ListN.{length, getD, take, drop}
+use lib.ListN.{length, getD, drop}
 use Rattle.spec.specs.Bytes.{Bytes}
 use Rattle.spec.specs.Syntax.{Inst, Item, Items, inst, Header}
 use Rattle.spec.specs.Value.{Names}
-use Rattle.lines.specs.Parts.{piece}
-use Rattle.consteval.specs.Worth.{pairs, names-of, signed}
-use Rattle.runs.specs.Run.{ShowsItem, RunOf, item-end}
+use Rattle.consteval.specs.Worth.{pairs, names-of}
+use Rattle.runs.specs.Run.{RunOf, item-end}
 use Rattle.runs.proofs.Items.{FirstOf, end-of-run}
-use Rattle.walk.specs.Walk.{Got, full, going, then-go, Walked, walked, walk-inner, walk-items, State}
+use Rattle.walk.specs.Walk.{Got, full, going, then-go, Walked, walk-inner, walk-items, State}
 use Rattle.steps.specs.Steps.{plain}
 use Rattle.collect.specs.declared.Walked.the-variants as walks
-use Rattle.collect.specs.Cycle.{Mode, World, Single, Given, OneGiven, Holding, Ends, Stepped, Framed, step-of, walk-of, one-of}
+use Rattle.collect.specs.Cycle.{Mode, Single, Holding, Ends, Stepped, Framed, step-of, one-of}
 use Rattle.steps.proofs.Ways.{inner-plain, inner-inst}
 use Rattle.collect.proofs.Turns.{walk-end}
 

@@ -1,3 +1,10 @@
 pub mod Turns
 pub mod Going
 pub mod Ways
+pub mod Parts
+pub mod Items
+pub mod Bodies
+pub mod Tables
+pub mod Asking
+pub mod PlainLaws
+pub mod FaceLaws

@@ -1,14 +1,13 @@
 -- The ways of `inst_edges` and `comb_summary`: what each leaves is what the walk gives.
 -- Assumes nothing.
-use mathlib.Core.Path.{_≡_, refl, sym, _∙_, ap}
+use mathlib.Core.Path.{_≡_, refl, _∙_}
 use mathlib.Core.Bool.{Bool, true, false, _||_}
-use mathlib.Core.List.{List, [], _∷_, _++_}
+use mathlib.Core.List.{List, [], _++_}
 use Prim.Native.Nat.{ℕ}
-use Rattle.spec.specs.Bytes.{Bytes}
-use Rattle.spec.specs.Syntax.{Inst, Item, inst, Place, single, at, Header}
-use Rattle.spec.specs.Value.{Value, known, missing, outside, Names, value, is-outside}
+use Rattle.spec.specs.Syntax.{Inst, inst, Place, single, at, Header}
+use Rattle.spec.specs.Value.{Names, value, is-outside}
 use Rattle.spec.specs.Site.{place-constants, line-constants, any-outside}
-use Rattle.spec.specs.Edge.{Heads, Summary, place-value, inst-edges, over-graph}
+use Rattle.spec.specs.Edge.{Summary, place-value, inst-edges}
 use Rattle.graph.specs.Stands.{Stands}
 use Rattle.graph.proofs.Stands.{stands-within}
 use Rattle.edges.specs.Reads.{HeadAll}
@@ -17,10 +16,10 @@ use Rattle.walk.specs.Alike.{Alike}
 use Rattle.walk.proofs.Alike.{inst-alike}
 use Rattle.summary.specs.Keeps.{Keeps}
 use Rattle.spec.specs.Refusal.{decode}
-use Rattle.collect.specs.Cycle.{Mode, OwnIs, Holding, Stepped, step-of, walking-of}
+use Rattle.collect.specs.Cycle.{Mode, OwnIs, Stepped, step-of, walking-of}
 use Rattle.collect.proofs.Turns.{Fine, step-outside, inst-step, inst-over, inst-unasked}
 
-or-none : (b : Bool) → b || false ≡ b
+pub or-none : (b : Bool) → b || false ≡ b
 or-none true = refl
 or-none false = refl
 

@@ -1,3 +1,9 @@
 pub mod EmitLaws
 pub mod Bound
 pub mod LoopLaws
+pub mod GroupLaws
+pub mod CoverLaws
+pub mod ModuleLaws
+pub mod CheckLaws
+pub mod TurnLaws
+pub mod AnswerLaws

@@ -1,2 +1,4 @@
 pub mod Emits
 pub mod Loops
+pub mod Groups
+pub mod Check

@@ -1,3 +1,5 @@
-// The whole check of a module's own tables: its reports as lines, in order, counted first and then written.
+// The whole check: the reports of each module in order, as lines, counted first and then written.
+pub mod check;
 pub mod emit;
+pub mod groups;
 pub mod loops;

@@ -358,7 +358,7 @@ pub fn inst_module(x: &[u8]) -> u32
 }
 
 // The word at i, and 0 past the end.
-fn word(w: &[u32], i: usize) -> u32
+pub fn word(w: &[u32], i: usize) -> u32
     ensures { λ r. ⌜ r ≡ getD (now (w .entry)) i 0 ⌝ }
 {
     if i < w.len() { w[i] } else { 0 }

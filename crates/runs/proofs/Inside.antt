@@ -122,7 +122,7 @@ in-repeat x d n low high is h =
 
 -- ---- `constif`
 
-drop-take : (n m : ℕ) (l : Bytes) → drop n (take m l) ≡ take (m - n) (drop n l)
+pub drop-take : (n m : ℕ) (l : Bytes) → drop n (take m l) ≡ take (m - n) (drop n l)
 drop-take zero m l = let z : m ≡ m - 0 = omega arith in ap (λ (x : ℕ). take x l) z
 drop-take (suc n) zero l = drop-nil (suc n) ∙ let z : 0 ≡ 0 - suc n = omega arith in ap (λ (x : ℕ). take x (drop (suc n) l)) z
 drop-take (suc n) (suc m) [] = sym (take-nil (suc m - suc n))
@@ -136,7 +136,7 @@ piece-later s b n e =
     let j : b + n + 1 ≡ b + 1 + n = omega arith in
     ap₂ (λ (u v : ℕ). take u (drop v s)) k j ∙ ap (take (e - (b + 1) - n)) (sym (drop-drop n (b + 1) s)) ∙ sym (drop-take n (e - (b + 1)) (drop (b + 1) s))
 
-piece-length : (s : Bytes) (e f : ℕ) → length (piece s e f) ≡ min (f - (e + 1)) (length s - (e + 1))
+pub piece-length : (s : Bytes) (e f : ℕ) → length (piece s e f) ≡ min (f - (e + 1)) (length s - (e + 1))
 unfolding piece
 piece-length s e f = length-take (f - (e + 1)) (drop (e + 1) s) ∙ ap (min (f - (e + 1))) (length-drop (e + 1) s)
 

@@ -98,12 +98,16 @@ unfolding computed-print
 program-print text prints computed working long buffer room =
     ap program-prints (outcome-answer text working long buffer room) ∙ outcome-prints (outcome text) buffer ∙ computed
 
+-- what is computed so is the answer, whatever is lent
+pub answers : (text : Bytes) (o : Outcome) → outcome text ≡ o → Answers text o
+answers text o computed working long buffer room = outcome-answer text working long buffer room ∙ ap (λ p. answer-of p buffer) computed
+
 -- a case holds where its outcome is what is computed, and its printed bytes are those of that outcome
 row : (c : Case) → outcome (c .text) ≡ c .outcome → printing (c .outcome) ≡ c .prints → Holds c
-row c computed prints = (answer, λ working long buffer room. ap program-prints (answer working long buffer room) ∙ outcome-prints (c .outcome) buffer ∙ prints)
-  where
-    answer : Answers (c .text) (c .outcome)
-    answer working long buffer room = outcome-answer (c .text) working long buffer room ∙ ap (λ o. answer-of o buffer) computed
+row c computed prints = (
+  answers (c .text) (c .outcome) computed,
+  λ working long buffer room. ap program-prints (answers (c .text) (c .outcome) computed working long buffer room) ∙ outcome-prints (c .outcome) buffer ∙ prints,
+)
 
 p1 : Holds P1
 unfolding outcome printing

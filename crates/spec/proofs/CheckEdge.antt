@@ -2,22 +2,22 @@
 -- search reports nothing exactly where no edges lead back, and reports edge loops.
 -- Assumes nothing.
 use mathlib.Core.Path.{_≡_, refl, sym, _∙_, ap, subst, subst⁻¹, subst₂}
-use mathlib.Core.Bool.{true≢false}
 use mathlib.Core.Logic.{_⊎_, inl, inr, ⊎-elim, _↔_}
 use mathlib.Core.Option.{Option, some, none}
 use mathlib.Core.List.{List, [], _∷_, List·Memᴰ·head, List·Memᴰ·not-nil, List·Memᴰ·eq-of-singleton}
 use Prim.Native.Nat.{ℕ, zero, suc}
 use lib.ListN.{length, getElem?}
-use Rattle.spec.specs.Syntax.{Kind, in-kind, out-kind, wire-kind, reg-kind, mem-kind, inst-kind, Expr, LValue, Inst, Item, port, wire, reg, mem, const, drive, on, inst, repeat, const-if, Header, Module, Design}
+use Rattle.spec.specs.Syntax.{Kind, in-kind, Expr, LValue, Inst, Item, port, wire, reg, mem, const, drive, on, inst, repeat, const-if, Header, Module, Design}
 use Rattle.spec.specs.Value.{Names}
 use Rattle.spec.specs.Collect.{Collected}
-use Rattle.spec.specs.Site.{kind-of, Output, driving}
-use Rattle.spec.specs.Edge.{Node, signal, inst-out, Reads, Head, Heads, Summary, drive-heads, output-heads, inst-edges, line-heads, inst-of, index-of, place-value, all-reads}
+use Rattle.spec.specs.Site.{kind-of, Output, Driving, an-output, a-wire, a-reg, a-mem, nothing, driving}
+use Rattle.spec.specs.Edge.{Node, signal, inst-out, Reads, Head, Heads, no-heads, Summary, drive-heads, output-heads, inst-edges, line-heads, inst-of, index-of, place-value, all-reads}
 use Rattle.spec.specs.Summary.{is-input, onward, Kept, module-heads}
 use Rattle.spec.specs.Walk.{next-nodes, find-cycles}
 use Rattle.spec.specs.Graph.{_∈_, Chain, last, ClosedWalk}
 use Rattle.spec.specs.Walks.{Reached}
-use Rattle.spec.specs.Opened.{lines-of, header-of, Instance, instances-from, instances, instance-index, own-heads, lines-own-heads, reads-to, top-outputs-of, Premises}
+use Rattle.spec.specs.Opened.{lines-of, header-of, Instance, instances-from, instances, instance-index, own-heads, lines-own-heads, reads-to, top-outputs-of}
+use Rattle.spec.specs.Premises.{NotWired}
 use Rattle.spec.specs.Summaries.{NoModuleInsideItself, summary-for, heads-by, own-graph, summary-to, plain-summary, plain-heads, PlainTable}
 use Rattle.spec.proofs.Numbers.{if-case}
 use Rattle.spec.proofs.Nodes.{read-by, reads-all, next-read, read-next, read-reads-of}
@@ -137,7 +137,7 @@ module _ (d : Design) where
   chain-walks m next f a [] c = stop
   chain-walks m next f a (b ∷ l) c = step (f a b (c .0)) (chain-walks m next f b l (c .1))
 
-  reached-walks : (m : ℕ) (next : Node → List Node) → ((a b : Node) → b ∈ next a → Edge d m a b) → (a z : Node) → Reached next (a ∷ []) z → Walks d m a z
+  pub reached-walks : (m : ℕ) (next : Node → List Node) → ((a b : Node) → b ∈ next a → Edge d m a b) → (a z : Node) → Reached next (a ∷ []) z → Walks d m a z
   reached-walks m next f a z (r, l, i, c, e) = subst₂ (λ a z. Walks d m a z) (List·Memᴰ·eq-of-singleton i) e (chain-walks m next f r l c)
 
   to-sound : (f : ℕ) → Sound (summary-to f d)
@@ -161,49 +161,54 @@ module _ (d : Design) where
   plain-edge m n x l = graph-edge (plain-summary d) (to-missing (suc (length d)) d) (to-sound (suc (length d))) m n x l
 
 -- Edges are reads: needs that no module contains itself, and that no wire line heads an in-kind name.
-abbrev NoInputWired : Design → Type 0
-NoInputWired d = (m : ℕ) (c : Collected) → c ∈ lines-of d m → (n start : ℕ) (e : Expr) → c .item ≡ wire n e start → ¬ (kind-of (header-of d m) n ≡ some in-kind)
 
--- what a line heads by itself is no in-kind name
-drive-not-input : (o : Option Kind) (lv : LValue) (r : Reads) (h : Head) → h ∈ drive-heads (driving o) lv r .heads → ¬ (o ≡ some in-kind) × (h .node ≡ signal (lv .name))
-drive-not-input none lv r h i = absurd (List·Memᴰ·not-nil i)
-drive-not-input (some in-kind) lv r h i = absurd (List·Memᴰ·not-nil i)
-drive-not-input (some out-kind) lv r h i = (λ e. true≢false (ap is-input (sym e)), ap (λ z. z .node) (List·Memᴰ·eq-of-singleton i))
-drive-not-input (some wire-kind) lv r h i = (λ e. true≢false (ap is-input (sym e)), ap (λ z. z .node) (List·Memᴰ·eq-of-singleton i))
-drive-not-input (some reg-kind) lv r h i = absurd (List·Memᴰ·not-nil i)
-drive-not-input (some mem-kind) lv r h i = absurd (List·Memᴰ·not-nil i)
-drive-not-input (some inst-kind) lv r h i = absurd (List·Memᴰ·not-nil i)
+-- a kind of which a drive heads nothing
+abbrev pub Undriven : Kind → Type 0
+Undriven k = (lv : LValue) (r : Reads) → drive-heads (driving (some k)) lv r ≡ no-heads
 
-line-not-input : (hs : List Header) (names : Names) (item : Item) (h : Head) → ((n start : ℕ) (e : Expr) → item ≡ wire n e start → ¬ (kind-of hs n ≡ some in-kind))
-    → h ∈ line-heads hs names [] item .heads → (n : ℕ) → h .node ≡ signal n → ¬ (kind-of hs n ≡ some in-kind)
+drive-node : (x : Driving) (lv : LValue) (r : Reads) (h : Head) → h ∈ drive-heads x lv r .heads → h .node ≡ signal (lv .name)
+drive-node an-output lv r h i = ap (λ z. z .node) (List·Memᴰ·eq-of-singleton i)
+drive-node a-wire lv r h i = ap (λ z. z .node) (List·Memᴰ·eq-of-singleton i)
+drive-node a-reg lv r h i = absurd (List·Memᴰ·not-nil i)
+drive-node a-mem lv r h i = absurd (List·Memᴰ·not-nil i)
+drive-node nothing lv r h i = absurd (List·Memᴰ·not-nil i)
+
+drive-not : (k : Kind) → Undriven k → (hs : List Header) (lv : LValue) (r : Reads) (h : Head) → h ∈ drive-heads (driving (kind-of hs (lv .name))) lv r .heads → (n : ℕ) → h .node ≡ signal n → ¬ (kind-of hs n ≡ some k)
+drive-not k undriven hs lv r h i n e b =
+    let f = ap (kind-of hs) (signal-same (lv .name) n (sym (drive-node (driving (kind-of hs (lv .name))) lv r h i) ∙ e)) ∙ b in
+    List·Memᴰ·not-nil (subst (λ (z : Heads). h ∈ z .heads) (undriven lv r) (subst (λ z. h ∈ drive-heads (driving z) lv r .heads) f i))
+
+-- what a line heads by itself is no name of such a kind, where no wire line heads one
+line-not : (k : Kind) → Undriven k → (hs : List Header) (names : Names) (item : Item) (h : Head) → ((n start : ℕ) (e : Expr) → item ≡ wire n e start → ¬ (kind-of hs n ≡ some k))
+    → h ∈ line-heads hs names [] item .heads → (n : ℕ) → h .node ≡ signal n → ¬ (kind-of hs n ≡ some k)
 unfolding line-heads inst-edges output-heads
-line-not-input hs names (port d n w start) h f i = absurd (List·Memᴰ·not-nil i)
-line-not-input hs names (wire n x start) h f i = λ k e b. f n start x refl (ap (kind-of hs) (signal-same n k (ap (λ z. z .node) (sym (List·Memᴰ·eq-of-singleton i)) ∙ e)) ∙ b)
-line-not-input hs names (reg n start) h f i = absurd (List·Memᴰ·not-nil i)
-line-not-input hs names (mem n start) h f i = absurd (List·Memᴰ·not-nil i)
-line-not-input hs names (const n x) h f i = absurd (List·Memᴰ·not-nil i)
-line-not-input hs names (drive lv x) h f i =
-    λ k e b. let r = drive-not-input (kind-of hs (lv .name)) lv _ h i in r .0 (ap (kind-of hs) (signal-same (lv .name) k (sym (r .1) ∙ e)) ∙ b)
-line-not-input hs names (on start ss) h f i = absurd (List·Memᴰ·not-nil i)
-line-not-input hs names (inst j) h f i = absurd (List·Memᴰ·not-nil i)
-line-not-input hs names (repeat n l u is) h f i = absurd (List·Memᴰ·not-nil i)
-line-not-input hs names (const-if c is js) h f i = absurd (List·Memᴰ·not-nil i)
+line-not k u hs names (port d n w start) h f i = absurd (List·Memᴰ·not-nil i)
+line-not k u hs names (wire n x start) h f i = λ j e b. f n start x refl (ap (kind-of hs) (signal-same n j (ap (λ z. z .node) (sym (List·Memᴰ·eq-of-singleton i)) ∙ e)) ∙ b)
+line-not k u hs names (reg n start) h f i = absurd (List·Memᴰ·not-nil i)
+line-not k u hs names (mem n start) h f i = absurd (List·Memᴰ·not-nil i)
+line-not k u hs names (const n x) h f i = absurd (List·Memᴰ·not-nil i)
+line-not k u hs names (drive lv x) h f i = drive-not k u hs lv _ h i
+line-not k u hs names (on start ss) h f i = absurd (List·Memᴰ·not-nil i)
+line-not k u hs names (inst j) h f i = absurd (List·Memᴰ·not-nil i)
+line-not k u hs names (repeat n l t is) h f i = absurd (List·Memᴰ·not-nil i)
+line-not k u hs names (const-if c is js) h f i = absurd (List·Memᴰ·not-nil i)
 
-module _ (d : Design) (apart : NoModuleInsideItself d) (wires : NoInputWired d) where
+-- so such a name reads nothing by its module's lines
+pub own-not : (k : Kind) → Undriven k → (d : Design) → NotWired k d → (m n : ℕ) (x : Node) → x ∈ all-reads (own-heads d m) (signal n) → ¬ (kind-of (header-of d m) n ≡ some k)
+unfolding own-heads
+own-not k u d wires m n x j =
+    let r = read-by (lines-own-heads (header-of d m) (lines-of d m)) (signal n) j in
+    let c = own-headed (header-of d m) (lines-of d m) (r .0) (r .1) in
+    line-not k u (header-of d m) (c .0 .names) (c .0 .item) (r .0) (wires m (c .0) (c .1)) (c .2) n (r .2)
+
+module _ (d : Design) (apart : NoModuleInsideItself d) (wires : NotWired in-kind d) where
   plain-missing : (m : ℕ) → getElem? d m ≡ none → plain-summary d m ≡ []
   plain-missing = summaries d apart .missing
 
   -- an in-kind name reads nothing in its module
   input-no-reads : (m n : ℕ) (x : Node) → x ∈ all-reads (plain-heads d m) (signal n) → ¬ (kind-of (header-of d m) n ≡ some in-kind)
-  unfolding plain-heads own-heads
-  input-no-reads m n x i = go (graph-reads (plain-summary d) d plain-missing m (signal n) x i)
-    where
-      go : (x ∈ all-reads (lines-own-heads (header-of d m) (lines-of d m)) (signal n)) ⊎ Through (plain-summary d) d m (signal n) x → ¬ (kind-of (header-of d m) n ≡ some in-kind)
-      go (inl j) =
-          let r = read-by (lines-own-heads (header-of d m) (lines-of d m)) (signal n) j in
-          let c = own-headed (header-of d m) (lines-of d m) (r .0) (r .1) in
-          line-not-input (header-of d m) (c .0 .names) (c .0 .item) (r .0) (wires m (c .0) (c .1)) (c .2) n (r .2)
-      go (inr t) = absurd (signal-not-out n _ _ _ (sym (t .node)))
+  unfolding plain-heads
+  input-no-reads m n x i = ⊎-elim (λ j. own-not in-kind (λ lv r. refl) d wires m n x j) (λ t. absurd (signal-not-out n _ _ _ (sym (t .node)))) (graph-reads (plain-summary d) d plain-missing m (signal n) x i)
 
   -- so a walk may as well stop there
   read-onward : (m : ℕ) (n x : Node) → x ∈ all-reads (plain-heads d m) n → x ∈ onward (header-of d m) (plain-heads d m) n
@@ -248,20 +253,25 @@ module _ (d : Design) (apart : NoModuleInsideItself d) (wires : NoInputWired d) 
   plain-edges : (m : ℕ) (n x : Node) → x ∈ next-nodes (plain-heads d m) n ↔ Edge d m n x
   plain-edges m n x = (λ i. plain-edge d m n x (next-read (plain-heads d m) n i), λ e. read-next (plain-heads d m) n (edge-read e))
 
--- A search whose next nodes are the edges of a module.
-module _ (d : Design) (m : ℕ) (hs : List Head) (edges : (n x : Node) → x ∈ next-nodes hs n ↔ Edge d m n x) where
+-- A search whose next nodes are edges of a module,
+module _ (d : Design) (m : ℕ) (hs : List Head) (reads : (n x : Node) → x ∈ next-nodes hs n → Edge d m n x) where
   chain-edges : (n : Node) (l : List Node) → Chain (next-nodes hs) n l → EdgeChain d m n l
   chain-edges n [] c = tt
-  chain-edges n (x ∷ l) c = (edges n x .0 (c .0), chain-edges x l (c .1))
-
-  edges-chain : (n : Node) (l : List Node) → EdgeChain d m n l → Chain (next-nodes hs) n l
-  edges-chain n [] c = tt
-  edges-chain n (x ∷ l) c = (edges n x .1 (c .0), edges-chain x l (c .1))
+  chain-edges n (x ∷ l) c = (reads n x (c .0), chain-edges x l (c .1))
 
   walk-loop : (w : List Node) → ClosedWalk (next-nodes hs) w → EdgeLoop d m w
   walk-loop [] c = c
   walk-loop (n ∷ []) c = c
   walk-loop (n ∷ x ∷ l) c = (chain-edges n (x ∷ l) (c .0), c .1)
+
+  pub cycles-loop : (w : List Node) → w ∈ find-cycles hs → EdgeLoop d m w
+  cycles-loop w i = walk-loop w (loops hs .walks w i .0)
+
+-- and one whose next nodes are all of them.
+module _ (d : Design) (m : ℕ) (hs : List Head) (edges : (n x : Node) → x ∈ next-nodes hs n ↔ Edge d m n x) where
+  edges-chain : (n : Node) (l : List Node) → EdgeChain d m n l → Chain (next-nodes hs) n l
+  edges-chain n [] c = tt
+  edges-chain n (x ∷ l) c = (edges n x .1 (c .0), edges-chain x l (c .1))
 
   loop-walk : (w : List Node) → EdgeLoop d m w → ClosedWalk (next-nodes hs) w
   loop-walk [] c = c
@@ -269,10 +279,7 @@ module _ (d : Design) (m : ℕ) (hs : List Head) (edges : (n x : Node) → x ∈
   loop-walk (n ∷ x ∷ l) c = (edges-chain n (x ∷ l) (c .0), c .1)
 
   cycles-none : find-cycles hs ≡ [] ↔ ((v : List Node) → ¬ EdgeLoop d m v)
-  cycles-none = (λ e v l. loops hs .none .0 e v (loop-walk v l), λ h. loops hs .none .1 (λ w c. h w (walk-loop w c)))
-
-  cycles-loop : (w : List Node) → w ∈ find-cycles hs → EdgeLoop d m w
-  cycles-loop w i = walk-loop w (loops hs .walks w i .0)
+  cycles-none = (λ e v l. loops hs .none .0 e v (loop-walk v l), λ h. loops hs .none .1 (λ w c. h w (walk-loop d m hs (λ n x. edges n x .0) w c)))
 
 -- A module past the end has no edges.
 own-heads-missing : (d : Design) (m : ℕ) → getElem? d m ≡ none → own-heads d m ≡ []
@@ -293,13 +300,12 @@ no-loop-missing d m f [] l = l
 no-loop-missing d m f (n ∷ []) l = l
 no-loop-missing d m f (n ∷ x ∷ v) l = no-edge-missing d m f n x (l .0 .0)
 
--- The theorems, of the heads that the check of module m searches, whatever was summarised before. Of the premises they need
--- `no-module-inside-itself` and, of `wires`, that no wire line heads an in-kind name.
-module _ (d : Design) (premises : Premises d) (m : ℕ) (k : Module) (at : getElem? d m ≡ some k) (kept : Kept) (plain : PlainTable d kept) where
+-- The theorems, of the heads that the check of module m searches, whatever was summarised before.
+module _ (d : Design) (apart : NoModuleInsideItself d) (wires : NotWired in-kind d) (m : ℕ) (k : Module) (at : getElem? d m ≡ some k) (kept : Kept) (plain : PlainTable d kept) where
   pub check-edge : (n x : Node) → x ∈ next-nodes (module-heads d kept k (lines-of d m) .heads) n ↔ Edge d m n x
   check-edge n x =
-      subst⁻¹ (λ hs. x ∈ next-nodes hs n ↔ Edge d m n x) (summaries d (premises .no-module-inside-itself) .module-graph kept plain m k at)
-      (plain-edges d (premises .no-module-inside-itself) (λ m c i n start e f. premises .wires m c i n start e f .0) m n x)
+      subst⁻¹ (λ hs. x ∈ next-nodes hs n ↔ Edge d m n x) (summaries d apart .module-graph kept plain m k at)
+      (plain-edges d apart wires m n x)
 
   -- no report just where no edges lead back
   pub check-none : find-cycles (module-heads d kept k (lines-of d m) .heads) ≡ [] ↔ ((v : List Node) → ¬ EdgeLoop d m v)
@@ -307,4 +313,4 @@ module _ (d : Design) (premises : Premises d) (m : ℕ) (k : Module) (at : getEl
 
   -- each walk reported leads back by edges
   pub check-loop : (w : List Node) → w ∈ find-cycles (module-heads d kept k (lines-of d m) .heads) → EdgeLoop d m w
-  check-loop w i = cycles-loop d m (module-heads d kept k (lines-of d m) .heads) check-edge w i
+  check-loop w i = cycles-loop d m (module-heads d kept k (lines-of d m) .heads) (λ n x. check-edge n x .0) w i

@@ -11,6 +11,7 @@ pub mod Cases
 pub mod CheckEdge
 pub mod Collection
 pub mod Copies
+pub mod Counts
 pub mod Examples
 pub mod Firsts
 pub mod Flags
@@ -19,6 +20,7 @@ pub mod Lengthen
 pub mod Listed
 pub mod LoopReports
 pub mod Loops
+pub mod LoopsAndRest
 pub mod LoopsOnce
 pub mod Meaning
 pub mod Meetings
@@ -26,8 +28,11 @@ pub mod ModuleEdge
 pub mod Nodes
 pub mod OneList
 pub mod Opened
+pub mod Premises
 pub mod Refusals
+pub mod Restless
 pub mod Shorten
 pub mod Situations
+pub mod SoundSummaries
 pub mod Summaries
 pub mod Triples

@@ -282,3 +282,32 @@ module _ (d : Design) where
 
     pub signals-listed : (m : ℕ) → Listing d m (opened-signals d m)
     signals-listed m = record { same = signal-same; once = signals-once m; closed = signals-closed m }
+
+    -- a signal that is read and reads is listed
+    self-with-reads : (m : ℕ) (p : Copy) (ns : List Node) (n : Node) → n ∈ ns → (p, n) ∈ with-reads d m p ns
+    unfolding with-reads
+    self-with-reads m p (k ∷ ns) n (List·Memᴰ·head e) = List·Memᴰ·head (λ t. (p, e t))
+    self-with-reads m p (k ∷ ns) n (List·Memᴰ·tail u) = List·Memᴰ·tail (Memᴰ·append-right (opened-reads d m p k) (self-with-reads m p ns n u))
+
+    has-listed : (m : ℕ) (p : Copy) (n : Node) → Has m p n → (p, n) ∈ opened-signals d m
+    unfolding opened-signals
+    has-listed m p n has =
+        let v = has-valid m p n has in
+        let c = valid-listed (suc (length d)) m p v (valid-short flat m p v) in
+        in-each-once same-signal signal-yes signal-refl (copies-signals d m (copies (suc (length d)) d m))
+        (in-signals m (copies (suc (length d)) d m) p (p, n) c (self-with-reads m p (module-nodes d (module-of d m p)) n (has-node m p n has)))
+
+    between-listed : (m : ℕ) (q s t : Signal) → s ∈ signal-reads d m q → t ∈ signal-reads d m s → s ∈ opened-signals d m
+    between-listed m q s t h u = pick (target m (q .0) (q .1) (s .0) (s .1) (reads-read d m (q .0) (q .1) s h))
+      where
+        pick : Has m (s .0) (s .1) ⊎ ((o : ℕ) × (s .1 ≡ signal o)) → s ∈ opened-signals d m
+        pick (inl g) = has-listed m (s .0) (s .1) g
+        pick (inr g) = has-listed m (s .0) (s .1) (source m (s .0) (s .1) (g .0) (t .0) (t .1) (g .1) (reads-read d m (s .0) (s .1) t u))
+
+    -- so is the first of a closed walk
+    pub walk-listed : (m : ℕ) (s t : Signal) (l : List Signal) → ClosedWalk (signal-reads d m) (s ∷ t ∷ l) → s ∈ opened-signals d m
+    walk-listed m s t l ((h, c), e) = let r = before s t l h c in between-listed m (r .0) s t (subst (λ z. z ∈ signal-reads d m (r .0)) e (r .1)) h
+      where
+        before : (s t : Signal) (l : List Signal) → t ∈ signal-reads d m s → Chain (signal-reads d m) t l → (q : Signal) × (last t l ∈ signal-reads d m q)
+        before s t [] h c = (s, h)
+        before s t (u ∷ l) h c = before t u l (c .0) (c .1)

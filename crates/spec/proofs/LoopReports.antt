@@ -8,7 +8,7 @@ use mathlib.Core.List.{List, [], _∷_, _++_, List·Memᴰ·head, List·Memᴰ·
 use Prim.Native.Nat.{ℕ, zero, suc, _+_}
 use native.Mathlib.Omega.{arith}
 use lib.ListN.{getElem?}
-use Rattle.spec.specs.Syntax.{Module, Design}
+use Rattle.spec.specs.Syntax.{in-kind, Module, Design}
 use Rattle.spec.specs.Refusal.{has-name}
 use Rattle.spec.specs.Value.{Names, name-table, own-vals}
 use Rattle.spec.specs.Collect.{Collected, collection}
@@ -20,13 +20,15 @@ use Rattle.spec.specs.Walk.{start-of, find-cycles}
 use Rattle.spec.specs.Report.{Report, report, loop-report}
 use Rattle.spec.specs.Check.{misuse-reports, conflict-reports, coverage-report, output-reports, reg-report, mem-report, storage-reports, loop-reports, check-module-drivers, check-modules, check-design}
 use Rattle.spec.specs.Graph.{_∈_}
-use Rattle.spec.specs.Opened.{lines-of, Premises}
+use Rattle.spec.specs.Opened.{lines-of}
 use Rattle.spec.specs.Rest.{NoLoopReport}
-use Rattle.spec.specs.Summaries.{PlainTable}
+use Rattle.spec.specs.Premises.{NotWired}
+use Rattle.spec.specs.Summaries.{NoModuleInsideItself, PlainTable}
 use Rattle.spec.proofs.Numbers.{if-case}
 use Rattle.spec.proofs.HeadLaws.{in-either, in-first}
 use Rattle.spec.proofs.Summaries.{lines-at, check-plain}
 use Rattle.spec.proofs.ModuleEdge.{EdgeLoop}
+use Rattle.spec.proofs.SoundSummaries.{SoundTable, check-sound, found-loop}
 use Rattle.spec.proofs.CheckEdge.{check-none, check-loop, no-loop-missing}
 
 -- only the search of nodes makes loop reports
@@ -154,7 +156,7 @@ in-module d kept m k n w i =
     (r .0, subst⁻¹ (λ z. loop-report m (r .0) (n ∷ w) ∈ z) (module-reports d kept m k) (Memᴰ·append-right (module-others m k) (r .1)))
 
 -- through the modules: their numbers are their positions
-module _ (d : Design) (premises : Premises d) where
+module _ (d : Design) where
   abbrev Placed : ℕ → List Module → Type 0
   Placed m ks = (j : ℕ) → getElem? ks j ≡ getElem? d (m + j)
 
@@ -164,20 +166,28 @@ module _ (d : Design) (premises : Premises d) where
   placed-next : (m : ℕ) (k : Module) (ks : List Module) → Placed m (k ∷ ks) → Placed (suc m) ks
   placed-next m k ks p j = let e : m + suc j ≡ suc m + j = omega arith in p (suc j) ∙ ap (getElem? d) e
 
-  -- a walk that the check of module m reports, from some table of plain summaries
+  -- a walk that the check of module m reports, from some table of sound summaries
   abbrev Found : ℕ → List Node → Type 0
-  Found m w = (k : Module) × (kept : Kept) × (getElem? d m ≡ some k) × PlainTable d kept × (w ∈ cycles d kept k (lines-of d m))
+  Found m w = (k : Module) × (kept : Kept) × (getElem? d m ≡ some k) × SoundTable d kept × (w ∈ cycles d kept k (lines-of d m))
 
-  of-modules : (kept : Kept) → PlainTable d kept → (m : ℕ) (ks : List Module) → Placed m ks → (m′ start : ℕ) (w : List Node) → loop-report m′ start w ∈ check-modules d kept m ks .reports → Found m′ w
+  of-modules : (kept : Kept) → SoundTable d kept → (m : ℕ) (ks : List Module) → Placed m ks → (m′ start : ℕ) (w : List Node) → loop-report m′ start w ∈ check-modules d kept m ks .reports → Found m′ w
   unfolding check-modules
-  of-modules kept plain m [] p m′ start w i = absurd (List·Memᴰ·not-nil i)
-  of-modules kept plain m (k ∷ ks) p m′ start w i =
+  of-modules kept sound m [] p m′ start w i = absurd (List·Memᴰ·not-nil i)
+  of-modules kept sound m (k ∷ ks) p m′ start w i =
       in-either (check-module-drivers d kept m k .reports) (λ j. first (of-module d kept m k m′ start w j))
-      (λ j. of-modules (check-module-drivers d kept m k .kept) (check-plain d (premises .no-module-inside-itself) kept plain m k) (suc m) ks (placed-next m k ks p) m′ start w j) i
+      (λ j. of-modules (check-module-drivers d kept m k .kept) (check-sound d kept sound m k) (suc m) ks (placed-next m k ks p) m′ start w j) i
     where
       first : (m′ ≡ m) × (w ∈ cycles d kept k (collection (own-vals k) k .lines)) → Found m′ w
-      first (e, j) = let f = ap (getElem? d) e ∙ placed-first m k ks p in (k, kept, f, plain, subst⁻¹ (λ cs. w ∈ cycles d kept k cs) (lines-at d m′ k f) j)
+      first (e, j) = let f = ap (getElem? d) e ∙ placed-first m k ks p in (k, kept, f, sound, subst⁻¹ (λ cs. w ∈ cycles d kept k cs) (lines-at d m′ k f) j)
 
+  -- Each walk reported leads back by edges of its module, whatever the design:
+  pub report-loop : (m start : ℕ) (w : List Node) → loop-report m start w ∈ check-design d .reports → EdgeLoop d m w
+  unfolding check-design
+  report-loop m start w i =
+      let r = of-modules [] (λ m s j. absurd (List·Memᴰ·not-nil j)) 0 d (λ j. let e : j ≡ 0 + j = omega arith in ap (getElem? d) e) m start w i in
+      found-loop d (r .1) (r .3) m (r .0) (r .2) w (r .4)
+
+module _ (d : Design) (apart : NoModuleInsideItself d) (wires : NotWired in-kind d) where
   -- each module is checked, from some table of plain summaries, and what its check finds is reported
   abbrev Told : Kept → ℕ → List Module → ℕ → Module → Type 0
   Told kept m ks j k =
@@ -196,7 +206,7 @@ module _ (d : Design) (premises : Premises d) where
         (r .0, Memᴰ·append-left _ (Memᴰ·cast (ap (λ z. loop-report z (r .0) (n ∷ w)) f) (r .1))),
   )
   in-modules kept plain m (k′ ∷ ks) (suc j) k e =
-      let r = in-modules (check-module-drivers d kept m k′ .kept) (check-plain d (premises .no-module-inside-itself) kept plain m k′) (suc m) ks j k e in (
+      let r = in-modules (check-module-drivers d kept m k′ .kept) (check-plain d apart kept plain m k′) (suc m) ks j k e in (
         r .0,
         r .1,
         λ n w i.
@@ -207,13 +217,6 @@ module _ (d : Design) (premises : Premises d) where
 
   nothing-kept : PlainTable d []
   nothing-kept m s i = absurd (List·Memᴰ·not-nil i)
-
-  -- The theorems. Each walk reported leads back by edges of its module:
-  pub report-loop : (m start : ℕ) (w : List Node) → loop-report m start w ∈ check-design d .reports → EdgeLoop d m w
-  unfolding check-design
-  report-loop m start w i =
-      let r = of-modules [] nothing-kept 0 d (λ j. let e : j ≡ 0 + j = omega arith in ap (getElem? d) e) m start w i in
-      check-loop d premises m (r .0) (r .2) (r .1) (r .3) w (r .4)
 
   silent-no-loop : NoLoopReport d → (m : ℕ) (k : Module) → getElem? d m ≡ some k → (v : List Node) → ¬ EdgeLoop d m v
   unfolding check-design
@@ -226,12 +229,12 @@ module _ (d : Design) (premises : Premises d) where
 
       go : Told [] 0 d m k → (v : List Node) → ¬ EdgeLoop d m v
       go (kept, plain, told) =
-          check-none d premises m k e kept plain .0
-          (none-found kept (λ n w i. let r = told n w (subst (λ cs. (n ∷ w) ∈ cycles d kept k cs) (lines-at d m k e) i) in silent (0 + m) (r .0) (n ∷ w) (r .1)) (check-loop d premises m k e kept plain) _ refl)
+          check-none d apart wires m k e kept plain .0
+          (none-found kept (λ n w i. let r = told n w (subst (λ cs. (n ∷ w) ∈ cycles d kept k cs) (lines-at d m k e) i) in silent (0 + m) (r .0) (n ∷ w) (r .1)) (check-loop d apart wires m k e kept plain) _ refl)
 
-  -- and none is reported exactly where no module has edges that lead back
+  -- and, with these two premises, none is reported exactly where no module has edges that lead back
   pub no-report-no-loop : NoLoopReport d ↔ ((m : ℕ) (v : List Node) → ¬ EdgeLoop d m v)
-  no-report-no-loop = (λ silent m. each silent m (getElem? d m) refl, λ h m start w i. h m w (report-loop m start w i))
+  no-report-no-loop = (λ silent m. each silent m (getElem? d m) refl, λ h m start w i. h m w (report-loop d m start w i))
     where
       each : NoLoopReport d → (m : ℕ) (o : Option Module) → getElem? d m ≡ o → (v : List Node) → ¬ EdgeLoop d m v
       each silent m none e = no-loop-missing d m e

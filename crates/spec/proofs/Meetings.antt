@@ -670,12 +670,12 @@ has-pair-in p (q ∷ ps) e = go (or-cases (eqb (p .name) (q .name) && eqb (p .bl
     go (inl h) ih = let (a, b) = and-both (eqb (p .name) (q .name)) (eqb (p .block) (q .block)) h in List·Memᴰ·head (λ j. record { name = eqb-true (p .name) (q .name) a j; block = eqb-true (p .block) (q .block) b j })
     go (inr h) ih = List·Memᴰ·tail (ih h)
 
-in-has-pair : {p : Pair} {ps : List Pair} → p ∈ ps → has-pair p ps ≡ true
+pub in-has-pair : {p : Pair} {ps : List Pair} → p ∈ ps → has-pair p ps ≡ true
 unfolding has-pair
 in-has-pair {p} (List·Memᴰ·head {x = q} {xs = ps} d) = or-left (eqb (p .name) (q .name) && eqb (p .block) (q .block)) (has-pair p ps) (and-of (eqb (p .name) (q .name)) (eqb (p .block) (q .block)) (eq-eqb (p .name) (q .name) (ap (λ z. z .name) d)) (eq-eqb (p .block) (q .block) (ap (λ z. z .block) d)))
 in-has-pair {p} (List·Memᴰ·tail {x = q} {xs = ps} i) = or-right (eqb (p .name) (q .name) && eqb (p .block) (q .block)) (has-pair p ps) (in-has-pair i)
 
-of-different : {p : Pair} (ps : List Pair) → p ∈ different-pairs ps → p ∈ ps
+pub of-different : {p : Pair} (ps : List Pair) → p ∈ different-pairs ps → p ∈ ps
 unfolding different-pairs
 of-different [] i = i
 of-different {p} (q ∷ ps) i = go (has-pair q ps) refl (of-different ps)
@@ -688,7 +688,7 @@ of-different {p} (q ∷ ps) i = go (has-pair q ps) refl (of-different ps)
     go true e ih = List·Memᴰ·tail (ih (rw (e, different-pairs) at i))
     go false e ih = split ih (List·Memᴰ·cases-cons (rw (e, different-pairs) at i))
 
-in-different : {p : Pair} (ps : List Pair) → p ∈ ps → p ∈ different-pairs ps
+pub in-different : {p : Pair} (ps : List Pair) → p ∈ ps → p ∈ different-pairs ps
 unfolding different-pairs
 in-different [] i = i
 in-different {p} (q ∷ ps) i = go (has-pair q ps) refl (List·Memᴰ·cases-cons i) (in-different ps)

@@ -868,7 +868,7 @@ design-says d =
 
 -- ---- the answer
 
-fault-number : (b : Before) (s : Bytes) (k : ℕ) → Fault b s k → (1 ≤ k) × (k ≤ 8)
+pub fault-number : (b : Before) (s : Bytes) (k : ℕ) → Fault b s k → (1 ≤ k) × (k ≤ 8)
 fault-number b s k (not-one-form e) = omega arith
 fault-number b s k (badly-written e) = omega arith
 fault-number b s k (out-of-range w e) = omega arith
@@ -910,11 +910,11 @@ abbrev said : Bytes → Bytes
 said text = show-reports (found text .reports)
 
 module _ (working : List Lent) (text buffer : Bytes) where
-  by-text : (k n : ℕ) → too-short working ≡ false → refusal text ≡ refused k n → check-drivers working text buffer ≡ refuse k n buffer
+  pub by-text : (k n : ℕ) → too-short working ≡ false → refusal text ≡ refused k n → check-drivers working text buffer ≡ refuse k n buffer
   unfolding check-drivers
   by-text k n long e = rw (long, e, check-drivers)
 
-  if-short : too-short working ≡ true → check-drivers working text buffer ≡ refuse 20 0 buffer
+  pub if-short : too-short working ≡ true → check-drivers working text buffer ≡ refuse 20 0 buffer
   unfolding check-drivers
   if-short e = rw (e, check-drivers)
 
@@ -924,15 +924,15 @@ module _ (working : List Lent) (text buffer : Bytes) where
     unfolding check-drivers
     answer-is = rw (long, fine, check-drivers)
 
-    if-full : found text .full ≡ true → check-drivers working text buffer ≡ refuse 20 0 buffer
+    pub if-full : found text .full ≡ true → check-drivers working text buffer ≡ refuse 20 0 buffer
     unfolding answer-checked
     if-full e = answer-is ∙ rw (e, answer-checked)
 
-    if-longer : found text .full ≡ false → length buffer < length (said text) → check-drivers working text buffer ≡ refuse 21 0 buffer
+    pub if-longer : found text .full ≡ false → length buffer < length (said text) → check-drivers working text buffer ≡ refuse 21 0 buffer
     unfolding answer-checked
     if-longer e h = answer-is ∙ rw (e, lt-ltb (length buffer) (length (said text)) h, answer-checked)
 
-    if-fits : found text .full ≡ false → length (said text) ≤ length buffer → check-drivers working text buffer ≡ accept (said text) (found text) buffer
+    pub if-fits : found text .full ≡ false → length (said text) ≤ length buffer → check-drivers working text buffer ≡ accept (said text) (found text) buffer
     unfolding answer-checked
     if-fits e h = answer-is ∙ rw (e, le-ltb (length buffer) (length (said text)) h, answer-checked)
 

@@ -120,7 +120,7 @@ module-graph d = record {
 }
 
 -- a member of the table
-kept-in : (kept : Kept) (m : ℕ) (s : Summary) → kept-summary kept m ≡ some s → (m, s) ∈ kept
+pub kept-in : (kept : Kept) (m : ℕ) (s : Summary) → kept-summary kept m ≡ some s → (m, s) ∈ kept
 unfolding kept-summary
 kept-in [] m s e = absurd (Option·none-ne-some s e)
 kept-in (q ∷ kept) m s e =

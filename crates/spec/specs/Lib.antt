@@ -19,9 +19,11 @@ pub mod Net
 pub mod Walks
 pub mod Cases
 pub mod Collection
+pub mod Counts
 pub mod Loops
 pub mod Meaning
 pub mod Opened
+pub mod Premises
 pub mod Refusals
 pub mod Rest
 pub mod Situations

@@ -5,7 +5,7 @@ use mathlib.Core.Path.{_≡_}
 use mathlib.Core.Logic.{_↔_}
 use mathlib.Core.List.{List, [], _∷_}
 use lib.ListN.{length}
-use Rattle.spec.specs.Graph.{Graph, _∈_, Once}
+use Rattle.spec.specs.Graph.{Graph, _∈_, Once, Closed}
 
 -- values of whatever set, and each signal's function, of the values of what it reads and of nothing else. 01: The edge, Rest.
 pub record Net (G : Graph) : Type 1 where
@@ -59,3 +59,7 @@ pub record ComesToRest (G : Graph) : Type 1 where
   pub rests : (N : Net G) → (y : State N) × Rests N y
   pub only : (N : Net G) (x y : State N) → Rests N x → Rests N y → Agree N x y
   pub reached : (N : Net G) (x y : State N) → Rests N y → (l : List (Round G)) → length (G .signals) ≤ length l → Agree N (rounds N l x) y
+
+-- a graph comes to rest exactly where it has no closed walk. 01: The edge, Rest.
+abbrev pub RestExactly : Type 1
+RestExactly = (G : Graph) → (ComesToRest G → ¬ Closed G) × (¬ Closed G → ComesToRest G)

@@ -13,6 +13,7 @@ use Rattle.spec.specs.Check.{Lent, check-design, check-drivers}
 use Rattle.spec.specs.Graph.{_∈_, Once, ClosedWalk, Graph}
 use Rattle.spec.specs.Net.{ComesToRest}
 use Rattle.spec.specs.Opened.{Signal, signal-reads, opened-signals, OnClosedWalk, Premises}
+use Rattle.spec.specs.Summaries.{NoModuleInsideItself}
 
 -- 01, Rest: signals of an opened design, listed once each, with all that they read.
 pub record Listing (d : Design) (m : ℕ) (signals : List Signal) : Type 0 where
@@ -41,3 +42,9 @@ pub record LoopsAndRest (d : Design) : Type 1 where
 -- 01, Rest: demand 3 is one claim, of every accepted text that meets the premises.
 abbrev pub Rest : Type 1
 Rest = (working : List Lent) (text buffer : Bytes) → check-drivers working text buffer .number ≡ 0 → Premises (decode text) → LoopsAndRest (decode text)
+
+-- 01, Rest: and nowhere else. Where no module contains itself and every opened design, listed as it is, comes to rest, no loop is reported.
+abbrev pub OnlyThere : Type 1
+OnlyThere =
+    (d : Design) → NoModuleInsideItself d
+    → ((m : ℕ) (l : Listing d m (opened-signals d m)) → ComesToRest (opened-graph d m (opened-signals d m) l)) → NoLoopReport d

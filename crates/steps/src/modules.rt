@@ -24,7 +24,7 @@ fn place(mods: &[u32], m: u32, k: u32) -> usize
 }
 
 // The bytes from one place to another, as far as there are any.
-fn stretch(text: &[u8], from: usize, to: usize) -> &[u8]
+pub fn stretch(text: &[u8], from: usize, to: usize) -> &[u8]
     ensures { λ r. ⌜ now r ≡ take (to - from) (drop from (now (text .entry))) ⌝ }
 {
     if text.len() <= from {

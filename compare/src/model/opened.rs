@@ -1,0 +1,344 @@
+//! The opened design (01, "The edge"): copies, signals and what they read; the premises of the
+//! claim about loops and rest.
+
+pub use super::edge::Node;
+use super::tree::*;
+use super::value::{eval, module_table, Full, Table};
+use std::collections::{BTreeMap, BTreeSet};
+
+/// A node of a copy; the copy is the positions of the instance lines that lead to it, outermost
+/// first.
+pub type Signal = (Vec<usize>, Node);
+
+/// The rounds that a module has for all its repeats.
+const MODULE_ROUNDS: i128 = 4_096;
+
+/// A collected instance line whose module exists.
+struct Instance {
+    name: Name,
+    index: Option<i128>,
+    module: usize,
+    /// The port of each connection, and what it reads.
+    conns: Vec<(Name, Vec<Node>)>,
+}
+
+/// The collected lines of a module that head or instance something.
+#[derive(Default)]
+struct Lines {
+    /// What wire and drive lines head, and what they read.
+    heads: BTreeMap<Node, Vec<Node>>,
+    /// The names of wire lines.
+    wired: BTreeSet<Name>,
+    instances: Vec<Instance>,
+}
+
+/// The premises, the second in its two halves.
+#[derive(Clone, Copy, Debug, PartialEq, Eq)]
+pub struct Premises {
+    pub not_inside_itself: bool,
+    pub inputs_not_wired: bool,
+    pub registers_not_wired: bool,
+    pub inputs_no_ports: bool,
+    pub outputs_are_ports: bool,
+}
+
+/// A design, ready to be opened from any of its modules.
+pub struct Opened {
+    design: Vec<Module>,
+    lines: Vec<Lines>,
+}
+
+impl Opened {
+    /// The lines of each module under its own `val` lines.
+    pub(super) fn new(design: Vec<Module>) -> Result<Opened, Full> {
+        let mut lines = Vec::new();
+        for module in &design {
+            let mut collected = Lines::default();
+            let mut table = module_table(module)?;
+            let items = &module.items;
+            collect(
+                &mut collected,
+                &design,
+                module,
+                items,
+                &mut table,
+                MODULE_ROUNDS,
+            )?;
+            lines.push(collected);
+        }
+        Ok(Opened { design, lines })
+    }
+
+    pub fn modules(&self) -> usize {
+        self.design.len()
+    }
+
+    pub fn premises(&self) -> Premises {
+        let wired = |kind| {
+            self.lines.iter().zip(&self.design).any(|(lines, m)| {
+                let mut names = lines.wired.iter();
+                names.any(|name| m.kinds.get(name) == Some(&kind))
+            })
+        };
+        Premises {
+            not_inside_itself: (0..self.modules()).all(|m| !self.inside(m).contains(&m)),
+            inputs_not_wired: !wired(Kind::In),
+            registers_not_wired: !wired(Kind::Reg),
+            inputs_no_ports: self.design.iter().all(|m| {
+                let mut ports = ports(m);
+                ports.all(|name| m.kinds.get(&name) != Some(&Kind::In))
+            }),
+            outputs_are_ports: self.lines.iter().all(|lines| self.reads_are_ports(lines)),
+        }
+    }
+
+    /// The modules that collected instance lines of `m` lead to.
+    pub fn inside(&self, m: usize) -> BTreeSet<usize> {
+        let mut found = BTreeSet::new();
+        let mut open = vec![m];
+        while let Some(k) = open.pop() {
+            for i in &self.lines[k].instances {
+                if found.insert(i.module) {
+                    open.push(i.module);
+                }
+            }
+        }
+        found
+    }
+
+    fn reads_are_ports(&self, lines: &Lines) -> bool {
+        let conns = lines.instances.iter().flat_map(|i| &i.conns);
+        let connected = conns.flat_map(|(_, reads)| reads);
+        let mut read = lines.heads.values().flatten().chain(connected);
+        read.all(|node| match *node {
+            Node::Sig(_) => true,
+            Node::InstOut { inst, index, out } => {
+                let mut named = lines.instances.iter();
+                named.all(|i| {
+                    (i.name, i.index) != (inst, index)
+                        || ports(&self.design[i.module]).any(|port| port == out)
+                })
+            }
+        })
+    }
+
+    /// The module of a copy.
+    fn module_of(&self, m: usize, copy: &[usize]) -> usize {
+        copy.iter()
+            .fold(m, |k, &at| self.lines[k].instances[at].module)
+    }
+
+    /// What a signal reads in the design opened from module `m`.
+    pub fn reads(&self, m: usize, signal: &Signal) -> Vec<Signal> {
+        let (copy, node) = signal;
+        let k = self.module_of(m, copy);
+        let own = self.lines[k].heads.get(node).into_iter().flatten();
+        let mut found: Vec<Signal> = own.map(|&read| (copy.clone(), read)).collect();
+        match *node {
+            Node::Sig(name) => {
+                if let Some((&at, outer)) = copy.split_last() {
+                    if self.design[k].kinds.get(&name) == Some(&Kind::In) {
+                        let o = self.module_of(m, outer);
+                        let conns = self.lines[o].instances[at].conns.iter();
+                        let to = conns.filter(|(port, _)| *port == name);
+                        found.extend(to.flat_map(|(_, r)| r.iter().map(|&n| (outer.to_vec(), n))));
+                    }
+                }
+            }
+            Node::InstOut { inst, index, out } => {
+                for (at, i) in self.lines[k].instances.iter().enumerate() {
+                    if (i.name, i.index) == (inst, index) {
+                        found.push(([&copy[..], &[at]].concat(), Node::Sig(out)));
+                    }
+                }
+            }
+        }
+        found
+    }
+
+    /// All signals of the design opened from `m`, each once; none where a module contains itself
+    /// or there are more than `limit`.
+    pub fn signals(&self, m: usize, limit: usize) -> Option<BTreeSet<Signal>> {
+        let mut inside = self.inside(m);
+        inside.insert(m);
+        if inside.iter().any(|&k| self.inside(k).contains(&k)) {
+            return None;
+        }
+        let mut found = BTreeSet::new();
+        let mut open = vec![Vec::new()];
+        while let Some(copy) = open.pop() {
+            let k = self.module_of(m, &copy);
+            for node in self.nodes(k) {
+                let signal = (copy.clone(), node);
+                found.extend(self.reads(m, &signal));
+                found.insert(signal);
+            }
+            let copies = 0..self.lines[k].instances.len();
+            open.extend(copies.map(|at| [&copy[..], &[at]].concat()));
+            if found.len() + open.len() > limit {
+                return None;
+            }
+        }
+        Some(found)
+    }
+
+    /// What is headed or read in a module, and its inputs.
+    fn nodes(&self, k: usize) -> BTreeSet<Node> {
+        let lines = &self.lines[k];
+        let mut nodes: BTreeSet<Node> = lines.heads.keys().copied().collect();
+        nodes.extend(lines.heads.values().flatten());
+        let conns = lines.instances.iter().flat_map(|i| &i.conns);
+        nodes.extend(conns.flat_map(|(_, reads)| reads));
+        let kinds = self.design[k].kinds.iter();
+        nodes.extend(
+            kinds
+                .filter(|(_, &kind)| kind == Kind::In)
+                .map(|(&n, _)| Node::Sig(n)),
+        );
+        nodes
+    }
+
+    /// Whether a walk closes among these signals: they are taken away, again and again, where
+    /// they read none that is left.
+    pub fn closes(&self, m: usize, signals: &BTreeSet<Signal>) -> bool {
+        let mut left = signals.clone();
+        loop {
+            let before = left.len();
+            let now = left.clone();
+            left.retain(|s| self.reads(m, s).iter().any(|r| now.contains(r)));
+            if left.len() == before {
+                return before > 0;
+            }
+        }
+    }
+}
+
+/// The names of top-level out ports.
+fn ports(module: &Module) -> impl Iterator<Item = Name> + '_ {
+    module.items.iter().filter_map(|item| match item {
+        Item::PortOut { name, .. } => Some(*name),
+        _ => None,
+    })
+}
+
+/// Collects items with `left` rounds, and gives the rounds left.
+fn collect(
+    lines: &mut Lines,
+    design: &[Module],
+    module: &Module,
+    items: &[Item],
+    table: &mut Table,
+    left: i128,
+) -> Result<i128, Full> {
+    let mut left = left;
+    for item in items {
+        match item {
+            Item::Wire { name, init, .. } => {
+                lines.wired.insert(*name);
+                head(lines, *name, reads(module, table, &[init])?);
+            }
+            Item::Drive { lhs, rhs } => {
+                if let Some(Kind::Out | Kind::Wire) = module.kinds.get(&lhs.name) {
+                    let mut parts = vec![rhs];
+                    match &lhs.index {
+                        LvIndex::None => {}
+                        LvIndex::Bit(bit) => parts.push(bit),
+                        LvIndex::HighLow(high, low) => parts.extend([high, low]),
+                    }
+                    head(lines, lhs.name, reads(module, table, &parts)?);
+                }
+            }
+            Item::Inst(i) if i.module < design.len() => {
+                let index = match &i.index {
+                    Some(e) => eval(e, table)?,
+                    None => None,
+                };
+                let mut conns = Vec::new();
+                for (port, signal) in &i.conns {
+                    conns.push((*port, reads(module, table, &[signal])?));
+                }
+                lines.instances.push(Instance {
+                    name: i.name,
+                    index,
+                    module: i.module,
+                    conns,
+                });
+            }
+            Item::Repeat { var, lo, hi, items } => {
+                left = match (eval(lo, table)?, eval(hi, table)?) {
+                    (Some(lo), Some(hi)) if hi - lo <= left => {
+                        let mut left = left - (hi - lo).max(0);
+                        for v in lo..hi {
+                            let mut inner = table.clone();
+                            inner.insert(*var, v);
+                            left = collect(lines, design, module, items, &mut inner, left)?;
+                        }
+                        left
+                    }
+                    _ => collect(lines, design, module, items, table, left)?,
+                };
+            }
+            Item::ConstIf { cond, then, els } => {
+                let taken = match eval(cond, table)? {
+                    None | Some(0) => els,
+                    Some(_) => then,
+                };
+                left = collect(lines, design, module, taken, table, left)?;
+            }
+            _ => {}
+        }
+    }
+    Ok(left)
+}
+
+fn head(lines: &mut Lines, name: Name, reads: Vec<Node>) {
+    lines
+        .heads
+        .entry(Node::Sig(name))
+        .or_default()
+        .extend(reads);
+}
+
+/// What expressions read.
+fn reads(module: &Module, table: &Table, exprs: &[&Expr]) -> Result<Vec<Node>, Full> {
+    let mut found = Vec::new();
+    for e in exprs {
+        match e {
+            Expr::Int(_) | Expr::Bool(_) => {}
+            Expr::Ident(name) => {
+                if let Some(Kind::In | Kind::Out | Kind::Wire) = module.kinds.get(name) {
+                    found.push(Node::Sig(*name));
+                }
+            }
+            Expr::Field(base, out) => found.extend(output(module, table, base, *out)?),
+            Expr::Unary(_, x) => found.extend(reads(module, table, &[x])?),
+            Expr::Index(x, y) | Expr::Binary(_, x, y) => {
+                found.extend(reads(module, table, &[x, y])?)
+            }
+            Expr::If(x, y, z) => found.extend(reads(module, table, &[x, y, z])?),
+            Expr::All(parts) => {
+                found.extend(reads(module, table, &parts.iter().collect::<Vec<_>>())?);
+            }
+        }
+    }
+    Ok(found)
+}
+
+/// The instance output that a field reads.
+fn output(module: &Module, table: &Table, base: &Expr, out: Name) -> Result<Option<Node>, Full> {
+    let (inst, index) = match base {
+        Expr::Ident(inst) => (*inst, None),
+        Expr::Index(core, at) => match **core {
+            Expr::Ident(inst) if module.kinds.get(&inst) == Some(&Kind::Inst) => {
+                match eval(at, table)? {
+                    Some(v) => (inst, Some(v)),
+                    None => return Ok(None),
+                }
+            }
+            _ => return Ok(None),
+        },
+        _ => return Ok(None),
+    };
+    let is_inst = module.kinds.get(&inst) == Some(&Kind::Inst);
+    Ok(is_inst.then_some(Node::InstOut { inst, index, out }))
+}

@@ -1,0 +1,332 @@
+//! The claim about loops and rest, held against the original by running: opened designs, the
+//! premises, and a text for each premise that breaks it alone.
+
+use compare::gen::rng::Rng;
+use compare::model::opened::{Node, Opened, Premises, Signal};
+use compare::{gen, model, oracle};
+use std::collections::{BTreeMap, BTreeSet};
+
+/// Opened designs with more signals are passed over.
+const SIGNALS: usize = 3_000;
+
+/// The modules of which the original reports a loop.
+fn looped(text: &[u8]) -> BTreeSet<usize> {
+    let reports = oracle::check(text).unwrap();
+    let loops = reports.iter().filter_map(|r| r.strip_prefix("(E0504 "));
+    loops
+        .map(|r| r.split(' ').next().unwrap().parse().unwrap())
+        .collect()
+}
+
+/// Accepted texts of the generator, each with its design.
+fn designs(count: u64) -> impl Iterator<Item = (Vec<u8>, Opened)> {
+    let profiles = ["small", "loops", "ties", "dense", "values"];
+    profiles.into_iter().flat_map(move |profile| {
+        (0..count).filter_map(move |i| {
+            let text = gen::text(profile, 11, i).unwrap();
+            let opened = model::opened(&text)?;
+            Some((text, opened))
+        })
+    })
+}
+
+/// What the claim needs.
+fn enough(p: Premises) -> bool {
+    p.not_inside_itself && p.inputs_not_wired && p.outputs_are_ports
+}
+
+#[test]
+fn a_loop_is_reported_exactly_where_an_opened_design_has_one() {
+    let (mut closed, mut open) = (0, 0);
+    for (text, opened) in designs(3_000) {
+        if !enough(opened.premises()) {
+            continue;
+        }
+        let looped = looped(&text);
+        for m in 0..opened.modules() {
+            let Some(signals) = opened.signals(m, SIGNALS) else {
+                continue;
+            };
+            let closes = opened.closes(m, &signals);
+            let below = looped.contains(&m) || !looped.is_disjoint(&opened.inside(m));
+            assert_eq!(closes, below, "{m} of {}", String::from_utf8_lossy(&text));
+            if !opened.inside(m).is_empty() {
+                closed += closes as u32;
+                open += !closes as u32;
+            }
+        }
+    }
+    assert!(closed > 2_000 && open > 1_000, "{closed} {open}");
+}
+
+#[test]
+fn no_loop_report_is_false_whatever_the_premises() {
+    let mut reports = 0;
+    for (text, opened) in designs(3_000) {
+        if enough(opened.premises()) {
+            continue;
+        }
+        for m in looped(&text) {
+            let Some(signals) = opened.signals(m, SIGNALS) else {
+                continue;
+            };
+            assert!(
+                opened.closes(m, &signals),
+                "{m} of {}",
+                String::from_utf8_lossy(&text)
+            );
+            reports += 1;
+        }
+    }
+    assert!(reports > 500, "{reports}");
+}
+
+/// A value for each signal.
+type State = BTreeMap<Signal, u64>;
+
+/// What a signal's function gives: any number that its reads decide.
+fn gives(opened: &Opened, m: usize, state: &State, signal: &Signal) -> u64 {
+    let reads = opened.reads(m, signal);
+    let seed = reads
+        .iter()
+        .fold(1, |h: u64, r| h.wrapping_mul(31).wrapping_add(state[r]));
+    Rng::new("value", seed, signal.0.len() as u64).below(4)
+}
+
+/// One round: all at once, or singly in some order.
+fn round(opened: &Opened, m: usize, state: &mut State, r: &mut Rng) {
+    let mut order: Vec<Signal> = state.keys().cloned().collect();
+    if r.below(2) == 0 {
+        let last = state.clone();
+        for s in order {
+            let v = gives(opened, m, &last, &s);
+            state.insert(s, v);
+        }
+        return;
+    }
+    r.shuffle(&mut order);
+    for s in order {
+        let v = gives(opened, m, state, &s);
+        state.insert(s, v);
+    }
+}
+
+#[test]
+fn without_a_loop_every_start_ends_in_one_state_at_rest() {
+    let mut rested = 0;
+    for (text, opened) in designs(300) {
+        if !enough(opened.premises()) || !looped(&text).is_empty() {
+            continue;
+        }
+        for m in 0..opened.modules() {
+            let Some(signals) = opened.signals(m, 60) else {
+                continue;
+            };
+            let mut ends = Vec::new();
+            for start in 0..2 {
+                let mut r = Rng::new("rest", start, m as u64);
+                let mut state: State = signals.iter().map(|s| (s.clone(), r.below(4))).collect();
+                for _ in 0..signals.len() {
+                    round(&opened, m, &mut state, &mut r);
+                }
+                let rests = |s: &Signal| state[s] == gives(&opened, m, &state, s);
+                assert!(
+                    signals.iter().all(rests),
+                    "{}",
+                    String::from_utf8_lossy(&text)
+                );
+                ends.push(state);
+            }
+            assert_eq!(ends[0], ends[1]);
+            rested += (signals.len() > 4) as u32;
+        }
+    }
+    assert!(rested > 200, "{rested}");
+}
+
+const INSIDE_ITSELF: &str = "\
+(module 0 bound)
+(kind 1 in)
+(kind 2 out)
+(kind 4 in)
+(kind 5 inst)
+(port out 2 bit 10)
+(drive (lv 2 20) (all (n 1) (f (n 5) 2)))
+(inst 5 - 0 30 (conn 1 (n 4)) (conn 4 (f (n 5) 2)))
+";
+
+const WIRED_INPUT: &str = "\
+(module 0 bound)
+(kind 5 inst)
+(inst 5 - 1 10 (conn 2 (f (n 5) 3)))
+(module 1 bound)
+(kind 1 in)
+(kind 2 in)
+(kind 3 out)
+(port out 3 bit 20)
+(wire 1 (n 2) 30)
+(drive (lv 3 40) (n 1))
+";
+
+const NO_PORT: &str = "\
+(module 0 bound)
+(kind 5 inst)
+(inst 5 - 1 10 (conn 1 (f (n 5) 1)))
+(module 1 bound)
+(kind 1 in)
+";
+
+const ALL: Premises = Premises {
+    not_inside_itself: true,
+    inputs_not_wired: true,
+    registers_not_wired: true,
+    inputs_no_ports: true,
+    outputs_are_ports: true,
+};
+
+/// The original and the model print this; the text breaks just what `broken` says.
+#[track_caller]
+fn breaks(text: &str, reports: &[&str], broken: Premises) -> Opened {
+    assert_eq!(oracle::check(text.as_bytes()).unwrap(), reports);
+    let printed: String = reports.iter().map(|r| format!("{r}\n")).collect();
+    assert_eq!(model::printed(text.as_bytes()), printed.into_bytes());
+    let opened = model::opened(text.as_bytes()).unwrap();
+    assert_eq!(opened.premises(), broken);
+    opened
+}
+
+#[test]
+fn a_loop_is_unseen_in_a_module_that_contains_itself() {
+    let opened = breaks(
+        INSIDE_ITSELF,
+        &[],
+        Premises {
+            not_inside_itself: false,
+            ..ALL
+        },
+    );
+    assert!(opened.signals(0, SIGNALS).is_none());
+    // (u 5 - 2), 2 and (u 5 - 2) of the copy, 2 and 1 of its copy, 4 of the copy
+    let out = opened.reads(0, &(vec![0], Node::Sig(4))).remove(0);
+    let steps = [
+        (vec![], out.1),
+        (vec![0], Node::Sig(2)),
+        (vec![0], out.1),
+        (vec![0, 0], Node::Sig(2)),
+        (vec![0, 0], Node::Sig(1)),
+        (vec![0], Node::Sig(4)),
+        (vec![], out.1),
+    ];
+    for step in steps.windows(2) {
+        assert!(opened.reads(0, &step[0]).contains(&step[1]), "{step:?}");
+    }
+}
+
+#[test]
+fn a_loop_is_unseen_behind_a_wired_input() {
+    let opened = breaks(
+        WIRED_INPUT,
+        &[],
+        Premises {
+            inputs_not_wired: false,
+            ..ALL
+        },
+    );
+    assert!(opened.closes(0, &opened.signals(0, SIGNALS).unwrap()));
+}
+
+#[test]
+fn a_loop_is_unseen_through_a_name_that_is_no_port() {
+    let opened = breaks(
+        NO_PORT,
+        &[],
+        Premises {
+            outputs_are_ports: false,
+            ..ALL
+        },
+    );
+    assert!(opened.closes(0, &opened.signals(0, SIGNALS).unwrap()));
+}
+
+#[test]
+fn a_wired_register_reads() {
+    let text = "\
+(module 0 bound)
+(kind 1 in)
+(kind 4 reg)
+(wire 4 (n 1) 10)
+";
+    let opened = breaks(
+        text,
+        &[],
+        Premises {
+            registers_not_wired: false,
+            ..ALL
+        },
+    );
+    let register = (vec![], Node::Sig(4));
+    assert_eq!(opened.reads(0, &register).len(), 1);
+}
+
+#[test]
+fn an_out_port_with_the_name_of_an_input_hides_nothing() {
+    let broken = Premises {
+        inputs_no_ports: false,
+        ..ALL
+    };
+    let alone = "(module 0 bound)\n(kind 1 in)\n(port out 1 bit 10)\n";
+    breaks(alone, &["(E0502 0 10 1 never)"], broken);
+    let text = "\
+(module 0 bound)
+(kind 5 inst)
+(inst 5 - 1 10 (conn 1 (f (n 5) 1)))
+(module 1 bound)
+(kind 1 in)
+(port out 1 bit 20)
+";
+    let opened = breaks(
+        text,
+        &[
+            "(E0504 0 10 (walk (u 5 - 1) (u 5 - 1)))",
+            "(E0502 1 20 1 never)",
+        ],
+        broken,
+    );
+    assert!(opened.closes(0, &opened.signals(0, SIGNALS).unwrap()));
+}
+
+/// The premises of an accepted text of which no loop is reported, though from module 0, three
+/// copies deep at most, a walk closes.
+fn unseen(text: &str) -> Option<Premises> {
+    let opened = model::opened(text.as_bytes())?;
+    if !looped(text.as_bytes()).is_empty() {
+        return None;
+    }
+    let mut found = BTreeSet::new();
+    let mut open: Vec<Signal> = (0..6)
+        .map(|o| Node::InstOut {
+            inst: 5,
+            index: None,
+            out: o,
+        })
+        .map(|node| (vec![], node))
+        .collect();
+    while let Some(s) = open.pop() {
+        if s.0.len() < 4 && found.insert(s.clone()) {
+            open.extend(opened.reads(0, &s));
+        }
+    }
+    opened.closes(0, &found).then(|| opened.premises())
+}
+
+#[test]
+fn no_line_of_these_texts_can_be_left_out() {
+    for text in [INSIDE_ITSELF, WIRED_INPUT, NO_PORT] {
+        let whole = unseen(text).unwrap();
+        let lines: Vec<&str> = text.split_inclusive('\n').collect();
+        for i in 0..lines.len() {
+            let less = [&lines[..i], &lines[i + 1..]].concat().concat();
+            assert_ne!(unseen(&less), Some(whole), "{less}");
+        }
+    }
+}

@@ -1,0 +1,29 @@
+-- What a collected line leaves that holds no items and asks for no summary. 01: The site; The block; The edge.
+-- Assumes nothing: these are definitions and statements.
+use mathlib.Core.Path.{_≡_}
+use mathlib.Core.Bool.{Bool, true}
+use mathlib.Core.List.{List, []}
+use Prim.Native.Nat.{ℕ}
+use Rattle.spec.specs.Bytes.{Bytes}
+use Rattle.spec.specs.Syntax.{Item, Header}
+use Rattle.spec.specs.Value.{Names}
+use Rattle.spec.specs.Edge.{Head, line-heads}
+use Rattle.graph.specs.Stands.{Stands}
+use Rattle.edges.specs.Reads.{KindsOf, HeadAll}
+use Rattle.runs.specs.Run.{ShowsItem}
+use Rattle.steps.specs.Steps.{plain}
+use Rattle.items.specs.Lines.{StandsAt}
+use Rattle.walk.specs.Walk.{Own}
+use Rattle.collect.specs.Cycle.{OwnIs, PlainEnds, mode}
+
+-- 01, The edge: what it heads and reads
+abbrev pub LineHeads : Bool → Bytes → ℕ → List ℕ → Names → List ℕ → List ℕ → Type 0
+LineHeads r x d ks names g g′ =
+    (i : Item) → ShowsItem x d i → plain i ≡ true → (header : List Header) → KindsOf ks header → (hs : List Head) → Stands g hs
+    → HeadAll r g′ hs (line-heads header names [] i)
+
+-- its entries too
+abbrev pub PlainLine : Bool → Bytes → ℕ → ℕ → List ℕ → Bool → Bool → Names → List ℕ → List ℕ → List ℕ → List ℕ → Type 0
+PlainLine r x from d ks checking bound names own g own′ g′ =
+    (text : Bytes) (i : Item) → ShowsItem x d i → plain i ≡ true → StandsAt text from x → (header : List Header) → KindsOf ks header
+    → (o : Own) → OwnIs checking text own o → (hs : List Head) → Stands g hs → PlainEnds r (mode checking bound) text own′ g′ header names i o hs

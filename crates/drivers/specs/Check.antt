@@ -1,0 +1,91 @@
+-- The whole check over the lent slices: what a module's check needs of them, what it leaves, and the answer. 01: Refused because of the
+-- state; The report.
+-- Assumes nothing: these are definitions and statements.
+use mathlib.Core.Path.{_≡_}
+use mathlib.Core.Bool.{Bool, false}
+use mathlib.Core.List.{List, [], _∷_}
+use mathlib.Core.Option.{some}
+use Prim.Native.Nat.{ℕ, _*_, _≤_}
+use lib.ListN.{length, getElem?}
+use Rattle.spec.specs.Bytes.{Bytes}
+use Rattle.spec.specs.Syntax.{name-bound, Module}
+use Rattle.spec.specs.Refusal.{decode}
+use Rattle.spec.specs.Summary.{Kept}
+use Rattle.spec.specs.Check.{Lent, Slice, Exit}
+use Rattle.spec.specs.Check as check
+use Rattle.graph.specs.Cycles.{Roomy}
+use Rattle.sites.specs.Own.{places}
+use Rattle.walk.specs.Walk.{Got, full, going, Tally}
+use Rattle.steps.specs.Modules.{name-places}
+use Rattle.summary.specs.Keeps.{Keeps, kept-places}
+use Rattle.collect.specs.Cycle.{Tabled}
+use Rattle.drivers.specs.Emits.{Within, Emits}
+use Rattle.drivers.specs.declared.emit.Place.{Place}
+use Rattle.drivers.specs.declared.check.Checked.{Checked}
+use Rattle.drivers.specs.declared.check.Checked.the-variants as checks
+use Rattle.drivers.specs.declared.check.Answer.{Answer}
+
+-- how many places the graph, and the work slice of its search, have
+abbrev pub graph-places : ℕ
+graph-places = 15874
+
+abbrev pub work-places : ℕ
+work-places = 29190
+
+-- 01, Refused because of the state: the slices that a module's check works on have places for the limits that they serve
+pub record Enough (names own g w k : List ℕ) : Type 0 where
+  pub named : name-places ≤ length names
+  pub owned : length own ≡ places
+  pub graphed : graph-places ≤ length g
+  pub roomy : Roomy w
+  pub keeping : kept-places ≤ length k
+
+-- module x is number m of an accepted text, and the words k hold the summaries kept so far; what the other slices hold does not matter
+pub record Checking (text kinds mods : List ℕ) (count m : ℕ) (names own g w k : List ℕ) (x : Module) (kept : Kept) : Type 0 where
+  pub tabled : Tabled text kinds mods count
+  pub enough : Enough names own g w k
+  pub there : getElem? (decode text) m ≡ some x
+  pub keeps : Keeps k kept []
+
+-- what the check of a module, or of several, leaves: its reports behind the place p, its rounds, and the summaries kept; or a limit is
+-- passed, and then only a buffer that is written may have changed
+abbrev pub Tallied : Checked → Bool → Bytes → Place → Bytes → List ℕ → Got Tally → Type 0
+Tallied (checks.Done q rounds) write old p new k x =
+    (t : Tally) × (x ≡ going t) × Emits write old p (t .reports) new q × (rounds ≡ t .rounds) × Keeps k (t .kept) []
+Tallied checks.Full write old p new k x = (x ≡ full) × (Within old p → write ≡ false → new ≡ old)
+
+-- 01, The collected item: each module has 4,096 rounds
+abbrev pub FewRounds : Checked → Type 0
+FewRounds (checks.Done q rounds) = rounds ≤ 4096
+FewRounds checks.Full = Unit {0}
+
+-- where the first report goes
+abbrev pub first-place : Place
+first-place = record { at = 0; reports = 0 }
+
+-- 01, Refused because of the state: the answer, with the report buffer at exit
+abbrev pub answer-of : Answer → Bytes → check.Answer
+answer-of a buffer = record { number = a .number; line = a .line; bytes-written = a .bytes; reports = a .reports; rounds = a .rounds; buffer = buffer }
+
+-- 01, Refused because of the state: acceptance returns 0, bytes written, reports, and rounds
+abbrev pub accepted : ℕ → ℕ → ℕ → Bytes → check.Answer
+accepted written reports rounds buffer = record { number = 0; line = 0; bytes-written = written; reports = reports; rounds = rounds; buffer = buffer }
+
+-- 01, Refused because of the state: how many places the seven working slices have, and the limits that they serve
+abbrev pub lent-places : ℕ → ℕ → ℕ → ℕ → ℕ → ℕ → ℕ → List Lent
+lent-places kinds mods names own g w k =
+    record { places = kinds; limit = 32 * name-bound } ∷ record { places = mods; limit = 32 * 4 } ∷ record { places = names; limit = name-places }
+    ∷ record { places = own; limit = places } ∷ record { places = g; limit = graph-places } ∷ record { places = w; limit = work-places }
+    ∷ record { places = k; limit = kept-places } ∷ []
+
+-- 01, Refused because of the state: the seven working slices as they are lent
+abbrev pub slices : List ℕ → List ℕ → List ℕ → List ℕ → List ℕ → List ℕ → List ℕ → List Slice
+slices kinds mods names own g w k =
+    record { held = kinds; limit = 32 * name-bound } ∷ record { held = mods; limit = 32 * 4 } ∷ record { held = names; limit = name-places }
+    ∷ record { held = own; limit = places } ∷ record { held = g; limit = graph-places } ∷ record { held = w; limit = work-places }
+    ∷ record { held = k; limit = kept-places } ∷ []
+
+-- 01, Refused because of the state: what a call leaves
+abbrev pub exit-of : Answer → Bytes → List ℕ → List ℕ → List ℕ → List ℕ → List ℕ → List ℕ → List ℕ → Exit
+exit-of a buffer kinds mods names own g w k =
+    record { answer = answer-of a buffer; working = kinds ∷ mods ∷ names ∷ own ∷ g ∷ w ∷ k ∷ [] }
