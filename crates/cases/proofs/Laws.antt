@@ -1,29 +1,21 @@
 -- Laws of the definitions of specs/, one for each way through the code.
 -- Assumes nothing.
-use mathlib.Core.Path.{_≡_, refl, sym, ap, ap₂, _∙_}
-use mathlib.Core.Bool.{Bool, true, false, true≢false}
-use mathlib.Core.List.{[], _∷_, _++_}
+use mathlib.Core.Path.{_≡_, refl, sym, ap}
+use mathlib.Core.Bool.{Bool, true, false}
+use mathlib.Core.List.{[], _∷_}
 use Prim.Native.Nat.{ℕ, suc, _+_, _-_, _≤_, _<_}
 use native.Mathlib.Omega.{arith}
 use native.Mathlib.Numerals.{add-one}
 use lib.Dec.{eqb}
-use lib.ListN.{length, take, drop, getD, drop-of-length-le, length-append}
-use lib.Seq.{drop-cons, take-append-seam}
-use borrow.Author.Tests.{eq-eqb, ne-eqb, lt-ltb, le-ltb, le-leb}
+use lib.ListN.{length, drop, getD, replicate, length-replicate, drop-of-length-le}
+use lib.Seq.{drop-cons}
+use borrow.Author.Tests.{eq-eqb, ne-eqb, lt-ltb, le-ltb}
 use Rattle.spec.specs.Bytes.{Bytes, same-bytes}
-use Rattle.spec.specs.Refusal.{Verdict, well-formed, refused, refusal}
-use Rattle.io.specs.Counts.{Counts}
+use Rattle.spec.specs.Check.{too-short, program-buffer}
+use Rattle.spec.specs.Cases.{Prints}
 use Rattle.lines.specs.Parse.{code-after, key, wordAt}
 use Rattle.lines.specs.Parts.{part-end}
-use Rattle.lines.specs.Read.{numberAfter}
-use Rattle.lines.specs.Verdict.{told, number-of, line-of}
-use Rattle.lines.specs.declared.read.Verdict.{Verdict as Told}
-use Rattle.lines.specs.declared.read.Verdict.the-variants.{Refused, Formed}
-use Rattle.report.specs.Line.{Written, put-by, placed, refused-line}
-use Rattle.report.specs.declared.Put.{Put}
-use Rattle.report.specs.declared.Put.the-variants as put
-use Rattle.lines.specs.declared.parse.Number.the-variants.{Is}
-use Rattle.cases.specs.Answer.{printed, answer-to, value-of, numberOf, expected}
+use Rattle.cases.specs.Answer.{answer-to}
 use Rattle.cases.specs.Stored.{caseKey, sized, closed, named, recordOf}
 use Rattle.cases.specs.declared.record.Record.the-variants as stored
 
@@ -106,69 +98,8 @@ module _ (s : Bytes) where
   unfolding recordOf
   record-here e = rw (e, recordOf)
 
--- ---- the number of a refusal, and what is expected
-
-module _ (s : Bytes) where
-  pub number-not : (getD s 0 0 ≡ 40 → ⊥) → 0 ≡ numberOf s
-  unfolding numberOf
-  number-not f = rw (ne-eqb (getD s 0 0) 40 f, numberOf)
-
-  module _ (e : getD s 0 0 ≡ 40) where
-    pub number-other : (wordAt s 1 .key ≡ 515194209225299527 → ⊥) → 0 ≡ numberOf s
-    unfolding numberOf key code-after
-    number-other f = rw (e, ne-eqb (wordAt s 1 .key) 515194209225299527 f, numberOf)
-
-    pub number-here : wordAt s 1 .key ≡ 515194209225299527 → value-of (numberAfter s (wordAt s 1 .next)) ≡ numberOf s
-    unfolding numberOf key code-after
-    number-here f = rw (e, eq-eqb (wordAt s 1 .key) 515194209225299527 f, numberOf)
-
-  pub expects-none : numberOf s ≡ 0 → [] ≡ expected s
-  unfolding expected
-  expects-none e = rw (e, expected)
-
-  module _ (f : numberOf s ≡ 0 → ⊥) where
-    pub expects-later : 8 < numberOf s → [] ≡ expected s
-    unfolding expected
-    expects-later h = rw (ne-eqb (numberOf s) 0 f, lt-ltb 8 (numberOf s) h, expected)
-
-    pub expects-stored : numberOf s ≤ 8 → s ≡ expected s
-    unfolding expected
-    expects-stored h = rw (ne-eqb (numberOf s) 0 f, le-ltb 8 (numberOf s) h, expected)
-
 -- ---- the answer
 
-abbrev formed : Told → Bool
-formed (Refused k n) = false
-formed (Formed m) = true
-
-module _ (text : Bytes) where
-  pub answer-refused : (k n m : ℕ) → Refused k n ≡ told (refusal text) m → refused-line k n ≡ answer-to text
-  unfolding answer-to
-  answer-refused k n m e = go (refusal text) e
-    where
-      go : (v : Verdict) → Refused k n ≡ told v m → refused-line k n ≡ printed v
-      go (refused a b) q = ap₂ refused-line (ap number-of q) (ap line-of q)
-      go well-formed q = absurd (true≢false (ap formed (sym q)))
-
-  pub answer-formed : (k m : ℕ) → Formed k ≡ told (refusal text) m → [] ≡ answer-to text
-  unfolding answer-to
-  answer-formed k m e = go (refusal text) e
-    where
-      go : (v : Verdict) → Formed k ≡ told v m → [] ≡ printed v
-      go well-formed q = refl
-      go (refused a b) q = absurd (true≢false (ap formed q))
-
--- a piece that fits, written at the front of a buffer
-module _ (p buf buf′ : Bytes) (r : Put) (m : ℕ) (e : m ≡ length p) (l : m ≤ length buf) (q : put-by r buf′ ≡ placed buf 0 p) where
-  front : buf′ ≡ p ++ drop (length p) buf
-  unfolding placed
-  front =
-      let z : 0 + length p ≡ length p = omega arith in
-      let w : placed buf 0 p ≡ put-by (put.At (0 + length p)) (take 0 buf ++ p ++ drop (0 + length p) buf) = rw (le-leb (0 + length p) (length buf) (omega arith), placed) in
-      ap (λ (w : Written). w .buffer) (q ∙ w) ∙ ap (λ (k : ℕ). p ++ drop k buf) z
-
-  pub put-front : (take m buf′ ≡ p) × Counts m buf′
-  put-front =
-      let t : take m buf′ ≡ p = rw (front, e) (take-append-seam p (drop (length p) buf)) in
-      let k : length buf′ ≡ length p + length (drop (length p) buf) = ap length front ∙ length-append p (drop (length p) buf) in
-      (t, (omega arith, e ∙ ap length (sym t)))
+pub prints-is : (text prints : Bytes) → Prints text prints → prints ≡ answer-to text
+unfolding answer-to too-short
+prints-is text prints p = sym (p [] refl (replicate program-buffer 0) (length-replicate {A = ℕ} program-buffer 0))

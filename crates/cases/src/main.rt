@@ -1,6 +1,5 @@
-// Runs the cases of the files that are named: holds the answer to each text to the stored one. Prints what differs, and last how many
-// cases there were and how many differ.
-mod answer;
+// Runs the cases of the files that are named: holds what is printed for each text to the stored answer. Prints what differs, and last how
+// many cases there were and how many differ.
 mod record;
 mod run;
 

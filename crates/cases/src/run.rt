@@ -1,12 +1,13 @@
 // The cases of a file, one after the other: what differs is printed and counted.
-use crate::answer;
 use crate::record;
 use crate::record::Record;
 use libc::STDOUT_FILENO;
+use lines::bytes::at8;
 use lines::parts::between;
 use lines::parts::rest;
 ghost use mathlib.Core.Path.{_≡_};
 ghost use Rattle.cases.specs.Stored.{tally, file-of};
+ghost use Rattle.spec.specs.Bytes.{same-bytes};
 ghost use Rattle.cases.specs.Answer.{agrees};
 
 // How many cases were run, and how many differ; what is no case counts as one that differs.
@@ -32,22 +33,49 @@ fn print_different(name: &[u8], wanted: &[u8], answered: &[u8]) {
     print_answer(answered);
 }
 
+// The ten cases of the scope page, P1 to P10, are printed with their lists; no other name begins so.
+fn print_worked(name: &[u8], answered: &[u8]) {
+    if at8(name, 0) != b'P' {
+        return;
+    }
+    io::write_all(STDOUT_FILENO, name);
+    io::write_all(STDOUT_FILENO, b":\n");
+    print_answer(answered);
+}
+
 fn print_bad() {
     io::write_all(STDOUT_FILENO, b"not a case\n");
 }
 
-// Whether the answer to a text is the expected one. Prints it where it is not.
+// Whether two runs of bytes are the same.
+fn same(a: &[u8], b: &[u8]) -> bool
+    ensures { λ r. ⌜ r ≡ same-bytes (now (a .entry)) (now (b .entry)) ⌝ }
+{
+    if a.len() != b.len() {
+        return false;
+    }
+    let mut i = 0;
+    while i < a.len() {
+        if a[i] != b[i] {
+            return false;
+        }
+        i += 1;
+    }
+    true
+}
+
+// Whether what is printed for a text is the stored answer, byte for byte. Prints it where it is not.
 fn compare(name: &[u8], text: &[u8], stored: &[u8]) -> bool
     ensures { λ r. ⌜ r ≡ agrees (now (text .entry)) (now (stored .entry)) ⌝ }
 {
-    let mut out = [0u8; answer::REPORT];
-    let n = answer::answer_to(text, &mut out);
+    let mut out = [0u8; program::REPORT];
+    let n = program::print_to(text, &mut out);
     let answered = &out[..n];
-    let wanted = answer::expected(stored);
-    if answer::same(answered, wanted) {
+    if same(answered, stored) {
+        print_worked(name, answered);
         return true;
     }
-    print_different(name, wanted, answered);
+    print_different(name, stored, answered);
     false
 }
 

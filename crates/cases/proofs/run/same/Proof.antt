@@ -1,4 +1,4 @@
--- `cases::answer::same` meets its contract: from each byte on the two are the same exactly where they are so from the next. Assumes nothing.
+-- `cases::run::same` meets its contract: from each byte on the two are the same exactly where they are so from the next. Assumes nothing.
 use borrow.Author.Needs.{needs}
 use mathlib.Core.Path.{_≡_, refl, sym, _∙_}
 use Prim.Native.Nat.{_≤_, _-_}
@@ -6,8 +6,8 @@ use native.Mathlib.Omega.{arith}
 use lib.ListN.{length, drop}
 use Rattle.spec.specs.Bytes.{same-bytes}
 use Rattle.cases.proofs.Laws.{same-not-long, same-end, same-step, same-not}
-use Rattle.cases.proofs.answer.same.Statement.{statement}
-use Rattle.cases.proofs.answer.same.Tie as tie
+use Rattle.cases.proofs.run.same.Statement.{statement}
+use Rattle.cases.proofs.run.same.Tie as tie
 
 abbrev Inv-loop : tie.InvT-loop
 Inv-loop a b i₀ i = (i ≤ length a) × (same-bytes (drop i a) (drop i b) ≡ same-bytes a b)

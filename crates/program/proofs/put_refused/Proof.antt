@@ -1,10 +1,10 @@
--- `cases::answer::put_refused` meets its contract: at most 40 bytes are written. Assumes nothing.
+-- `program::put_refused` meets its contract: at most 40 bytes are written. Assumes nothing.
 use native.Mathlib.Omega.{arith}
 use Rattle.report.specs.Line.{refused-line}
-use Rattle.cases.proofs.Laws.{put-front}
+use Rattle.program.proofs.Laws.{put-front}
 use borrow.Author.Needs.{needs}
-use Rattle.cases.proofs.answer.put_refused.Statement.{statement}
-use Rattle.cases.proofs.answer.put_refused.Tie as tie
+use Rattle.program.proofs.put_refused.Statement.{statement}
+use Rattle.program.proofs.put_refused.Tie as tie
 
 count-refused-requires : tie.Need-count-refused-requires
 count-refused-requires c κs = search needs
