@@ -7,7 +7,7 @@ use std::{env, process};
 const DEFAULT_ARCHIVES: &str = "../target/staticlib";
 
 /// The crates whose archives are linked. Each has a module of its own in `src`.
-const CRATES: [&str; 3] = ["consteval_c", "graph_c", "lines_c"];
+const CRATES: [&str; 4] = ["consteval_c", "drivers_c", "graph_c", "lines_c"];
 
 fn main() {
     if let Err(message) = link() {

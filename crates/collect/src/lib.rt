@@ -398,7 +398,7 @@ fn make_summary(
         Named::Outside => Asked::Full,
         Named::Used(used) => {
             summary::begin(k, m);
-            let mut g = [0u32; 15874];
+            let mut g = [0u32; 16898];
             let mut own = [0u32; 1];
             let run = modules::items_of_module(text, mods, m);
             let base = places::run_at(mods, m);

@@ -2,6 +2,7 @@ pub mod Words
 pub mod Tables
 pub mod Heads
 pub mod Stands
+pub mod Hints
 pub mod Limits
 pub mod Reaching
 pub mod Lifted

@@ -53,6 +53,9 @@ prints-any text working long buf room = program-print text _ (sym (program-print
 pub zeros : (n : ℕ) → n ≤ length (replicate {A = ℕ} n 0)
 zeros n = omega (arith, length-replicate {A = ℕ} n 0)
 
+pub zeros-past : (m n : ℕ) → m ≤ n → m ≤ length (replicate {A = ℕ} n 0)
+zeros-past m n h = omega (arith, length-replicate {A = ℕ} n 0)
+
 -- ---- of a call with working slices that are long enough
 
 module _ (kinds mods names own g w k : List ℕ) (l1 : 8192 ≤ length kinds) (l2 : 128 ≤ length mods) (l3 : 6616 ≤ length names) (l4 : 11016 ≤ length own)

@@ -19,7 +19,8 @@ fn put_refused(number: u32, line: u32, out: &mut [u8; REPORT]) -> usize
     n
 }
 
-// What is printed, at the front of the buffer: how many bytes it has. The working slices have just the places that the limits ask for.
+// What is printed, at the front of the buffer: how many bytes it has. The working slices have the places that the limits ask for, and the
+// graph 1,024 more, for hints.
 pub fn print_to(text: &[u8], out: &mut [u8; REPORT]) -> usize
     ensures { λ r. ⌜ Prints (now (text .entry)) (take r (now (out .exit))) ⌝ }
     ensures { λ r. ⌜ Counts r (now (out .exit)) ⌝ }
@@ -28,7 +29,7 @@ pub fn print_to(text: &[u8], out: &mut [u8; REPORT]) -> usize
     let mut mods = [0u32; 128];
     let mut names = [0u32; 6616];
     let mut own = [0u32; 11016];
-    let mut g = [0u32; 15874];
+    let mut g = [0u32; 16898];
     let mut w = [0u32; 29190];
     let mut k = [0u32; 2145];
     let answer = check::check_drivers(

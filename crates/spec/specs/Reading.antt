@@ -1,5 +1,5 @@
 -- The theorem about reading: decoding what shows a design gives the design, a text is accepted exactly when it shows a design in
--- range, and a refusal names the lowest fault of the first line that has one. 01: The line; Refused because of the text.
+-- range, and a refusal names 1, else 2, else the lowest fault of the first line that has one. 01: The line; Refused because of the text.
 -- Assumes nothing: these are definitions, and a statement that proofs/Reading.antt proves.
 use mathlib.Core.Path.{_≡_}
 use mathlib.Core.Bool.{true, false}
