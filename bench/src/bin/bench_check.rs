@@ -5,7 +5,7 @@
 //! `--times N ROW` so often, for a tool that counts instructions; `--text ROW` prints the text.
 //! `--stack KB` runs it on the deepest nesting in a thread with so much stack, which is enough or not.
 
-use bench::check::archive::{self, Answer, Working, HINTED};
+use bench::check::archive::{self, Answer, Working, LENT};
 use bench::check::make::{self, Row, ROWS};
 use compare::model::{self, PROGRAM_BUFFER};
 use compare::oracle::{self, Prepared};
@@ -72,7 +72,7 @@ struct Prep {
 /// After the archive gave what the model gives.
 fn prepare(row: &Row) -> Result<Prep, String> {
     let text = (row.text)();
-    let (mut report, mut lent) = (vec![0; PROGRAM_BUFFER], Working::new(HINTED));
+    let (mut report, mut lent) = (vec![0; PROGRAM_BUFFER], Working::new(LENT));
     let answer = archive::check(&text, &mut report, &mut lent)?;
     let wanted = model::answer(&text, PROGRAM_BUFFER);
     if answer.number != 0 || wanted.number != 0 || report[..answer.bytes] != wanted.text {
@@ -100,7 +100,7 @@ fn ours(prep: &mut Prep) {
 fn times(name: &str, n: &str) -> Result<(), String> {
     let n: u64 = n.parse().map_err(|_| format!("no number: {n}"))?;
     let text = (row(name)?.text)();
-    let (mut report, mut lent) = (vec![0; PROGRAM_BUFFER], Working::new(HINTED));
+    let (mut report, mut lent) = (vec![0; PROGRAM_BUFFER], Working::new(LENT));
     for _ in 0..n {
         black_box(archive::check(black_box(&text), &mut report, &mut lent)?);
     }
@@ -110,7 +110,7 @@ fn times(name: &str, n: &str) -> Result<(), String> {
 /// The deepest nesting in a thread with a stack of so many KB.
 fn on_stack(kb: &str) -> Result<(), String> {
     let kb: usize = kb.parse().map_err(|_| format!("no number: {kb}"))?;
-    let (mut report, mut lent) = (vec![0; PROGRAM_BUFFER], Working::new(HINTED));
+    let (mut report, mut lent) = (vec![0; PROGRAM_BUFFER], Working::new(LENT));
     let thread = thread::Builder::new().stack_size(kb * 1024);
     let run = move || archive::check(&make::deepest(), &mut report, &mut lent);
     let thread = thread.spawn(run).map_err(|e| e.to_string())?;

@@ -27,11 +27,11 @@ extern "C" {
     ) -> u32;
 }
 
-/// Places of the working slices: `kinds` (bytes), `mods`, `names`, `own`, `g`, `w`, `k` (words).
+/// The fewest places of the working slices: `kinds` (bytes), `mods`, `names`, `own`, `g`, `w`, `k` (words).
 pub const PLACES: [usize; 7] = [8_192, 128, 6_616, 11_016, 15_874, 29_190, 2_145];
 
-/// The same with 1,024 words more for the graph, which has hints there: nodes are found faster.
-pub const HINTED: [usize; 7] = [8_192, 128, 6_616, 11_016, 16_898, 29_190, 2_145];
+/// Places as the program lends them: behind its 15,874 words the graph keeps hints of where its nodes are.
+pub const LENT: [usize; 7] = [8_192, 128, 6_616, 11_016, 16_898, 29_190, 2_145];
 
 /// What a call gives back.
 #[derive(Clone, Copy, Debug, PartialEq, Eq)]
@@ -43,7 +43,8 @@ pub struct Answer {
     pub rounds: u64,
 }
 
-/// The working slices of a call.
+/// The working slices of a call; none have a place by default.
+#[derive(Default)]
 pub struct Working {
     kinds: Vec<u8>,
     words: [Vec<u32>; 6],

@@ -2,7 +2,7 @@
 //! the report buffer, and the working slices. As a checker of `compare` it is held against the
 //! original as well.
 
-use super::archive::{self, Answer, Working, PLACES};
+use super::archive::{self, Answer, Working, LENT, PLACES};
 use compare::gen::rng::Rng;
 use compare::model::{self, PROGRAM_BUFFER};
 use std::collections::BTreeMap;
@@ -45,7 +45,9 @@ pub type Seen = BTreeMap<&'static str, u64>;
 /// A checker that runs the archive and fails on any difference from the model.
 pub struct Holder {
     garbage: Garbage,
-    whole: Working,
+    /// Slices as the program lends them, and with the fewest places.
+    roomy: Working,
+    fewest: Working,
     /// The buffer of the call, and what it held before.
     report: Vec<u8>,
     before: Vec<u8>,
@@ -57,7 +59,8 @@ impl Holder {
     pub fn new(seed: u64) -> Holder {
         Holder {
             garbage: Garbage::new(seed),
-            whole: Working::new(PLACES),
+            roomy: Working::new(LENT),
+            fewest: Working::new(PLACES),
             report: Vec::new(),
             before: Vec::new(),
             texts: 0,
@@ -70,17 +73,16 @@ impl Holder {
         self.texts += 1;
         let wanted = model::answer(text, PROGRAM_BUFFER);
         self.note(&wanted);
-        self.hold_whole(text, &wanted, PROGRAM_BUFFER)?;
+        self.hold_roomy(text, &wanted, PROGRAM_BUFFER)?;
         let printed = match wanted.number {
             0 => self.report[..wanted.bytes].to_vec(),
             number => format!("(refused {number} {})\n", wanted.line).into_bytes(),
         };
         if wanted.bytes > 0 {
-            self.hold_whole(text, &wanted, wanted.bytes)?;
-            self.count("calls with a buffer of just the length");
-            self.hold_whole(text, &refused(21), wanted.bytes - 1)?;
+            self.hold_roomy(text, &refused(21), wanted.bytes - 1)?;
             self.count("calls with a buffer one byte too short");
         }
+        self.hold_fewest(text, &wanted)?;
         self.hold_short(text)?;
         self.hold_long(text, &wanted)?;
         Ok(printed)
@@ -113,19 +115,28 @@ impl Holder {
         }
     }
 
-    fn hold_whole(
+    fn hold_roomy(
         &mut self,
         text: &[u8],
         wanted: &model::Answer,
         room: usize,
     ) -> Result<(), String> {
-        let mut lent = std::mem::replace(&mut self.whole, Working::new([0; 7]));
+        let mut lent = std::mem::take(&mut self.roomy);
         let held = self.hold(text, wanted, room, &mut lent);
-        self.whole = lent;
+        self.roomy = lent;
         held
     }
 
-    /// One of the seven slices a place too short: 20, whatever the text.
+    /// The fewest places, and a buffer of just the length.
+    fn hold_fewest(&mut self, text: &[u8], wanted: &model::Answer) -> Result<(), String> {
+        self.count("calls with the fewest places and a buffer of just the length");
+        let mut lent = std::mem::take(&mut self.fewest);
+        let held = self.hold(text, wanted, wanted.bytes, &mut lent);
+        self.fewest = lent;
+        held.map_err(|what| format!("the fewest places: {what}"))
+    }
+
+    /// One of the seven slices too short: 20, whatever the text.
     fn hold_short(&mut self, text: &[u8]) -> Result<(), String> {
         let mut places = PLACES;
         let at = (self.texts % 7) as usize;

@@ -120,15 +120,6 @@ fn sites() -> Vec<u8> {
 
 /// Each module has an instance of the next, through which its output follows its input.
 fn nested() -> Vec<u8> {
-    nested_in("", "")
-}
-
-/// The deepest nesting: the same, with each instance line in as many repeats as the brackets allow.
-pub fn deepest() -> Vec<u8> {
-    nested_in(&"(repeat 9 0 1 ".repeat(29), &")".repeat(29))
-}
-
-fn nested_in(open: &str, close: &str) -> Vec<u8> {
     let mut text = String::new();
     for m in 0..32 {
         text += &format!("(module {m} bound)\n(kind 1 in)\n(kind 2 out)\n(kind 3 inst)\n");
@@ -136,10 +127,22 @@ fn nested_in(open: &str, close: &str) -> Vec<u8> {
         text += &match m {
             31 => "(drive (lv 2 10) (n 1))\n".to_string(),
             _ => format!(
-                "{open}(inst 3 - {} 9 (conn 1 (n 1))){close}\n(drive (lv 2 10) (f (n 3) 2))\n",
+                "(inst 3 - {} 9 (conn 1 (n 1)))\n(drive (lv 2 10) (f (n 3) 2))\n",
                 m + 1
             ),
         };
+    }
+    text.into_bytes()
+}
+
+/// The text that takes most stack: each module has an instance of the next, the last one of the first, in as many repeats as the
+/// brackets allow.
+pub fn deepest() -> Vec<u8> {
+    let (open, close) = ("(repeat 9 0 1 ".repeat(31), ")".repeat(31));
+    let mut text = String::new();
+    for m in 0..32 {
+        text += &format!("(module {m} bound)\n(kind 3 inst)\n");
+        text += &format!("{open}(inst 3 - {} 9){close}\n", (m + 1) % 32);
     }
     text.into_bytes()
 }

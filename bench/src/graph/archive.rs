@@ -2,8 +2,8 @@
 
 use super::{Head, Node, Report};
 
-/// Words of the graph and of the work slice.
-const GRAPH: usize = 15_874;
+/// Words of the graph, with those for its hints, and of the work slice.
+const GRAPH: usize = 16_898;
 const WORK: usize = 29_190;
 
 /// Nodes of the longest report: all, and the first again.
