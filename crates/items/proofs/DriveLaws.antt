@@ -1,4 +1,4 @@
--- Constants, extents and driven names: one law for each way of `constant_at`, `extent_at`, `drive_output` and `drive_line`.
+-- Constants, extents and driven names: one law for each way of `constant_at`, `lvalue_extent`, `drive_output` and `drive`.
 -- Assumes nothing.
 use mathlib.Core.Path.{_≡_, refl, sym, _∙_, ap}
 use mathlib.Core.Bool.{Bool, true, false, _||_, or-true, or-false, true≢false}

@@ -167,7 +167,14 @@ fn mem_line(x: &[u8], own: &mut [u32])
 }
 
 // The extent of an LV, by the indexes behind its START, which ends at `end`.
-fn extent_at(lv: &[u8], end: usize, bound: bool, depth: u32, names: &[u32], used: usize) -> Extended
+fn lvalue_extent(
+    lv: &[u8],
+    end: usize,
+    bound: bool,
+    depth: u32,
+    names: &[u32],
+    used: usize,
+) -> Extended
     ensures { λ r. ⌜ ExtentAt r (now (lv .entry)) end bound depth (names-of (now (names .entry)) used) ⌝ }
 {
     if !parts::more(lv, end) {
@@ -205,7 +212,7 @@ fn drive_output(
     ensures { λ _. ⌜ length (now (own .exit)) ≡ length (now (own .entry)) ⌝ }
 {
     let end = l.end;
-    match extent_at(lv, end, bound, depth, names, used) {
+    match lvalue_extent(lv, end, bound, depth, names, used) {
         Extended::Is(e) => match sites::add_site(
             own,
             Site {
@@ -222,7 +229,7 @@ fn drive_output(
 }
 
 // A driven name: a site of an output, or the misuse of a wire, a register or a memory.
-fn drive_line(
+fn drive(
     x: &[u8],
     bound: bool,
     depth: u32,
@@ -365,7 +372,7 @@ pub fn own_line(
 {
     let c = parts::byte(x, 1);
     if c == b'd' {
-        return drive_line(x, bound, depth, kinds, names, used, own);
+        return drive(x, bound, depth, kinds, names, used, own);
     }
     if c == b'o' {
         return on_block(x, depth, kinds, own);
@@ -399,7 +406,7 @@ pub fn drive_outside(x: &[u8], depth: u32, kinds: &[u8], names: &[u32], used: us
         return false;
     }
     let end = l.end;
-    match extent_at(lv, end, true, depth, names, used) {
+    match lvalue_extent(lv, end, true, depth, names, used) {
         Extended::Is(_) => false,
         Extended::Outside => true,
     }

@@ -6,8 +6,8 @@ use borrow.Author.Needs.{needs}
 use Rattle.items.proofs.drive_output.Statement.{statement}
 use Rattle.items.proofs.drive_output.Tie as tie
 
-extent-at-requires : tie.Need-extent-at-requires
-extent-at-requires c κs = search needs
+lvalue-extent-requires : tie.Need-lvalue-extent-requires
+lvalue-extent-requires c κs = search needs
 
 enum-known-e : tie.Need-enum-known-e
 enum-known-e c = search needs
@@ -28,22 +28,22 @@ same-length : tie.Need-same-length
 same-length c = search needs
 
 returns : tie.Need-returns
-returns c = (output-done (c .before .before .before .before .before .before .before .before .before .before .before .before .before .args .lv .now) (c .before .before .before .before .before .before .before .before .before .before .before .before .before .args .l) (c .before .before .before .before .before .before .before .before .before .before .before .before .before .args .bound) (c .before .before .before .before .before .before .before .before .before .before .before .before .before .args .depth) (names-of (c .before .before .before .before .before .before .before .before .before .before .before .before .before .args .names .now) (c .before .before .before .before .before .before .before .before .before .before .before .before .before .args .used)) (c .before .before .before .before .before .before .before .before .before .extent-at .result) (c .before .before .before .before .before .before .before .before .before .extent-at .ensures) (c .before .before .before .before .before .before .before .before .before .before .before .before .before .args .own .now) _ _ (c .before .before .before .before .before .before .before .e .given .1) (c .before .before .before .before .add-site .result) (c .before .before .before .before .add-site .ensures .1 .1) (c .before .before .before .before .add-site .ensures .0) (c .enum-told .given .1), c .before .before .before .before .add-site .ensures .1 .1)
+returns c = (output-done (c .before .before .before .before .before .before .before .before .before .before .before .before .before .args .lv .now) (c .before .before .before .before .before .before .before .before .before .before .before .before .before .args .l) (c .before .before .before .before .before .before .before .before .before .before .before .before .before .args .bound) (c .before .before .before .before .before .before .before .before .before .before .before .before .before .args .depth) (names-of (c .before .before .before .before .before .before .before .before .before .before .before .before .before .args .names .now) (c .before .before .before .before .before .before .before .before .before .before .before .before .before .args .used)) (c .before .before .before .before .before .before .before .before .before .lvalue-extent .result) (c .before .before .before .before .before .before .before .before .before .lvalue-extent .ensures) (c .before .before .before .before .before .before .before .before .before .before .before .before .before .args .own .now) _ _ (c .before .before .before .before .before .before .before .e .given .1) (c .before .before .before .before .add-site .result) (c .before .before .before .before .add-site .ensures .1 .1) (c .before .before .before .before .add-site .ensures .0) (c .enum-told .given .1), c .before .before .before .before .add-site .ensures .1 .1)
 
 same-length-2 : tie.Need-same-length-2
 same-length-2 c = search needs
 
 returns-2 : tie.Need-returns-2
-returns-2 c = (output-full (c .before .before .before .before .before .before .before .before .before .before .before .before .before .args .lv .now) (c .before .before .before .before .before .before .before .before .before .before .before .before .before .args .l) (c .before .before .before .before .before .before .before .before .before .before .before .before .before .args .bound) (c .before .before .before .before .before .before .before .before .before .before .before .before .before .args .depth) (names-of (c .before .before .before .before .before .before .before .before .before .before .before .before .before .args .names .now) (c .before .before .before .before .before .before .before .before .before .before .before .before .before .args .used)) (c .before .before .before .before .before .before .before .before .before .extent-at .result) (c .before .before .before .before .before .before .before .before .before .extent-at .ensures) (c .before .before .before .before .before .before .before .before .before .before .before .before .before .args .own .now) _ _ (c .before .before .before .before .before .before .before .e .given .1) (c .before .before .before .before .add-site .result) (c .before .before .before .before .add-site .ensures .1 .1) (c .before .before .before .before .add-site .ensures .0) (c .enum-told2 .given .1), c .before .before .before .before .add-site .ensures .1 .1)
+returns-2 c = (output-full (c .before .before .before .before .before .before .before .before .before .before .before .before .before .args .lv .now) (c .before .before .before .before .before .before .before .before .before .before .before .before .before .args .l) (c .before .before .before .before .before .before .before .before .before .before .before .before .before .args .bound) (c .before .before .before .before .before .before .before .before .before .before .before .before .before .args .depth) (names-of (c .before .before .before .before .before .before .before .before .before .before .before .before .before .args .names .now) (c .before .before .before .before .before .before .before .before .before .before .before .before .before .args .used)) (c .before .before .before .before .before .before .before .before .before .lvalue-extent .result) (c .before .before .before .before .before .before .before .before .before .lvalue-extent .ensures) (c .before .before .before .before .before .before .before .before .before .before .before .before .before .args .own .now) _ _ (c .before .before .before .before .before .before .before .e .given .1) (c .before .before .before .before .add-site .result) (c .before .before .before .before .add-site .ensures .1 .1) (c .before .before .before .before .add-site .ensures .0) (c .enum-told2 .given .1), c .before .before .before .before .add-site .ensures .1 .1)
 
 returns-3 : tie.Need-returns-3
-returns-3 c = (output-outside (c .before .before .before .before .before .before .args .lv .now) (c .before .before .before .before .before .before .args .l) (c .before .before .before .before .before .before .args .bound) (c .before .before .before .before .before .before .args .depth) (names-of (c .before .before .before .before .before .before .args .names .now) (c .before .before .before .before .before .before .args .used)) (c .before .before .extent-at .result) (c .before .before .extent-at .ensures) (c .before .before .before .before .before .before .args .own .now) (c .before .before .before .before .before .before .args .own .now) (c .enum-told3 .given .1), refl)
+returns-3 c = (output-outside (c .before .before .before .before .before .before .args .lv .now) (c .before .before .before .before .before .before .args .l) (c .before .before .before .before .before .before .args .bound) (c .before .before .before .before .before .before .args .depth) (names-of (c .before .before .before .before .before .before .args .names .now) (c .before .before .before .before .before .before .args .used)) (c .before .before .lvalue-extent .result) (c .before .before .lvalue-extent .ensures) (c .before .before .before .before .before .before .args .own .now) (c .before .before .before .before .before .before .args .own .now) (c .enum-told3 .given .1), refl)
 
 pub drive-output-spec : {M : Type 1} → statement M
 drive-output-spec =
     tie.close
     (tie.spec
-    extent-at-requires
+    lvalue-extent-requires
     enum-known-e
     add-site-requires
     enum-told

@@ -33,8 +33,8 @@ byte-requires-2 c κs = search needs
 returns-2 : tie.Need-returns-2
 returns-2 c = outside-drive (c .before .before .before .before .before .before .before .before .before .before .before .args .x .now) (c .before .before .before .before .before .before .before .before .before .before .before .args .depth) (c .before .before .before .before .before .before .before .before .before .before .before .args .kinds .now) (names-of (c .before .before .before .before .before .before .before .before .before .before .before .args .names .now) (c .before .before .before .before .before .before .before .before .before .before .before .args .used)) (sym (c .before .before .before .before .before .before .before .byte .ensures) ∙ c .before .before .before .before .before .before .if1 .left) false (λ lv e p header w. outside-other (c .before .before .before .before .before .before .before .before .before .before .before .args .x .now) true (c .before .before .before .before .before .before .before .before .before .before .before .args .depth) (c .before .before .before .before .before .before .before .before .before .before .before .args .kinds .now) (names-of (c .before .before .before .before .before .before .before .before .before .before .before .args .names .now) (c .before .before .before .before .before .before .before .before .before .before .before .args .used)) [] (c .before .before .before .before .before .part-end .ensures) (c .before .before .before .before .between .ensures) (c .before .before .before .named-at .result) (c .before .before .before .named-at .ensures) (c .before .byte2 .ensures) (c .if2 .taken) lv e p header w)
 
-extent-at-requires : tie.Need-extent-at-requires
-extent-at-requires c κs = search needs
+lvalue-extent-requires : tie.Need-lvalue-extent-requires
+lvalue-extent-requires c κs = search needs
 
 enum-told : tie.Need-enum-told
 enum-told c = search needs
@@ -43,10 +43,10 @@ enum-told-2 : tie.Need-enum-told-2
 enum-told-2 c = search needs
 
 returns-3 : tie.Need-returns-3
-returns-3 c = outside-drive (c .before .before .before .before .before .before .before .before .before .before .before .before .before .before .args .x .now) (c .before .before .before .before .before .before .before .before .before .before .before .before .before .before .args .depth) (c .before .before .before .before .before .before .before .before .before .before .before .before .before .before .args .kinds .now) (names-of (c .before .before .before .before .before .before .before .before .before .before .before .before .before .before .args .names .now) (c .before .before .before .before .before .before .before .before .before .before .before .before .before .before .args .used)) (sym (c .before .before .before .before .before .before .before .before .before .before .byte .ensures) ∙ c .before .before .before .before .before .before .before .before .before .if1 .left) false (λ lv e p header w. outside-not (c .before .before .before .before .before .before .before .before .before .before .before .before .before .before .args .x .now) true (c .before .before .before .before .before .before .before .before .before .before .before .before .before .before .args .depth) (c .before .before .before .before .before .before .before .before .before .before .before .before .before .before .args .kinds .now) (names-of (c .before .before .before .before .before .before .before .before .before .before .before .before .before .before .args .names .now) (c .before .before .before .before .before .before .before .before .before .before .before .before .before .before .args .used)) [] (c .before .before .before .before .before .before .before .before .part-end .ensures) (c .before .before .before .before .before .before .before .between .ensures) (c .before .before .before .before .before .before .named-at .result) (c .before .before .before .before .before .before .named-at .ensures) (c .before .before .before .before .byte2 .ensures) (c .before .before .before .if2 .left) (c .before .before .extent-at .result) (c .before .before .extent-at .ensures) lv e p header w (c .enum-told .given .1))
+returns-3 c = outside-drive (c .before .before .before .before .before .before .before .before .before .before .before .before .before .before .args .x .now) (c .before .before .before .before .before .before .before .before .before .before .before .before .before .before .args .depth) (c .before .before .before .before .before .before .before .before .before .before .before .before .before .before .args .kinds .now) (names-of (c .before .before .before .before .before .before .before .before .before .before .before .before .before .before .args .names .now) (c .before .before .before .before .before .before .before .before .before .before .before .before .before .before .args .used)) (sym (c .before .before .before .before .before .before .before .before .before .before .byte .ensures) ∙ c .before .before .before .before .before .before .before .before .before .if1 .left) false (λ lv e p header w. outside-not (c .before .before .before .before .before .before .before .before .before .before .before .before .before .before .args .x .now) true (c .before .before .before .before .before .before .before .before .before .before .before .before .before .before .args .depth) (c .before .before .before .before .before .before .before .before .before .before .before .before .before .before .args .kinds .now) (names-of (c .before .before .before .before .before .before .before .before .before .before .before .before .before .before .args .names .now) (c .before .before .before .before .before .before .before .before .before .before .before .before .before .before .args .used)) [] (c .before .before .before .before .before .before .before .before .part-end .ensures) (c .before .before .before .before .before .before .before .between .ensures) (c .before .before .before .before .before .before .named-at .result) (c .before .before .before .before .before .before .named-at .ensures) (c .before .before .before .before .byte2 .ensures) (c .before .before .before .if2 .left) (c .before .before .lvalue-extent .result) (c .before .before .lvalue-extent .ensures) lv e p header w (c .enum-told .given .1))
 
 returns-4 : tie.Need-returns-4
-returns-4 c = outside-drive (c .before .before .before .before .before .before .before .before .before .before .before .before .before .before .args .x .now) (c .before .before .before .before .before .before .before .before .before .before .before .before .before .before .args .depth) (c .before .before .before .before .before .before .before .before .before .before .before .before .before .before .args .kinds .now) (names-of (c .before .before .before .before .before .before .before .before .before .before .before .before .before .before .args .names .now) (c .before .before .before .before .before .before .before .before .before .before .before .before .before .before .args .used)) (sym (c .before .before .before .before .before .before .before .before .before .before .byte .ensures) ∙ c .before .before .before .before .before .before .before .before .before .if1 .left) true (λ lv e p header w. outside-is (c .before .before .before .before .before .before .before .before .before .before .before .before .before .before .args .x .now) true (c .before .before .before .before .before .before .before .before .before .before .before .before .before .before .args .depth) (c .before .before .before .before .before .before .before .before .before .before .before .before .before .before .args .kinds .now) (names-of (c .before .before .before .before .before .before .before .before .before .before .before .before .before .before .args .names .now) (c .before .before .before .before .before .before .before .before .before .before .before .before .before .before .args .used)) [] (c .before .before .before .before .before .before .before .before .part-end .ensures) (c .before .before .before .before .before .before .before .between .ensures) (c .before .before .before .before .before .before .named-at .result) (c .before .before .before .before .before .before .named-at .ensures) (c .before .before .before .before .byte2 .ensures) (c .before .before .before .if2 .left) (c .before .before .extent-at .result) (c .before .before .extent-at .ensures) lv e p header w (c .enum-told2 .given .1))
+returns-4 c = outside-drive (c .before .before .before .before .before .before .before .before .before .before .before .before .before .before .args .x .now) (c .before .before .before .before .before .before .before .before .before .before .before .before .before .before .args .depth) (c .before .before .before .before .before .before .before .before .before .before .before .before .before .before .args .kinds .now) (names-of (c .before .before .before .before .before .before .before .before .before .before .before .before .before .before .args .names .now) (c .before .before .before .before .before .before .before .before .before .before .before .before .before .before .args .used)) (sym (c .before .before .before .before .before .before .before .before .before .before .byte .ensures) ∙ c .before .before .before .before .before .before .before .before .before .if1 .left) true (λ lv e p header w. outside-is (c .before .before .before .before .before .before .before .before .before .before .before .before .before .before .args .x .now) true (c .before .before .before .before .before .before .before .before .before .before .before .before .before .before .args .depth) (c .before .before .before .before .before .before .before .before .before .before .before .before .before .before .args .kinds .now) (names-of (c .before .before .before .before .before .before .before .before .before .before .before .before .before .before .args .names .now) (c .before .before .before .before .before .before .before .before .before .before .before .before .before .before .args .used)) [] (c .before .before .before .before .before .before .before .before .part-end .ensures) (c .before .before .before .before .before .before .before .between .ensures) (c .before .before .before .before .before .before .named-at .result) (c .before .before .before .before .before .before .named-at .ensures) (c .before .before .before .before .byte2 .ensures) (c .before .before .before .if2 .left) (c .before .before .lvalue-extent .result) (c .before .before .lvalue-extent .ensures) lv e p header w (c .enum-told2 .given .1))
 
 pub drive-outside-spec : {M : Type 1} → statement M
 drive-outside-spec =
@@ -60,7 +60,7 @@ drive-outside-spec =
     cast-byte
     byte-requires-2
     returns-2
-    extent-at-requires
+    lvalue-extent-requires
     enum-told
     enum-told-2
     returns-3

@@ -9,14 +9,14 @@ use Rattle.items.proofs.own_line.Tie as tie
 byte-requires : tie.Need-byte-requires
 byte-requires c κs = search needs
 
-drive-line-requires : tie.Need-drive-line-requires
-drive-line-requires c κs = search needs
+drive-requires : tie.Need-drive-requires
+drive-requires c κs = search needs
 
 same-length : tie.Need-same-length
 same-length c = search needs
 
 returns : tie.Need-returns
-returns c = (own-drive (c .before .before .before .before .before .before .before .before .before .before .args .x .now) (c .before .before .before .before .before .before .before .before .before .before .args .base) (c .before .before .before .before .before .before .before .before .before .before .args .bound) (c .before .before .before .before .before .before .before .before .before .before .args .depth) (c .before .before .before .before .before .before .before .before .before .before .args .kinds .now) (names-of (c .before .before .before .before .before .before .before .before .before .before .args .names .now) (c .before .before .before .before .before .before .before .before .before .before .args .used)) (c .before .before .before .before .before .before .before .before .before .before .args .own .now) (sym (c .before .before .before .before .before .byte .ensures) ∙ c .before .before .before .before .if1 .taken) (c .before .before .drive-line .result) _ (c .before .before .drive-line .ensures .0), c .before .before .drive-line .ensures .1)
+returns c = (own-drive (c .before .before .before .before .before .before .before .before .before .before .args .x .now) (c .before .before .before .before .before .before .before .before .before .before .args .base) (c .before .before .before .before .before .before .before .before .before .before .args .bound) (c .before .before .before .before .before .before .before .before .before .before .args .depth) (c .before .before .before .before .before .before .before .before .before .before .args .kinds .now) (names-of (c .before .before .before .before .before .before .before .before .before .before .args .names .now) (c .before .before .before .before .before .before .before .before .before .before .args .used)) (c .before .before .before .before .before .before .before .before .before .before .args .own .now) (sym (c .before .before .before .before .before .byte .ensures) ∙ c .before .before .before .before .if1 .taken) (c .before .before .drive .result) _ (c .before .before .drive .ensures .0), c .before .before .drive .ensures .1)
 
 on-block-requires : tie.Need-on-block-requires
 on-block-requires c κs = search needs
@@ -62,7 +62,7 @@ own-line-spec =
     tie.close
     (tie.spec
     byte-requires
-    drive-line-requires
+    drive-requires
     same-length
     returns
     on-block-requires

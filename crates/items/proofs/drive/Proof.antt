@@ -1,10 +1,10 @@
--- `drive_line` meets its contract, one law for each way. Assumes nothing.
+-- `drive` meets its contract, one law for each way. Assumes nothing.
 use mathlib.Core.Path.{refl}
 use Rattle.consteval.specs.Worth.{names-of}
 use Rattle.items.proofs.DriveLaws.{line-output, line-other, line-wire, line-reg, line-mem, other-driving}
 use borrow.Author.Needs.{needs}
-use Rattle.items.proofs.drive_line.Statement.{statement}
-use Rattle.items.proofs.drive_line.Tie as tie
+use Rattle.items.proofs.drive.Statement.{statement}
+use Rattle.items.proofs.drive.Tie as tie
 
 part-end-requires : tie.Need-part-end-requires
 part-end-requires c κs = search needs
@@ -60,8 +60,8 @@ returns-4 c = (line-mem (c .before .before .before .before .before .before .befo
 returns-5 : tie.Need-returns-5
 returns-5 c = (line-other (c .before .before .before .before .before .before .before .before .before .before .before .before .before .args .x .now) (c .before .before .before .before .before .before .before .before .before .before .before .before .before .args .bound) (c .before .before .before .before .before .before .before .before .before .before .before .before .before .args .depth) (c .before .before .before .before .before .before .before .before .before .before .before .before .before .args .kinds .now) (names-of (c .before .before .before .before .before .before .before .before .before .before .before .before .before .args .names .now) (c .before .before .before .before .before .before .before .before .before .before .before .before .before .args .used)) (c .before .before .before .before .before .before .before .before .before .before .before .before .before .args .own .now) (c .before .before .before .before .before .before .before .before .part-end .ensures) (c .before .before .before .before .before .before .before .between .ensures) (c .before .before .before .before .before .before .named-at .result) (c .before .before .before .before .before .before .named-at .ensures) (c .before .before .before .before .byte .ensures) (other-driving (c .before .before .before .before .byte .result) (c .before .before .before .if1 .left) (c .before .before .if2 .left) (c .before .if3 .left) (c .if4 .left)), refl)
 
-pub drive-line-spec : {M : Type 1} → statement M
-drive-line-spec =
+pub drive-spec : {M : Type 1} → statement M
+drive-spec =
     tie.close
     (tie.spec
     part-end-requires

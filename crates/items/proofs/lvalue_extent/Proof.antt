@@ -1,4 +1,4 @@
--- `extent_at` meets its contract, one law for each way. Assumes nothing.
+-- `lvalue_extent` meets its contract, one law for each way. Assumes nothing.
 use mathlib.Core.Path.{sym, _∙_}
 use native.Mathlib.Omega.{arith}
 use borrow.Author.Tests.{not-true, not-false}
@@ -6,8 +6,8 @@ use Rattle.consteval.specs.Worth.{names-of}
 use Rattle.lines.proofs.PartLaws.{follows-in}
 use Rattle.items.proofs.DriveLaws.{extent-whole, extent-out, extent-bit, extent-second-out, extent-range}
 use borrow.Author.Needs.{needs}
-use Rattle.items.proofs.extent_at.Statement.{statement}
-use Rattle.items.proofs.extent_at.Tie as tie
+use Rattle.items.proofs.lvalue_extent.Statement.{statement}
+use Rattle.items.proofs.lvalue_extent.Tie as tie
 
 more-requires : tie.Need-more-requires
 more-requires c κs = search needs
@@ -54,8 +54,8 @@ range-extent-requires c κs = search needs
 returns-5 : tie.Need-returns-5
 returns-5 c = extent-range (c .before .before .before .before .before .before .before .before .before .before .before .before .before .args .lv .now) (c .before .before .before .before .before .before .before .before .before .before .before .before .before .args .end) (c .before .before .before .before .before .before .before .before .before .before .before .before .before .args .bound) (c .before .before .before .before .before .before .before .before .before .before .before .before .before .args .depth) (names-of (c .before .before .before .before .before .before .before .before .before .before .before .before .before .args .names .now) (c .before .before .before .before .before .before .before .before .before .before .before .before .before .args .used)) (sym (c .before .before .before .before .before .before .before .before .before .before .more .ensures) ∙ not-false _ (c .before .before .before .before .before .before .before .before .before .if1 .left)) (c .before .before .before .before .before .before .before .before .part-end .ensures) (c .before .before .before .before .before .before .before .constant-at .result) (c .before .before .before .before .before .before .before .constant-at .ensures) (c .before .before .before .before .before .before .if2 .left) (sym (c .before .before .before .before .before .more2 .ensures) ∙ not-false _ (c .before .before .before .before .if3 .left)) (c .before .before .before .part-end2 .ensures) (c .before .before .constant-at2 .result) (c .before .before .constant-at2 .ensures) (c .before .if4 .left) (c .range-extent .result) (c .range-extent .ensures)
 
-pub extent-at-spec : {M : Type 1} → statement M
-extent-at-spec =
+pub lvalue-extent-spec : {M : Type 1} → statement M
+lvalue-extent-spec =
     tie.close
     (tie.spec
     more-requires
