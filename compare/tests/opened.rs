@@ -56,6 +56,10 @@ fn a_loop_is_reported_exactly_where_an_opened_design_has_one() {
             }
         }
     }
+    println!(
+        "modules with instances: {}, in {closed} a walk closes, in {open} none",
+        closed + open
+    );
     assert!(closed > 2_000 && open > 1_000, "{closed} {open}");
 }
 
@@ -78,6 +82,7 @@ fn no_loop_report_is_false_whatever_the_premises() {
             reports += 1;
         }
     }
+    println!("modules with a loop report, of texts outside the premises: {reports}");
     assert!(reports > 500, "{reports}");
 }
 
@@ -141,6 +146,7 @@ fn without_a_loop_every_start_ends_in_one_state_at_rest() {
             rested += (signals.len() > 4) as u32;
         }
     }
+    println!("modules of 5 to 60 signals that come to rest from two starts: {rested}");
     assert!(rested > 200, "{rested}");
 }
 

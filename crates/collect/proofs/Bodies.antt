@@ -33,7 +33,7 @@ use Rattle.steps.specs.declared.Chosen.the-variants as chosen
 use Rattle.steps.proofs.Ways.{repeat-never, repeat-once, repeat-rounds, inner-repeat, inner-const-if, next-value}
 use Rattle.collect.specs.declared.Walked as W
 use Rattle.collect.specs.declared.Walked.the-variants as walks
-use Rattle.collect.specs.Cycle.{PartOf, Mode, World, Single, Given, OneGiven, Holding, Ends, Within, Framed, walking-of, step-of, walk-of, one-of}
+use Rattle.collect.specs.Cycle.{PartOf, Mode, World, Single, Given, OneGiven, Holding, Ends, RoundsWithin, Framed, walking-of, step-of, walk-of, one-of}
 use Rattle.collect.proofs.Turns.{step-outside, repeat-step, const-if-step}
 use Rattle.collect.proofs.Ways.{or-none, fine}
 use Rattle.collect.proofs.Parts.{part-drop, part-piece}
@@ -295,9 +295,9 @@ module _ (fuel : ℕ) (mo : Mode) (text kinds mods : List ℕ) (count : ℕ) (x 
               pub rounds-framed : Framed (used + 1) put names′ → Framed used names₀ names′
               rounds-framed frame = framed-again push-framed (framed-less frame)
 
-              pub rounds-next : (l : ℕ) → b ≡ walks.Left l → Within b left → Framed (used + 1) put names′ → Sized own g k own′ g′ k′ → Rounds n low total (i + 1) l names′ own′ g′ k′
+              pub rounds-next : (l : ℕ) → b ≡ walks.Left l → RoundsWithin b left → Framed (used + 1) put names′ → Sized own g k own′ g′ k′ → Rounds n low total (i + 1) l names′ own′ g′ k′
               rounds-next l e few′ frame size =
-                  let c = subst (λ (y : W.Walked). Within y left) e few′ in
+                  let c = subst (λ (y : W.Walked). RoundsWithin y left) e few′ in
                   let p = o .fewer in
                   let q = o .sized in
                   record {

@@ -1,4 +1,4 @@
--- The walk of a module's own check: the ways of `collect_module`.
+-- The walk of a module's own check: the ways of `walk_module`.
 -- Assumes nothing.
 use mathlib.Core.Path.{_≡_, refl, sym, _∙_, ap, subst}
 use mathlib.Core.Bool.{Bool, true, false}
@@ -22,7 +22,7 @@ use Rattle.runs.specs.Text.{items-run}
 use Rattle.walk.specs.Walk.{Got, full, Walked, walk-items, State, no-own, over-own, begin, line-step, ask-walk, walk-module, own-walk}
 use Rattle.collect.specs.declared.Walked as W
 use Rattle.collect.specs.Cycle.{PartOf, mode, World, Given, Ends, walk-of}
-use Rattle.collect.specs.Face.{Collecting}
+use Rattle.collect.specs.Face.{WalkGiven}
 use Rattle.collect.proofs.Tables.{few, run-short, kinds-here, run-here, bound-here}
 
 -- the end of a module's run is a word
@@ -39,7 +39,7 @@ unfolding over-own
 none-over = refl
 
 module _ (text kinds mods : List ℕ) (count m : ℕ) (names : List ℕ) (used : ℕ) (own g k : List ℕ) (x : Module) (kept : Kept)
-    (C : Collecting text kinds mods count m names used own g k x kept) where
+    (C : WalkGiven text kinds mods count m names used own g k x kept) where
   -- the limits of an accepted text
   pub not-long : 32768 < length text → own-walk (decode text) x kept ≡ full
   not-long h = let r = reading .accepted text (C .tabled .formed) in let q = r .0 in absurd (omega arith)

@@ -21,7 +21,7 @@ use Rattle.steps.specs.declared.Head.the-variants as head
 use Rattle.collect.specs.declared.Walked as W
 use Rattle.collect.specs.declared.Walked.the-variants as walks
 use Rattle.items.specs.Lines.{StandsAt}
-use Rattle.collect.specs.Cycle.{PartOf, Mode, mode, World, Single, Given, OneGiven, Ends, Within, Stepped, Framed, PlainEnds, step-of, walk-of, one-of}
+use Rattle.collect.specs.Cycle.{PartOf, Mode, mode, World, Single, Given, OneGiven, Ends, RoundsWithin, Stepped, Framed, PlainEnds, step-of, walk-of, one-of}
 use Rattle.collect.specs.Plain.{PlainLine}
 use Rattle.collect.proofs.Parts.{end-within, part-piece, stands-here}
 use Rattle.collect.proofs.Going.{Going, one, going-end, going-next, going-full, plain-ends, inst-ends, step-full, names-framed}
@@ -136,10 +136,10 @@ module _ (fuel : ℕ) (mo : Mode) (text kinds mods : List ℕ) (count : ℕ) (s 
             → Ends a mo text own′ g′ k′ (w .busy) (one-of fuel text mo w (names-of names used) left)
 
         -- a `repeat` or a `constif`
-        pub body-next : (l : ℕ) (names′ own′ g′ k′ : List ℕ) (a : W.Walked) → a ≡ walks.Left l → Within a left → Framed used names names′ → Sized own g k own′ g′ k′
+        pub body-next : (l : ℕ) (names′ own′ g′ k′ : List ℕ) (a : W.Walked) → a ≡ walks.Left l → RoundsWithin a left → Framed used names names′ → Sized own g k own′ g′ k′
             → Answers a own′ g′ k′ → On fuel mo text kinds mods count s base depth ks names₀ used left₀ own₀ g₀ k₀ end l names′ own′ g′ k′
         body-next l names′ own′ g′ k′ a e few frame size f =
-            next l names′ own′ g′ k′ (subst (λ (y : W.Walked). Within y left) e few) frame size
+            next l names′ own′ g′ k′ (subst (λ (y : W.Walked). RoundsWithin y left) e few) frame size
             (λ w G.
             subst (λ (ns : Names). Ends (walks.Left l) mo text own′ g′ k′ (w .busy) (one-of fuel text mo (single w G) ns left)) names-same
             (subst (λ (y : W.Walked). Ends y mo text own′ g′ k′ (w .busy) (one-of fuel text mo (single w G) (names-of names used) left)) e

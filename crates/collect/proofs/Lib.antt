@@ -8,3 +8,4 @@ pub mod Tables
 pub mod Asking
 pub mod PlainLaws
 pub mod FaceLaws
+pub mod OwnLaws

@@ -114,9 +114,9 @@ Ends (walks.Left l) mo text own g k busy x = (st : State) × (x ≡ going (walke
 Ends walks.Full mo text own g k busy x = x ≡ full
 
 -- the rounds left never grow
-abbrev pub Within : W.Walked → ℕ → Type 0
-Within (walks.Left l) left = l ≤ left
-Within walks.Full left = Unit {0}
+abbrev pub RoundsWithin : W.Walked → ℕ → Type 0
+RoundsWithin (walks.Left l) left = l ≤ left
+RoundsWithin walks.Full left = Unit {0}
 
 -- the names that are used stay as they are
 pub record Framed (used : ℕ) (old new : List ℕ) : Type 0 where

@@ -1,11 +1,11 @@
--- What the walk of a module's own check needs. 01: The collected item.
+-- What collecting a module in its own check needs, and what it leaves. 01: The collected item; Refused because of the state.
 -- Assumes nothing: these are definitions and statements.
 use mathlib.Core.Path.{_≡_}
-use mathlib.Core.Bool.{false}
+use mathlib.Core.Bool.{true, false}
 use mathlib.Core.List.{List, []}
 use mathlib.Core.Option.{some}
 use Prim.Native.Nat.{ℕ, _+_, _/_, _≤_}
-use lib.ListN.{length, getElem?}
+use lib.ListN.{length, getElem?, replicate}
 use Rattle.spec.specs.Syntax.{Module}
 use Rattle.spec.specs.Decode.{depth-limit}
 use Rattle.spec.specs.Refusal.{decode}
@@ -13,14 +13,55 @@ use Rattle.spec.specs.Value.{own-vals, name-table}
 use Rattle.spec.specs.Summary.{Kept}
 use Rattle.consteval.specs.Worth.{names-of}
 use Rattle.graph.specs.Stands.{Stands}
-use Rattle.walk.specs.Walk.{no-own}
+use Rattle.sites.specs.Own.{places}
+use Rattle.walk.specs.Walk.{Got, full, going, Walked, walked, State, no-own}
+use Rattle.steps.specs.Modules.{name-places}
 use Rattle.items.specs.Held.{Held}
 use Rattle.summary.specs.Keeps.{Keeps}
-use Rattle.collect.specs.Cycle.{Tabled}
+use Rattle.collect.specs.declared.Collected.{Collected}
+use Rattle.collect.specs.declared.Collected.the-variants as collected
+use Rattle.collect.specs.Cycle.{Tabled, Holding, mode}
 
--- module x is number m of an accepted text; its name table has its values and room for the variables of open repeats; its tables are empty,
--- and the words k hold the summaries kept so far
-pub record Collecting (text kinds mods : List ℕ) (count m : ℕ) (names : List ℕ) (used : ℕ) (own g k : List ℕ) (x : Module) (kept : Kept) : Type 0 where
+-- 01, Refused because of the state: how many places a graph has
+abbrev pub graph-places : ℕ
+graph-places = 15874
+
+-- module x is number m of an accepted text, each slice has places for the limits that it serves, and the words k hold the summaries kept so
+-- far; what the other slices hold does not matter
+pub record ModuleGiven (text kinds mods : List ℕ) (count m : ℕ) (names own g k : List ℕ) (x : Module) (kept : Kept) : Type 0 where
+  pub tabled : Tabled text kinds mods count
+  pub there : getElem? (decode text) m ≡ some x
+  pub named : name-places ≤ length names
+  pub owned : length own ≡ places
+  pub graphed : graph-places ≤ length g
+  pub keeps : Keeps k kept []
+
+-- 01, The collected item: the rounds left and the state of the walk, which the words hold, and before it the module's name table; or the walk
+-- is full. What stands behind the names that are used, and behind the count of a table, is free.
+abbrev pub Collects : Collected → (text names own g k : List ℕ) → Module → Got (Walked State) → Type 0
+Collects (collected.Left used left) text names own g k x y =
+    (st : State) × (y ≡ going (walked left st)) × Holding (mode true (x .bound)) text own g k [] st × (names-of names used ≡ name-table (own-vals x) x .names)
+Collects collected.Full text names own g k x y = y ≡ full
+
+-- 01, Refused because of the state: the number of each answer
+abbrev pub number-of : Collected → ℕ
+number-of (collected.Left used left) = 0
+number-of collected.Full = 20
+
+-- 01, The collected item: the rounds that are left
+abbrev pub rounds-of : Collected → ℕ
+rounds-of (collected.Left used left) = left
+rounds-of collected.Full = 0
+
+-- 01, Worthless checks: what every lent slice becomes, whatever it held: it keeps its length, and where the number is 20 each place is 0
+pub record Lent (r : Collected) (names own g k names′ own′ g′ k′ : List ℕ) : Type 0 where
+  pub sizes : (length names′ ≡ length names) × (length own′ ≡ length own) × (length g′ ≡ length g) × (length k′ ≡ length k)
+  pub emptied : number-of r ≡ 20
+      → (names′ ≡ replicate (length names) 0) × (own′ ≡ replicate (length own) 0) × (g′ ≡ replicate (length g) 0) × (k′ ≡ replicate (length k) 0)
+  pub rounds : rounds-of r ≤ 4096
+
+-- where the walk over the items of module x begins: its name table stands, with room for the variables of open repeats, and its tables are empty
+pub record WalkGiven (text kinds mods : List ℕ) (count m : ℕ) (names : List ℕ) (used : ℕ) (own g k : List ℕ) (x : Module) (kept : Kept) : Type 0 where
   pub tabled : Tabled text kinds mods count
   pub there : getElem? (decode text) m ≡ some x
   pub inside : name-table (own-vals x) x .out ≡ false

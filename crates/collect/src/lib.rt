@@ -25,17 +25,24 @@ ghost use Rattle.spec.specs.Summary.{Kept, kept-summary};
 ghost use Rattle.walk.specs.Walk.{ask-walk, own-walk};
 ghost use Rattle.steps.specs.declared.Head.the-variants as head;
 ghost use Rattle.summary.specs.Keeps.{Keeps};
-ghost use Rattle.collect.specs.Face.{Collecting};
-ghost use Rattle.collect.specs.Cycle.{Mode, World, Given, Single, OneGiven, mode, Ends, walk-of, one-of, step-of, Framed, Within, Stepped, Tabled, AskedFor};
+ghost use Rattle.graph.specs.Stands.{Stands};
+ghost use Rattle.collect.specs.Face.{graph-places, WalkGiven, ModuleGiven, Collects, rounds-of, Lent};
+ghost use Rattle.collect.specs.Cycle.{Mode, World, Given, Single, OneGiven, mode, Ends, walk-of, one-of, step-of, Framed, RoundsWithin, Stepped, Tabled, AskedFor};
+
+// What collecting a module gives: a limit is passed or a constant is outside INT; else how many names its table has, and the rounds left.
+pub enum Collected {
+    Full,
+    Left(usize, u32),
+}
 
 // What a walk gives: the rounds left, or a limit is passed or a constant outside INT.
-pub enum Walked {
+enum Walked {
     Left(u32),
     Full,
 }
 
 // What asking for a summary gives: nothing is known of the module, its pairs stand in the table, or a limit is passed.
-pub enum Asked {
+enum Asked {
     Empty,
     Kept,
     Full,
@@ -66,7 +73,7 @@ fn collect_items(
         (now (ks .entry)) (now (names .entry)) used (now (own .entry)) (now (g .entry)) (now (k .entry)) w
         → Ends r (mode checking bound) (now (text .entry)) (now (own .exit)) (now (g .exit)) (now (k .exit)) (w .busy)
         (walk-of fuel (now (text .entry)) (mode checking bound) w (names-of (now (names .entry)) used) left)) ⌝ }
-    ensures { λ r. ⌜ Framed used (now (names .entry)) (now (names .exit)) × Within r left ⌝ }
+    ensures { λ r. ⌜ Framed used (now (names .entry)) (now (names .exit)) × RoundsWithin r left ⌝ }
 {
     let mut at: usize = 0;
     let mut left = left;
@@ -180,7 +187,7 @@ fn repeat_items(
         (now (ks .entry)) (now (names .entry)) used (now (own .entry)) (now (g .entry)) (now (k .entry)) w
         → Ends r (mode checking bound) (now (text .entry)) (now (own .exit)) (now (g .exit)) (now (k .exit)) (w .busy)
         (one-of fuel (now (text .entry)) (mode checking bound) w (names-of (now (names .entry)) used) left)) ⌝ }
-    ensures { λ r. ⌜ Framed used (now (names .entry)) (now (names .exit)) × Within r left ⌝ }
+    ensures { λ r. ⌜ Framed used (now (names .entry)) (now (names .exit)) × RoundsWithin r left ⌝ }
 {
     if depth == 0 {
         return Walked::Full;
@@ -279,7 +286,7 @@ fn branch_items(
         (now (ks .entry)) (now (names .entry)) used (now (own .entry)) (now (g .entry)) (now (k .entry)) w
         → Ends r (mode checking bound) (now (text .entry)) (now (own .exit)) (now (g .exit)) (now (k .exit)) (w .busy)
         (one-of fuel (now (text .entry)) (mode checking bound) w (names-of (now (names .entry)) used) left)) ⌝ }
-    ensures { λ r. ⌜ Framed used (now (names .entry)) (now (names .exit)) × Within r left ⌝ }
+    ensures { λ r. ⌜ Framed used (now (names .entry)) (now (names .exit)) × RoundsWithin r left ⌝ }
 {
     if depth < 2 {
         return Walked::Full;
@@ -435,8 +442,24 @@ fn make_summary(
     }
 }
 
+// Empties the graph: no nodes, no edges, and no node's first edge.
+fn empty(g: &mut [u32])
+    ensures { λ _. ⌜ (graph-places ≤ length (now (g .entry)) → Stands (now (g .exit)) []) ⌝ }
+{
+    if g.len() < 3586 {
+        return;
+    }
+    let mut i: usize = 0;
+    while i < 512 {
+        g[3074 + i] = 0;
+        i += 1;
+    }
+    g[0] = 0;
+    g[1] = 0;
+}
+
 // Walks the items of module m in its own check, with 4,096 rounds. An accepted text has 32 modules at most.
-pub fn collect_module(
+fn walk_module(
     text: &[u8],
     kinds: &[u8],
     mods: &[u32],
@@ -448,10 +471,10 @@ pub fn collect_module(
     g: &mut [u32],
     k: &mut [u32],
 ) -> Walked
-    ensures { λ r. ⌜ ((x : Module) (kept : Kept) → Collecting (now (text .entry)) (now (kinds .entry)) (now (mods .entry)) count m
+    ensures { λ r. ⌜ ((x : Module) (kept : Kept) → WalkGiven (now (text .entry)) (now (kinds .entry)) (now (mods .entry)) count m
         (now (names .entry)) used (now (own .entry)) (now (g .entry)) (now (k .entry)) x kept
         → Ends r (mode true (x .bound)) (now (text .entry)) (now (own .exit)) (now (g .exit)) (now (k .exit)) [] (own-walk (decode (now (text .entry))) x kept)) ⌝ }
-    ensures { λ r. ⌜ Framed used (now (names .entry)) (now (names .exit)) × Within r 4096 ⌝ }
+    ensures { λ r. ⌜ Framed used (now (names .entry)) (now (names .exit)) × RoundsWithin r 4096 ⌝ }
 {
     if 32768 < text.len() {
         return Walked::Full;
@@ -482,4 +505,65 @@ pub fn collect_module(
         g,
         k,
     )
+}
+
+// The name table of module m, and the walk over its items from empty tables.
+fn own_walk(
+    text: &[u8],
+    kinds: &[u8],
+    mods: &[u32],
+    count: u32,
+    m: u32,
+    names: &mut [u32],
+    own: &mut [u32],
+    g: &mut [u32],
+    k: &mut [u32],
+) -> Collected
+    ensures { λ r. ⌜ ((x : Module) (kept : Kept) → ModuleGiven (now (text .entry)) (now (kinds .entry)) (now (mods .entry)) count m
+        (now (names .entry)) (now (own .entry)) (now (g .entry)) (now (k .entry)) x kept
+        → Collects r (now (text .entry)) (now (names .exit)) (now (own .exit)) (now (g .exit)) (now (k .exit)) x (own-walk (decode (now (text .entry))) x kept)) ⌝ }
+    ensures { λ r. ⌜ rounds-of r ≤ 4096 ⌝ }
+{
+    match modules::names_of_module(text, mods, m, names) {
+        Named::Outside => Collected::Full,
+        Named::Used(used) => {
+            items::reset(own);
+            empty(g);
+            match walk_module(text, kinds, mods, count, m, names, used, own, g, k) {
+                Walked::Full => Collected::Full,
+                Walked::Left(left) => Collected::Left(used, left),
+            }
+        }
+    }
+}
+
+// Collects module m in its own check: its name table, its own tables and its graph, and in k the summaries that its instances asked for.
+// Where it is full, every lent place is 0 afterwards.
+pub fn collect_module(
+    text: &[u8],
+    kinds: &[u8],
+    mods: &[u32],
+    count: u32,
+    m: u32,
+    names: &mut [u32],
+    own: &mut [u32],
+    g: &mut [u32],
+    k: &mut [u32],
+) -> Collected
+    ensures { λ r. ⌜ ((x : Module) (kept : Kept) → ModuleGiven (now (text .entry)) (now (kinds .entry)) (now (mods .entry)) count m
+        (now (names .entry)) (now (own .entry)) (now (g .entry)) (now (k .entry)) x kept
+        → Collects r (now (text .entry)) (now (names .exit)) (now (own .exit)) (now (g .exit)) (now (k .exit)) x (own-walk (decode (now (text .entry))) x kept)) ⌝ }
+    ensures { λ r. ⌜ Lent r (now (names .entry)) (now (own .entry)) (now (g .entry)) (now (k .entry))
+        (now (names .exit)) (now (own .exit)) (now (g .exit)) (now (k .exit)) ⌝ }
+{
+    match own_walk(text, kinds, mods, count, m, names, own, g, k) {
+        Collected::Left(used, left) => Collected::Left(used, left),
+        Collected::Full => {
+            graph::clear(names);
+            graph::clear(own);
+            graph::clear(g);
+            graph::clear(k);
+            Collected::Full
+        }
+    }
 }

@@ -19,16 +19,14 @@ use Rattle.walk.specs.Walk.{Got, full, going, Tally}
 use Rattle.steps.specs.Modules.{name-places}
 use Rattle.summary.specs.Keeps.{Keeps, kept-places}
 use Rattle.collect.specs.Cycle.{Tabled}
+use Rattle.collect.specs.Face.{graph-places}
 use Rattle.drivers.specs.Emits.{Within, Emits}
 use Rattle.drivers.specs.declared.emit.Place.{Place}
 use Rattle.drivers.specs.declared.check.Checked.{Checked}
 use Rattle.drivers.specs.declared.check.Checked.the-variants as checks
 use Rattle.drivers.specs.declared.check.Answer.{Answer}
 
--- how many places the graph, and the work slice of its search, have
-abbrev pub graph-places : ℕ
-graph-places = 15874
-
+-- how many places the work slice of the graph's search has
 abbrev pub work-places : ℕ
 work-places = 29190
 
@@ -48,7 +46,7 @@ pub record Checking (text kinds mods : List ℕ) (count m : ℕ) (names own g w 
   pub keeps : Keeps k kept []
 
 -- what the check of a module, or of several, leaves: its reports behind the place p, its rounds, and the summaries kept; or a limit is
--- passed, and then only a buffer that is written may have changed
+-- passed, and then a buffer that was not written is as it was; what the tables hold then is free, and the whole call sets them to 0
 abbrev pub Tallied : Checked → Bool → Bytes → Place → Bytes → List ℕ → Got Tally → Type 0
 Tallied (checks.Done q rounds) write old p new k x =
     (t : Tally) × (x ≡ going t) × Emits write old p (t .reports) new q × (rounds ≡ t .rounds) × Keeps k (t .kept) []
@@ -71,19 +69,18 @@ answer-of a buffer = record { number = a .number; line = a .line; bytes-written 
 abbrev pub accepted : ℕ → ℕ → ℕ → Bytes → check.Answer
 accepted written reports rounds buffer = record { number = 0; line = 0; bytes-written = written; reports = reports; rounds = rounds; buffer = buffer }
 
--- 01, Refused because of the state: how many places the seven working slices have, and the limits that they serve
-abbrev pub lent-places : ℕ → ℕ → ℕ → ℕ → ℕ → ℕ → ℕ → List Lent
-lent-places kinds mods names own g w k =
-    record { places = kinds; limit = 32 * name-bound } ∷ record { places = mods; limit = 32 * 4 } ∷ record { places = names; limit = name-places }
-    ∷ record { places = own; limit = places } ∷ record { places = g; limit = graph-places } ∷ record { places = w; limit = work-places }
-    ∷ record { places = k; limit = kept-places } ∷ []
+-- 01, Refused because of the state: the seven working slices, each with the limit that it serves
+abbrev pub served : {A B : Type 0} → (A → ℕ → B) → A → A → A → A → A → A → A → List B
+served f kinds mods names own g w k =
+    f kinds (32 * name-bound) ∷ f mods (32 * 4) ∷ f names name-places ∷ f own places ∷ f g graph-places ∷ f w work-places ∷ f k kept-places ∷ []
 
--- 01, Refused because of the state: the seven working slices as they are lent
+-- how many places they have
+abbrev pub lent-places : ℕ → ℕ → ℕ → ℕ → ℕ → ℕ → ℕ → List Lent
+lent-places = served (λ n limit. record { places = n; limit = limit })
+
+-- as they are lent
 abbrev pub slices : List ℕ → List ℕ → List ℕ → List ℕ → List ℕ → List ℕ → List ℕ → List Slice
-slices kinds mods names own g w k =
-    record { held = kinds; limit = 32 * name-bound } ∷ record { held = mods; limit = 32 * 4 } ∷ record { held = names; limit = name-places }
-    ∷ record { held = own; limit = places } ∷ record { held = g; limit = graph-places } ∷ record { held = w; limit = work-places }
-    ∷ record { held = k; limit = kept-places } ∷ []
+slices = served (λ s limit. record { held = s; limit = limit })
 
 -- 01, Refused because of the state: what a call leaves
 abbrev pub exit-of : Answer → Bytes → List ℕ → List ℕ → List ℕ → List ℕ → List ℕ → List ℕ → List ℕ → Exit

@@ -2,14 +2,10 @@
 use crate::emit::Place;
 use crate::groups;
 use crate::groups::Covered;
-use collect::Walked;
+use collect::Collected;
 use lines::tables;
 use lines::tables::Read;
-use steps::modules;
-use steps::modules::Named;
 ghost use mathlib.Core.Path.{_≡_};
-ghost use mathlib.Core.List.{[]};
-ghost use Prim.Native.Nat.{_≤_};
 ghost use lib.ListN.{length, replicate};
 ghost use Rattle.spec.specs.Bytes.{Bytes};
 ghost use Rattle.spec.specs.Syntax.{Module};
@@ -17,10 +13,9 @@ ghost use Rattle.spec.specs.Refusal.{decode};
 ghost use Rattle.spec.specs.Summary.{Kept};
 ghost use Rattle.spec.specs.Check.{check-design, answer-checked, too-short, check-call};
 ghost use Rattle.spec.specs.Check as check;
-ghost use Rattle.graph.specs.Stands.{Stands};
 ghost use Rattle.walk.specs.Walk.{check-one, check-fused};
 ghost use Rattle.collect.specs.Cycle.{Tabled};
-ghost use Rattle.drivers.specs.Check.{graph-places, Enough, Checking, Tallied, FewRounds, first-place, answer-of, accepted, lent-places, exit-of, slices};
+ghost use Rattle.drivers.specs.Check.{Enough, Checking, Tallied, FewRounds, first-place, answer-of, accepted, lent-places, exit-of, slices};
 
 // The places of the name table, and of the tables of a module's own check.
 const NAMES: usize = 6616;
@@ -42,23 +37,7 @@ pub struct Answer {
     pub rounds: u32,
 }
 
-// Empties the graph: no nodes, no edges, and no node's first edge.
-fn empty(g: &mut [u32])
-    ensures { λ _. ⌜ (graph-places ≤ length (now (g .entry)) → Stands (now (g .exit)) []) ⌝ }
-{
-    if g.len() < 3586 {
-        return;
-    }
-    let mut i: usize = 0;
-    while i < 512 {
-        g[3074 + i] = 0;
-        i += 1;
-    }
-    g[0] = 0;
-    g[1] = 0;
-}
-
-// The own check of module m: its name table, its items, its reports behind the place p.
+// The own check of module m: what its lines collect, then its reports behind the place p.
 fn check_module_drivers(
     text: &[u8],
     kinds: &[u8],
@@ -79,19 +58,12 @@ fn check_module_drivers(
         → Tallied r write (now (buf .entry)) p (now (buf .exit)) (now (k .exit)) (check-one (decode (now (text .entry))) kept m x)) ⌝ }
     ensures { λ r. ⌜ FewRounds r ⌝ }
 {
-    match modules::names_of_module(text, mods, m, names) {
-        Named::Outside => Checked::Full,
-        Named::Used(used) => {
-            items::reset(own);
-            empty(g);
-            match collect::collect_module(text, kinds, mods, count, m, names, used, own, g, k) {
-                Walked::Full => Checked::Full,
-                Walked::Left(left) => {
-                    match groups::report_module(text, names, used, own, g, w, m, buf, p, write) {
-                        Covered::Outside => Checked::Full,
-                        Covered::Done(q) => Checked::Done(q, 4096 - left),
-                    }
-                }
+    match collect::collect_module(text, kinds, mods, count, m, names, own, g, k) {
+        Collected::Full => Checked::Full,
+        Collected::Left(used, left) => {
+            match groups::report_module(text, names, used, own, g, w, m, buf, p, write) {
+                Covered::Outside => Checked::Full,
+                Covered::Done(q) => Checked::Done(q, 4096 - left),
             }
         }
     }

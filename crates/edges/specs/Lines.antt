@@ -57,6 +57,7 @@ ConnRead r o s c d kinds names g g′ from =
     (y : Conn) → ShowsConn c d y → (header : List Header) → KindsOf kinds header
     → (hs : List Head) (n : Node) (start : ℕ) (rs : List Node) → Heading g hs n start rs from → ReadAll r g′ hs n start rs from (conn-reads header names s o (y ∷ []))
 
+-- what reading connections leaves there
 abbrev pub ConnsRead : Bool → ℕ → Summary → Bytes → ℕ → List ℕ → Names → List ℕ → List ℕ → ℕ → Type 0
 ConnsRead r o s x d kinds names g g′ from =
     (cs : List Conn) → ShowsConns x d cs → (header : List Header) → KindsOf kinds header

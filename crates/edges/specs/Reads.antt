@@ -1,5 +1,5 @@
 -- What reading leaves in the graph of a module: the reads of an expression behind those that the head has already, or a limit passed or
--- an index outside INT. 01: The edge.
+-- an index outside INT. 01: The line; The edge; Refused because of the state.
 -- Assumes nothing: these are definitions and statements.
 use mathlib.Core.Path.{_≡_}
 use mathlib.Core.Bool.{Bool, true, false, _||_}
@@ -12,7 +12,7 @@ use Rattle.spec.specs.Site.{kind-of}
 use Rattle.spec.specs.Edge.{Node, Reads, Head, Heads, over-graph}
 use Rattle.graph.specs.Stands.{Stands, Heading, head-of}
 
--- what a byte of the table of kinds says
+-- 01, The line: K being in, out, wire, reg, mem or inst: what a byte of the table of kinds says
 abbrev pub kind-word : ℕ → Option Kind
 kind-word zero = none
 kind-word (suc zero) = some in-kind
@@ -22,16 +22,18 @@ kind-word (suc (suc (suc (suc zero)))) = some reg-kind
 kind-word (suc (suc (suc (suc (suc zero))))) = some mem-kind
 kind-word (suc (suc (suc (suc (suc (suc n)))))) = some inst-kind
 
--- a module's table of kinds, a byte for each name, says what its header says
+-- 01, The line: a module's table of kinds, a byte for each name, says what its header says
 abbrev pub KindsOf : List ℕ → List Header → Type 0
 KindsOf kinds hs = (n : ℕ) → kind-word (getD kinds n 0) ≡ kind-of hs n
 
--- reading q leaves the graph g: the head n, which read rs before, reads q too (true); or an index was outside INT, or a limit is passed
+-- 01, The edge; Refused because of the state: reading q leaves the graph g: the head n, which read rs before, reads q too (true); or an
+-- index was outside INT, or a limit is passed
 abbrev pub ReadAll : Bool → List ℕ → List Head → Node → ℕ → List Node → ℕ → Reads → Type 0
 ReadAll true g hs n start rs i q = Heading g hs n start (rs ++ q .nodes) i × (q .out ≡ false)
 ReadAll false g hs n start rs i q = q .out || over-graph (hs ++ head-of n start (rs ++ q .nodes) ∷ []) ≡ true
 
--- a whole line's heads leave the graph g
+-- 01, The edge; Refused because of the state: a whole line's heads leave the graph g; or an index was outside INT, or a limit is
+-- passed
 abbrev pub HeadAll : Bool → List ℕ → List Head → Heads → Type 0
 HeadAll true g hs h = Stands g (hs ++ h .heads) × (h .out ≡ false)
 HeadAll false g hs h = h .out || over-graph (hs ++ h .heads) ≡ true

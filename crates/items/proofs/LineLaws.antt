@@ -21,7 +21,7 @@ use Rattle.spec.specs.Block.{line-pairs, line-regs, line-mems}
 use Rattle.lines.specs.Parts.{part-end, follows}
 use Rattle.lines.proofs.PartLaws.{part-end-le, follows-in}
 use Rattle.sites.specs.Own as table
-use Rattle.sites.specs.Own.{Port, places, run, rows-in, site-table, pair-table, port-table, reg-table, mem-table, misuse-table, own-of, names-of, add-output, add-reg, add-mem}
+use Rattle.sites.specs.Own.{Port, places, run, rows-in, site-table, pair-table, port-table, reg-table, mem-table, misuse-table, own-of, entry-names, add-output, add-reg, add-mem}
 use Rattle.runs.specs.Run.{ShowsItem}
 use Rattle.edges.specs.Reads.{KindsOf}
 use Rattle.walk.specs.Walk.{Own, no-own, own-line, add-all, add-new, same-output, same-storage}
@@ -81,7 +81,7 @@ no-few : Few []
 no-few = record { once = tt; small = λ n m. absurd (List·Memᴰ·not-nil m) }
 
 pub emptied-held : (old new : List ℕ) → Emptied old new → length old ≡ places → (text : Bytes) → Held text new no-own
-unfolding own-of rows-in run names-of
+unfolding own-of rows-in run entry-names
 emptied-held old new e h text =
     let z : (k : ℕ) → k < 7 → (m : ℕ) → min (getD new k 0) m ≡ 0 = λ k l m. let c = e .counts k l in omega arith in
     record {

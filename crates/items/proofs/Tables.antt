@@ -20,7 +20,7 @@ use Rattle.spec.specs.Block.{Pair, Storage, has-pair}
 use Rattle.spec.specs.Check.{pair-limit}
 use Rattle.spec.proofs.Numbers.{if-case}
 use Rattle.sites.specs.Own as table
-use Rattle.sites.specs.Own.{Port, rows-in, site-table, pair-table, own-of, names-of, grown, first-kept, room, Added, added, add-site, add-pair, add-output, add-reg, add-mem, add-misuse}
+use Rattle.sites.specs.Own.{Port, rows-in, site-table, pair-table, own-of, entry-names, grown, first-kept, room, Added, added, add-site, add-pair, add-output, add-reg, add-mem, add-misuse}
 use Rattle.sites.specs.declared.Stored.{Stored}
 use Rattle.sites.specs.declared.Stored.the-variants as stored
 use Rattle.sites.proofs.Rows.{run-length, rows-limit}
@@ -35,54 +35,54 @@ module _ {A : Type 0} (key : A → ℕ) where
   abbrev same : A → A → Bool
   same a b = eqb (key a) (key b)
 
-  names-keys : (l : List A) → keys key l ≡ names-of key l
-  unfolding keys names-of
+  names-keys : (l : List A) → keys key l ≡ entry-names key l
+  unfolding keys entry-names
   names-keys [] = refl
   names-keys (a ∷ l) = ap (λ (t : List ℕ). key a ∷ t) (names-keys l)
 
-  among-names : (x : A) (l : List A) → has-name (key x) (names-of key l) ≡ among same x l
-  unfolding has-name names-of among
+  among-names : (x : A) (l : List A) → has-name (key x) (entry-names key l) ≡ among same x l
+  unfolding has-name entry-names among
   among-names x [] = refl
   among-names x (a ∷ l) = go (eqb (key x) (key a)) (among-names x l)
     where
-      go : (b : Bool) → has-name (key x) (names-of key l) ≡ among same x l
-          → (b || has-name (key x) (names-of key l)) ≡ elim b as (λ _. Bool) [ true ↦ true | false ↦ among same x l ]
+      go : (b : Bool) → has-name (key x) (entry-names key l) ≡ among same x l
+          → (b || has-name (key x) (entry-names key l)) ≡ elim b as (λ _. Bool) [ true ↦ true | false ↦ among same x l ]
       go true e = refl
       go false e = e
 
   -- a name at the end
-  end-names : (x : A) (l : List A) (n : ℕ) → n ∈ names-of key (l ++ x ∷ []) → (n ≡ key x) ⊎ (n ∈ names-of key l)
-  unfolding names-of
+  end-names : (x : A) (l : List A) (n : ℕ) → n ∈ entry-names key (l ++ x ∷ []) → (n ≡ key x) ⊎ (n ∈ entry-names key l)
+  unfolding entry-names
   end-names x [] n m = go (List·Memᴰ·cases-cons m)
     where
       go : (n ≡ key x) ⊎ (n ∈ []) → (n ≡ key x) ⊎ (n ∈ [])
       go c = c
   end-names x (a ∷ l) n m = go (end-names x l n) (List·Memᴰ·cases-cons m)
     where
-      two : (n ≡ key x) ⊎ (n ∈ names-of key l) → (n ≡ key x) ⊎ (n ∈ (key a ∷ names-of key l))
+      two : (n ≡ key x) ⊎ (n ∈ entry-names key l) → (n ≡ key x) ⊎ (n ∈ (key a ∷ entry-names key l))
       two (inl e) = inl e
       two (inr i) = inr (List·Memᴰ·tail i)
 
-      go : (n ∈ names-of key (l ++ x ∷ []) → (n ≡ key x) ⊎ (n ∈ names-of key l))
-          → (n ≡ key a) ⊎ (n ∈ names-of key (l ++ x ∷ [])) → (n ≡ key x) ⊎ (n ∈ (key a ∷ names-of key l))
+      go : (n ∈ entry-names key (l ++ x ∷ []) → (n ≡ key x) ⊎ (n ∈ entry-names key l))
+          → (n ≡ key a) ⊎ (n ∈ entry-names key (l ++ x ∷ [])) → (n ≡ key x) ⊎ (n ∈ (key a ∷ entry-names key l))
       go f (inl e) = inr (List·Memᴰ·head e)
       go f (inr i) = two (f i)
 
-  few-length : (l : List A) → Few (names-of key l) → length l ≤ name-bound
+  few-length : (l : List A) → Few (entry-names key l) → length l ≤ name-bound
   few-length l f = few-keys key name-bound l (rw (names-keys l) (f .once)) (λ n m. f .small n (rw (names-keys l) at m))
 
-  module _ (x : A) (l : List A) (f : Few (names-of key l)) (h : key x < name-bound) where
-    small-new : (n : ℕ) → n ∈ names-of key (add-new same x l) → n < name-bound
+  module _ (x : A) (l : List A) (f : Few (entry-names key l)) (h : key x < name-bound) where
+    small-new : (n : ℕ) → n ∈ entry-names key (add-new same x l) → n < name-bound
     unfolding add-new
     small-new =
-        if-case (λ (k : List A). (n : ℕ) → n ∈ names-of key k → n < name-bound) (among same x l) l (l ++ x ∷ []) (λ e. f .small)
+        if-case (λ (k : List A). (n : ℕ) → n ∈ entry-names key k → n < name-bound) (among same x l) l (l ++ x ∷ []) (λ e. f .small)
         (λ e n m. go n (end-names x l n m))
       where
-        go : (n : ℕ) → (n ≡ key x) ⊎ (n ∈ names-of key l) → n < name-bound
+        go : (n : ℕ) → (n ≡ key x) ⊎ (n ∈ entry-names key l) → n < name-bound
         go n (inl e) = omega arith
         go n (inr i) = f .small n i
 
-    pub few-new : Few (names-of key (add-new same x l))
+    pub few-new : Few (entry-names key (add-new same x l))
     unfolding add-all
     few-new = record { once = rw (names-keys (add-new same x l)) at (adds-keys key (x ∷ []) l (rw (names-keys l) (f .once))); small = small-new }
 
@@ -123,8 +123,8 @@ module _ {A : Type 0} (eq : A → A → Bool) where
 -- ---- outputs, of which a row says where the width stands
 
 module _ (text : Bytes) where
-  ports-names : (ps : List Port) (os : List Output) → Ports text ps os → names-of (λ x. x .name) ps ≡ names-of (λ x. x .name) os
-  unfolding names-of
+  ports-names : (ps : List Port) (os : List Output) → Ports text ps os → entry-names (λ x. x .name) ps ≡ entry-names (λ x. x .name) os
+  unfolding entry-names
   ports-names [] [] h = refl
   ports-names [] (o ∷ os) h = absurd h
   ports-names (p ∷ ps) [] h = absurd h
@@ -143,10 +143,10 @@ module _ (text : Bytes) where
   ports-end p o q (a ∷ ps) (b ∷ os) h = (h .0, ports-end p o q ps os (h .1))
 
   module _ (p : Port) (o : Output) (q : PortIs text p o) (ps : List Port) (os : List Output) (h : Ports text ps os)
-      (f : Few (names-of (λ x. x .name) os)) (l : o .name < name-bound) where
-    ports-among : has-name (p .name) (names-of (λ x. x .name) ps) ≡ among same-output o os
+      (f : Few (entry-names (λ x. x .name) os)) (l : o .name < name-bound) where
+    ports-among : has-name (p .name) (entry-names (λ x. x .name) ps) ≡ among same-output o os
     ports-among =
-        ap (λ (n : ℕ). has-name n (names-of (λ x. x .name) ps)) (q .name) ∙ ap (has-name (o .name)) (ports-names ps os h) ∙ among-names (λ x. x .name) o os
+        ap (λ (n : ℕ). has-name n (entry-names (λ x. x .name) ps)) (q .name) ∙ ap (has-name (o .name)) (ports-names ps os h) ∙ among-names (λ x. x .name) o os
 
     ports-kept : Ports text (first-kept (λ x. x .name) p ps) (add-new same-output o os)
     unfolding first-kept grown add-new

@@ -1,4 +1,5 @@
--- The tables of a module's own check as the code holds them, and what a collected line leaves in them. 01: The site; The block.
+-- The tables of a module's own check as the code holds them, and what a collected line leaves in them. 01: The line; The site;
+-- The block; Refused because of the state.
 -- Assumes nothing: these are definitions and statements.
 use mathlib.Core.Path.{_≡_}
 use mathlib.Core.Bool.{Bool, true, false, _||_}
@@ -13,11 +14,10 @@ use Rattle.spec.specs.Decode.{depth-limit}
 use Rattle.spec.specs.Refusal.{width-depth, width-in-range}
 use Rattle.spec.specs.Value.{Names}
 use Rattle.spec.specs.Site.{Output, line-constants, any-outside}
-use Rattle.sites.specs.Own as table
-use Rattle.sites.specs.Own.{Port, places, own-of, names-of}
+use Rattle.sites.specs.Own.{Port, places, own-of, entry-names}
 use Rattle.walk.specs.Walk.{Own, own-line, over-own}
 
--- a row says where the width of an output stands in the text
+-- 01, The site: a row says where the width of an output stands in the text
 pub record PortIs (text : Bytes) (p : Port) (o : Output) : Type 0 where
   pub name : p .name ≡ o .name
   pub start : p .start ≡ o .start
@@ -26,18 +26,19 @@ pub record PortIs (text : Bytes) (p : Port) (o : Output) : Type 0 where
   pub deep : width-depth (o .width) ≤ depth-limit
   pub ranged : width-in-range (o .width) ≡ true
 
+-- 01, The site: such a row for each output, in order
 abbrev pub Ports : Bytes → List Port → List Output → Type 0
 Ports text [] [] = Unit {0}
 Ports text [] (o ∷ os) = ⊥
 Ports text (p ∷ ps) [] = ⊥
 Ports text (p ∷ ps) (o ∷ os) = PortIs text p o × Ports text ps os
 
--- names each once, all below the bound: a table of them is never too small
+-- 01, The line: NAME 0 to 255. Names each once, all below the bound: a table of them is never too small
 pub record Few (l : List ℕ) : Type 0 where
   pub once : Once l
   pub small : (n : ℕ) → n ∈ l → n < name-bound
 
--- the words `own` hold the tables o
+-- 01, The site; The block: the words `own` hold the tables o
 pub record Held (text : Bytes) (own : List ℕ) (o : Own) : Type 0 where
   pub sized : length own ≡ places
   pub sites : own-of own .sites ≡ o .sites
@@ -46,12 +47,13 @@ pub record Held (text : Bytes) (own : List ℕ) (o : Own) : Type 0 where
   pub regs : own-of own .regs ≡ o .regs
   pub mems : own-of own .mems ≡ o .mems
   pub misuses : own-of own .misuses ≡ o .misuses
-  pub few-outputs : Few (names-of (λ x. x .name) (o .outputs))
-  pub few-regs : Few (names-of (λ x. x .name) (o .regs))
-  pub few-mems : Few (names-of (λ x. x .name) (o .mems))
-  pub few-misuses : Few (names-of (λ x. x .name) (o .misuses))
+  pub few-outputs : Few (entry-names (λ x. x .name) (o .outputs))
+  pub few-regs : Few (entry-names (λ x. x .name) (o .regs))
+  pub few-mems : Few (entry-names (λ x. x .name) (o .mems))
+  pub few-misuses : Few (entry-names (λ x. x .name) (o .misuses))
 
--- what a collected line leaves: its entries; or a constant was outside INT, or a limit is passed
+-- 01, The site; The block; Refused because of the state: what a collected line leaves: its entries; or a constant was
+-- outside INT, or a limit is passed
 abbrev pub OwnAfter : Bool → Bytes → List ℕ → Bool → List Header → Names → Item → Own → Type 0
 OwnAfter true text own bound hs names item o =
     (any-outside names (line-constants hs item) ≡ false) × Held text own (own-line bound hs names item o) × (over-own (own-line bound hs names item o) ≡ false)

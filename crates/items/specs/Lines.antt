@@ -1,4 +1,5 @@
--- What the code says of a collected line and of the parts of one. 01: The site; The block.
+-- What the code says of a collected line and of the parts of one. 01: The line; The value; The site; The block; Refused because
+-- of the state.
 -- Assumes nothing: these are definitions and statements.
 use mathlib.Core.Path.{_≡_}
 use mathlib.Core.Bool.{Bool, true, false}
@@ -8,9 +9,8 @@ use Prim.Native.Nat.{ℕ, _+_, _≤_, _<_}
 use lib.ListN.{length, getD, take, drop}
 use lib.Dec.{ltb}
 use Rattle.spec.specs.Bytes.{Bytes, show-number, show-rest}
-use Rattle.spec.specs.Syntax.{name-bound, number-bound, out-kind, Expr, Width, Index, LValue, Stmt, Stmts, set, default, Dir, Item, port, wire, reg, mem, const, drive, on, inst, repeat, const-if, Header}
+use Rattle.spec.specs.Syntax.{name-bound, number-bound, out-kind, Expr, Width, Index, LValue, Stmt, Stmts, set, default, Dir, Item, port, reg, mem, drive, on, Header}
 use Rattle.spec.specs.Show.{show-index, show-lvalue, show-stmt, show-stmts}
-use Rattle.spec.specs.Decode.{decode-expr}
 use Rattle.spec.specs.Refusal.{index-depth, stmt-depth, stmts-depth, stmt-in-range, stmts-in-range}
 use Rattle.spec.specs.Value.{Value, Names, value, is-outside}
 use Rattle.spec.specs.Site.{kind-of, lvalue-extent, index-constants, line-constants, any-outside, Misused, stmt-misuses, stmts-misuses}
@@ -28,13 +28,13 @@ use Rattle.items.specs.declared.Extended as E
 use Rattle.items.specs.declared.Extended.the-variants as extended
 use Rattle.items.specs.Held.{Held, OwnAfter}
 
--- the bytes x stand in the text from `base` on, and each place of the text is a word
+-- 01, The line: the bytes x stand in the text from `base` on, and each place of the text is a word
 pub record StandsAt (text : Bytes) (base : ℕ) (x : Bytes) : Type 0 where
   pub here : x ≡ take (length x) (drop base text)
   pub inside : base + length x ≤ length text
   pub short : length text < 4294967296
 
--- the counts are 0, and every other word stays
+-- 01, The site; The block: the counts of the tables are 0, and every other word stays
 pub record Emptied (old new : List ℕ) : Type 0 where
   pub size : length new ≡ length old
   pub counts : (k : ℕ) → k < 7 → getD new k 0 ≡ 0
@@ -52,6 +52,7 @@ pub record NamedIs (r : Named) (x : Bytes) (n s : ℕ) (xs : List Bytes) : Type 
   pub start : r .start ≡ s
   pub behind : drop (r .end) x ≡ show-rest xs
 
+-- r says so of what stands behind the byte at `before`
 abbrev pub NamedAt : Named → Bytes → ℕ → Type 0
 NamedAt r x before =
     (n start : ℕ) (xs : List Bytes) → drop before x ≡ show-rest (show-number n ∷ show-number start ∷ xs) → n < name-bound → start < number-bound
@@ -78,20 +79,21 @@ pub record ShowsStmts (x : Bytes) (end d : ℕ) (ss : Stmts) : Type 0 where
 
 -- ---- 01, The site: a drive
 
--- the value of a constant, if it is not outside INT
+-- 01, The value: the value of a constant, if it is not outside INT. 01, Refused because of the state: or it is
 pub record ConstantIs (r : Constant) (v : Value) : Type 0 where
   pub out : r .out ≡ is-outside v
   pub within : r .out ≡ false → v ≡ value-of (r .known) (r .value)
 
--- the extent of an index, or one of its constants is outside INT
+-- the extent of an index. 01, Refused because of the state: or one of its constants is outside INT
 abbrev pub ExtentIs : E.Extended → Bool → Names → Index → Type 0
 ExtentIs (extended.Is e) bound names i = (any-outside names (index-constants i) ≡ false) × (extent-of e ≡ lvalue-extent bound names i)
 ExtentIs extended.Outside bound names i = any-outside names (index-constants i) ≡ true
 
+-- r says so of the index that stands behind the part that ends at `end`
 abbrev pub ExtentAt : E.Extended → Bytes → ℕ → Bool → ℕ → Names → Type 0
 ExtentAt r x end bound d names = (i : Index) → drop end x ≡ show-rest (show-index i) → index-depth i ≤ d → ExtentIs r bound names i
 
--- ---- 01, The block: statements
+-- ---- 01, The block; The site: statements
 
 -- the tables with these pairs and misuses more, each where it is new
 abbrev pub with-block : List Pair → List Misused → Own → Own
@@ -105,60 +107,68 @@ with-block ps ms o =
       misuses = add-all same-misused ms (o .misuses);
     }
 
--- what statements leave: their pairs and misuses; or there are too many pairs
+-- what statements leave: their pairs and misuses. 01, Refused because of the state: or there are too many pairs
 abbrev pub BlockAfter : Bool → Bytes → List ℕ → List Pair → List Misused → Own → Type 0
 BlockAfter true text own ps ms o = Held text own (with-block ps ms o)
 BlockAfter false text own ps ms o = ltb pair-limit (length (add-all same-pair ps (o .pairs))) ≡ true
 
--- the tables after a `set`, or a `default`
-abbrev pub SetAfter : Bool → Bytes → ℕ → List ℕ → List ℕ → List ℕ → Type 0
-SetAfter r x block kinds own own′ =
-    (n start d : ℕ) → ShowsStmt x d (set n start) → (header : List Header) → KindsOf kinds header
-    → (text : Bytes) (o : Own) → Held text own o → BlockAfter r text own′ (stmt-pairs (set n start) header block) (stmt-misuses (set n start) header) o
-
-abbrev pub DefaultAfter : Bool → Bytes → ℕ → List ℕ → List ℕ → List ℕ → Type 0
-DefaultAfter r x block kinds own own′ =
-    (n d : ℕ) → ShowsStmt x d (default n) → (header : List Header) → KindsOf kinds header
-    → (text : Bytes) (o : Own) → Held text own o → BlockAfter r text own′ (stmt-pairs (default n) header block) (stmt-misuses (default n) header) o
-
-abbrev pub StmtAfter : Bool → Bytes → ℕ → ℕ → List ℕ → List ℕ → List ℕ → Type 0
-StmtAfter r x block d kinds own own′ =
-    (s : Stmt) → ShowsStmt x d s → (header : List Header) → KindsOf kinds header
+-- what the statement s leaves, where the bytes x show it
+abbrev pub OneAfter : Bool → Bytes → ℕ → ℕ → List ℕ → List ℕ → List ℕ → Stmt → Type 0
+OneAfter r x block d kinds own own′ s =
+    ShowsStmt x d s → (header : List Header) → KindsOf kinds header
     → (text : Bytes) (o : Own) → Held text own o → BlockAfter r text own′ (stmt-pairs s header block) (stmt-misuses s header) o
 
+-- a `set`
+abbrev pub SetAfter : Bool → Bytes → ℕ → List ℕ → List ℕ → List ℕ → Type 0
+SetAfter r x block kinds own own′ = (n start d : ℕ) → OneAfter r x block d kinds own own′ (set n start)
+
+-- a `default`
+abbrev pub DefaultAfter : Bool → Bytes → ℕ → List ℕ → List ℕ → List ℕ → Type 0
+DefaultAfter r x block kinds own own′ = (n d : ℕ) → OneAfter r x block d kinds own own′ (default n)
+
+-- any statement
+abbrev pub StmtAfter : Bool → Bytes → ℕ → ℕ → List ℕ → List ℕ → List ℕ → Type 0
+StmtAfter r x block d kinds own own′ = (s : Stmt) → OneAfter r x block d kinds own own′ s
+
+-- the statements behind the part that ends at `end`
 abbrev pub StmtsAfter : Bool → Bytes → ℕ → ℕ → ℕ → List ℕ → List ℕ → List ℕ → Type 0
 StmtsAfter r x end block d kinds own own′ =
     (ss : Stmts) → ShowsStmts x end d ss → (header : List Header) → KindsOf kinds header
     → (text : Bytes) (o : Own) → Held text own o → BlockAfter r text own′ (stmts-pairs ss header block) (stmts-misuses ss header) o
 
--- ---- 01, The collected item: lines
+-- ---- 01, The site; The block: lines
 
 -- what a line leaves that evaluates nothing and passes no limit, whatever the module
 abbrev pub Leaves : Bytes → List ℕ → Item → Own → Type 0
 Leaves text own i o = (bound : Bool) (header : List Header) (names : Names) → OwnAfter true text own bound header names i o
 
+-- 01, The site: a `port` line
 abbrev pub PortLine : Bytes → ℕ → List ℕ → List ℕ → Type 0
 PortLine x base own own′ =
     (text : Bytes) (dir : Dir) (n : ℕ) (w : Width) (start d : ℕ) → ShowsItem x d (port dir n w start) → StandsAt text base x
     → (o : Own) → Held text own o → Leaves text own′ (port dir n w start) o
 
+-- 01, The block: a `reg` line
 abbrev pub RegLine : Bytes → List ℕ → List ℕ → Type 0
 RegLine x own own′ = (text : Bytes) (n start d : ℕ) → ShowsItem x d (reg n start) → (o : Own) → Held text own o → Leaves text own′ (reg n start) o
 
+-- 01, The block: a `mem` line
 abbrev pub MemLine : Bytes → List ℕ → List ℕ → Type 0
 MemLine x own own′ = (text : Bytes) (n start d : ℕ) → ShowsItem x d (mem n start) → (o : Own) → Held text own o → Leaves text own′ (mem n start) o
 
--- the drive of an output, of which l has the name and the START
+-- 01, The site: the drive of an output, of which l has the name and the START
 abbrev pub DriveOutput : Bool → Bytes → Named → Bool → ℕ → Names → List ℕ → List ℕ → Type 0
 DriveOutput r x l bound d names own own′ =
     (lv : LValue) (e : Expr) → ShowsLValue x d lv → NamedIs l x (lv .name) (lv .start) (show-index (lv .index)) → (header : List Header)
     → kind-of header (lv .name) ≡ some out-kind → (text : Bytes) (o : Own) → Held text own o → OwnAfter r text own′ bound header names (drive lv e) o
 
+-- 01, The site: a `drive` line
 abbrev pub DriveLine : Bool → Bytes → Bool → ℕ → List ℕ → Names → List ℕ → List ℕ → Type 0
 DriveLine r x bound d kinds names own own′ =
     (lv : LValue) (e : Expr) → ShowsItem x d (drive lv e) → (header : List Header) → KindsOf kinds header
     → (text : Bytes) (o : Own) → Held text own o → OwnAfter r text own′ bound header names (drive lv e) o
 
+-- 01, The block; The site: an `on` line
 abbrev pub OnLine : Bool → Bytes → ℕ → List ℕ → List ℕ → List ℕ → Type 0
 OnLine r x d kinds own own′ =
     (start : ℕ) (ss : Stmts) → ShowsItem x d (on start ss) → (header : List Header) → KindsOf kinds header
@@ -170,7 +180,8 @@ OwnLine r x base bound d kinds names own own′ =
     (text : Bytes) (i : Item) → ShowsItem x d i → plain i ≡ true → StandsAt text base x → (header : List Header) → KindsOf kinds header
     → (o : Own) → Held text own o → OwnAfter r text own′ bound header names i o
 
--- in a summary's walk, which has no own tables: whether a constant of the line is outside INT
+-- 01, The value; Refused because of the state: in a summary's walk, which has no own tables: whether a constant of the line is outside
+-- INT
 abbrev pub OutsideIs : Bool → Bytes → ℕ → List ℕ → Names → Type 0
 OutsideIs r x d kinds names =
     (i : Item) → ShowsItem x d i → plain i ≡ true → (header : List Header) → KindsOf kinds header → r ≡ any-outside names (line-constants header i)

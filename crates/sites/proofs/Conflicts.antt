@@ -12,7 +12,7 @@ use lib.Seq.{sets, length-sets, getD-set-same, getD-set-other, ext-getD}
 use borrow.Author.Tests.{eq-eqb, ne-eqb, eqb-true, eqb-false, lt-ltb, le-ltb}
 use Rattle.spec.specs.Refusal.{has-name}
 use Rattle.spec.specs.Site.{Site, Conflict, Misused, conflict-before, insert-conflict, with-conflict, conflicts, conflict-names, misused-names, first-conflict, sites-of}
-use Rattle.sites.specs.Own.{Table, run, row, rows-in, items, own-of, row-names, with-conflicts, skip-at, conflict-table, conflict-from, site-table, pair-table, port-table, reg-table, mem-table, misuse-table, site-from, pair-from, port-from, storage-from, misused-from, poisoned-names, Front, conflict-rows, conflict-row, conflict-of, pushed, site-row, misuse-poison, conflict-step, names-of, places}
+use Rattle.sites.specs.Own.{Table, run, row, rows-in, items, own-of, row-names, with-conflicts, skip-at, conflict-table, conflict-from, site-table, pair-table, port-table, reg-table, mem-table, misuse-table, site-from, pair-from, port-from, storage-from, misused-from, poisoned-names, Front, conflict-rows, conflict-row, conflict-of, pushed, site-row, misuse-poison, conflict-step, entry-names, places}
 use Rattle.sites.proofs.Added.{conflict-shape}
 use Rattle.sites.proofs.Rows.{run-ext, run-snoc, run-step, run-end, row-end, rows-limit, same-own, names-items, has-here, has-later, row-sets-above, row-sets-before, row-sets-same, row-length, row-at, run-length, pushed-items, grown-room, push-room, getD-sets-below}
 
@@ -157,13 +157,13 @@ module _ (poison : List ℕ) (f : ℕ → Site) (name : ℕ) where
   unfolding skip-at
   skip-end i e = ap (λ (k : ℕ). has-name name (skip-at poison f k)) (sym e)
 
-misused-are : (l : List Misused) → misused-names l ≡ names-of (λ m. m .name) l
-unfolding misused-names names-of
+misused-are : (l : List Misused) → misused-names l ≡ entry-names (λ m. m .name) l
+unfolding misused-names entry-names
 misused-are [] = refl
 misused-are (m ∷ l) = ap (λ k. m .name ∷ k) (misused-are l)
 
-conflicts-are : (l : List Conflict) → conflict-names l ≡ names-of (λ m. m .name) l
-unfolding conflict-names names-of
+conflicts-are : (l : List Conflict) → conflict-names l ≡ entry-names (λ m. m .name) l
+unfolding conflict-names entry-names
 conflicts-are [] = refl
 conflicts-are (m ∷ l) = ap (λ k. m .name ∷ k) (conflicts-are l)
 

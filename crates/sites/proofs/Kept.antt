@@ -10,7 +10,7 @@ use borrow.Author.Tests.{eq-eqb, eqb-true}
 use Rattle.spec.specs.Refusal.{has-name}
 use Rattle.spec.specs.Site.{Misused, Output, once-a-name, first-lines}
 use Rattle.spec.specs.Block.{Pair, Storage, has-pair, different-pairs, block-count, first-storage}
-use Rattle.sites.specs.Own.{names-of}
+use Rattle.sites.specs.Own.{entry-names}
 
 -- whether two pairs are the same
 same-pair : Pair → Pair → Bool
@@ -188,11 +188,11 @@ module _ {A : Type 0} (nm : A → ℕ) where
 
   -- whether a name is among those before or among those of a list
   abbrev known : List ℕ → List A → A → Bool
-  known seen l x = has-name (nm x) seen || has-name (nm x) (names-of nm l)
+  known seen l x = has-name (nm x) seen || has-name (nm x) (entry-names nm l)
 
   known-cons : (seen : List ℕ) (y : A) (l : List A) (x : A) → known seen (y ∷ l) x ≡ known (nm y ∷ seen) l x
-  unfolding names-of has-name
-  known-cons seen y l x = go (has-name (nm x) seen) (eqb (nm x) (nm y)) (has-name (nm x) (names-of nm l))
+  unfolding entry-names has-name
+  known-cons seen y l x = go (has-name (nm x) seen) (eqb (nm x) (nm y)) (has-name (nm x) (entry-names nm l))
     where
       go : (a b c : Bool) → (a || (b || c)) ≡ ((b || a) || c)
       go true true c = refl
@@ -201,18 +201,18 @@ module _ {A : Type 0} (nm : A → ℕ) where
       go false false c = refl
 
   known-again : (seen : List ℕ) (y : A) (l : List A) (x : A) → has-name (nm y) seen ≡ true → known seen (y ∷ l) x ≡ known seen l x
-  unfolding names-of has-name
+  unfolding entry-names has-name
   known-again seen y l x e = go (eqb (nm x) (nm y)) refl
     where
       go : (t : Bool) → eqb (nm x) (nm y) ≡ t → known seen (y ∷ l) x ≡ known seen l x
       go true d =
           let h : has-name (nm x) seen ≡ true = ap (λ (k : ℕ). has-name k seen) (eqb-true (nm x) (nm y) d) ∙ e in
-          (λ i. h i || has-name (nm x) (names-of nm (y ∷ l))) ∙ sym (λ i. h i || has-name (nm x) (names-of nm l))
-      go false d = λ i. has-name (nm x) seen || (d i || has-name (nm x) (names-of nm l))
+          (λ i. h i || has-name (nm x) (entry-names nm (y ∷ l))) ∙ sym (λ i. h i || has-name (nm x) (entry-names nm l))
+      go false d = λ i. has-name (nm x) seen || (d i || has-name (nm x) (entry-names nm l))
 
   firsts-both : (seen : List ℕ) (l : List A) (x : A)
       → (known seen l x ≡ true → firsts seen (l ++ x ∷ []) ≡ firsts seen l) × (known seen l x ≡ false → firsts seen (l ++ x ∷ []) ≡ firsts seen l ++ x ∷ [])
-  unfolding firsts names-of has-name
+  unfolding firsts entry-names has-name
   firsts-both seen [] x = go (has-name (nm x) seen) refl
     where
       go : (t : Bool) → has-name (nm x) seen ≡ t → ((has-name (nm x) seen || false) ≡ true → firsts seen (x ∷ []) ≡ []) × ((has-name (nm x) seen || false) ≡ false → firsts seen (x ∷ []) ≡ x ∷ [])
@@ -236,11 +236,11 @@ module _ {A : Type 0} (nm : A → ℕ) where
           )
 
   -- a line whose name was seen adds nothing, any other stands last
-  pub firsts-old : (l : List A) (x : A) → has-name (nm x) (names-of nm l) ≡ true → firsts [] (l ++ x ∷ []) ≡ firsts [] l
+  pub firsts-old : (l : List A) (x : A) → has-name (nm x) (entry-names nm l) ≡ true → firsts [] (l ++ x ∷ []) ≡ firsts [] l
   unfolding has-name
   firsts-old l x h = firsts-both [] l x .0 h
 
-  pub firsts-last : (l : List A) (x : A) → has-name (nm x) (names-of nm l) ≡ false → firsts [] (l ++ x ∷ []) ≡ firsts [] l ++ x ∷ []
+  pub firsts-last : (l : List A) (x : A) → has-name (nm x) (entry-names nm l) ≡ false → firsts [] (l ++ x ∷ []) ≡ firsts [] l ++ x ∷ []
   unfolding has-name
   firsts-last l x h = firsts-both [] l x .1 h
 

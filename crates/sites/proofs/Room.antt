@@ -20,7 +20,7 @@ use Rattle.spec.proofs.Lists.{once-length, once-append}
 use Rattle.spec.proofs.Flags.{unnamed}
 use Rattle.sites.specs.declared.Stored.{Stored}
 use Rattle.sites.specs.declared.Stored.the-variants as stored
-use Rattle.sites.specs.Own.{Own, Port, own-of, no-rows, row, rows-in, site-table, pair-table, site-from, pair-from, names, names-of, first-kept, grown, room, added, add-site, add-pair, add-output, add-reg, add-mem, add-misuse, with-pairs}
+use Rattle.sites.specs.Own.{Own, Port, own-of, no-rows, row, rows-in, site-table, pair-table, site-from, pair-from, names, entry-names, first-kept, grown, room, added, add-site, add-pair, add-output, add-reg, add-mem, add-misuse, with-pairs}
 use Rattle.sites.proofs.Rows.{run-length, rows-limit}
 use Rattle.sites.proofs.Kept.{with-pair}
 
@@ -52,23 +52,23 @@ length-end (y ∷ l) x = omega (arith, length-end l x)
 module _ {A : Type 0} (nm : A → ℕ) where
   -- each name once, and all below the bound
   pub record Distinct (l : List A) : Type 0 where
-    pub once : Once (names-of nm l)
-    pub below : (n : ℕ) → n ∈ names-of nm l → n < names
+    pub once : Once (entry-names nm l)
+    pub below : (n : ℕ) → n ∈ entry-names nm l → n < names
 
   abbrev same-name : A → A → Bool
   same-name a b = eqb (nm a) (nm b)
 
   pub distinct-none : Distinct []
-  unfolding names-of
+  unfolding entry-names
   distinct-none = record { once = tt; below = λ n i. absurd (List·Memᴰ·not-nil i) }
 
-  names-end : (l : List A) (x : A) → names-of nm (l ++ x ∷ []) ≡ names-of nm l ++ nm x ∷ []
-  unfolding names-of
+  names-end : (l : List A) (x : A) → entry-names nm (l ++ x ∷ []) ≡ entry-names nm l ++ nm x ∷ []
+  unfolding entry-names
   names-end [] x = refl
   names-end (y ∷ l) x = ap (λ (k : List ℕ). nm y ∷ k) (names-end l x)
 
-  names-length : (l : List A) → length (names-of nm l) ≡ length l
-  unfolding names-of
+  names-length : (l : List A) → length (entry-names nm l) ≡ length l
+  unfolding entry-names
   names-length [] = refl
   names-length (y ∷ l) = ap suc (names-length l)
 
@@ -79,34 +79,34 @@ module _ {A : Type 0} (nm : A → ℕ) where
       go (inl e) = e
       go (inr j) = absurd (List·Memᴰ·not-nil j)
 
-  distinct-more : (l : List A) (x : A) → Distinct l → nm x < names → has-name (nm x) (names-of nm l) ≡ false → Distinct (l ++ x ∷ [])
+  distinct-more : (l : List A) (x : A) → Distinct l → nm x < names → has-name (nm x) (entry-names nm l) ≡ false → Distinct (l ++ x ∷ [])
   distinct-more l x d h e =
       record {
-        once = subst Once (sym (names-end l x)) (once-append (d .once) (List·Memᴰ·not-nil, tt) (λ n i j. unnamed e (subst (λ (k : ℕ). k ∈ names-of nm l) (one-name j) i)));
-        below = λ n i. go n (List·Memᴰ·append-cases (names-of nm l) (subst (λ (k : List ℕ). n ∈ k) (names-end l x) i));
+        once = subst Once (sym (names-end l x)) (once-append (d .once) (List·Memᴰ·not-nil, tt) (λ n i j. unnamed e (subst (λ (k : ℕ). k ∈ entry-names nm l) (one-name j) i)));
+        below = λ n i. go n (List·Memᴰ·append-cases (entry-names nm l) (subst (λ (k : List ℕ). n ∈ k) (names-end l x) i));
       }
     where
-      go : (n : ℕ) → (n ∈ names-of nm l) ⊎ (n ∈ (nm x ∷ [])) → n < names
+      go : (n : ℕ) → (n ∈ entry-names nm l) ⊎ (n ∈ (nm x ∷ [])) → n < names
       go n (inl i) = d .below n i
       go n (inr j) = subst (λ (k : ℕ). k < names) (sym (one-name j)) h
 
   -- no more lines than there are names
   pub distinct-few : (l : List A) → Distinct l → length l ≤ names
   distinct-few l d =
-      let p = once-length (names-of nm l) (countdown names) (d .once) (λ n i. in-countdown names n (d .below n i)) in
-      subst (λ (k : ℕ). k ≤ names) (names-length l) (subst (λ (k : ℕ). length (names-of nm l) ≤ k) (length-countdown names) p)
+      let p = once-length (entry-names nm l) (countdown names) (d .once) (λ n i. in-countdown names n (d .below n i)) in
+      subst (λ (k : ℕ). k ≤ names) (names-length l) (subst (λ (k : ℕ). length (entry-names nm l) ≤ k) (length-countdown names) p)
 
   -- so there is room for a name that is not there
-  distinct-room : (l : List A) (x : A) → Distinct l → nm x < names → has-name (nm x) (names-of nm l) ≡ false → length l < names
+  distinct-room : (l : List A) (x : A) → Distinct l → nm x < names → has-name (nm x) (entry-names nm l) ≡ false → length l < names
   distinct-room l x d h e = let p = distinct-few (l ++ x ∷ []) (distinct-more l x d h e) in omega (arith, length-end l x)
 
-  has-among : (x : A) (l : List A) → has-name (nm x) (names-of nm l) ≡ among same-name x l
-  unfolding has-name names-of among
+  has-among : (x : A) (l : List A) → has-name (nm x) (entry-names nm l) ≡ among same-name x l
+  unfolding has-name entry-names among
   has-among x [] = refl
   has-among x (y ∷ l) = go (eqb (nm x) (nm y)) (has-among x l)
     where
-      go : (b : Bool) → has-name (nm x) (names-of nm l) ≡ among same-name x l
-          → (b || has-name (nm x) (names-of nm l)) ≡ elim b as (λ _. Bool) [ true ↦ true | false ↦ among same-name x l ]
+      go : (b : Bool) → has-name (nm x) (entry-names nm l) ≡ among same-name x l
+          → (b || has-name (nm x) (entry-names nm l)) ≡ elim b as (λ _. Bool) [ true ↦ true | false ↦ among same-name x l ]
       go true e = refl
       go false e = e
 
@@ -116,14 +116,14 @@ module _ {A : Type 0} (nm : A → ℕ) where
   unfolding first-kept grown
   first-kept-new x l d h = go (among same-name x l) (has-among x l)
     where
-      go : (b : Bool) → has-name (nm x) (names-of nm l) ≡ b → first-kept nm x l ≡ elim b as (λ _. List A) [ true ↦ l | false ↦ l ++ x ∷ [] ]
+      go : (b : Bool) → has-name (nm x) (entry-names nm l) ≡ b → first-kept nm x l ≡ elim b as (λ _. List A) [ true ↦ l | false ↦ l ++ x ∷ [] ]
       go true e = rw (e, first-kept)
       go false e = rw (e, first-kept, lt-ltb (length l) names (distinct-room l x d h e), grown)
 
   pub first-kept-distinct : (x : A) (l : List A) → Distinct l → nm x < names → Distinct (first-kept nm x l)
   first-kept-distinct x l d h = subst Distinct (sym (first-kept-new x l d h)) (go (among same-name x l) (has-among x l))
     where
-      go : (b : Bool) → has-name (nm x) (names-of nm l) ≡ b → Distinct (elim b as (λ _. List A) [ true ↦ l | false ↦ l ++ x ∷ [] ])
+      go : (b : Bool) → has-name (nm x) (entry-names nm l) ≡ b → Distinct (elim b as (λ _. List A) [ true ↦ l | false ↦ l ++ x ∷ [] ])
       go true e = d
       go false e = distinct-more l x d h e
 

@@ -12,7 +12,7 @@ use borrow.Author.Tests.{eq-eqb, ne-eqb, leb-true, lt-ltb, le-ltb, ltb-true, ltb
 use Rattle.sites.specs.declared.Stored.the-variants as stored
 use lib.ListN.{length, getD, set, take, drop, length-take, length-drop, drop-of-length-le}
 use lib.Seq.{sets, drop-cons, sets-eq, length-sets, drop-set-lt, drop-set-add, take-set-le, drop-at, take-at, length-take-le, getD-set-same, getD-set-other, getD-take, getD-drop}
-use Rattle.sites.specs.Own.{Table, Shape, run, row, rows-in, items, stored-row, pushed, push-answer, row-names, first-row, names-of, grown, room, first-kept, names, Own}
+use Rattle.sites.specs.Own.{Table, Shape, run, row, rows-in, items, stored-row, pushed, push-answer, row-names, first-row, entry-names, grown, room, first-kept, names, Own}
 
 -- runs
 pub run-ext : {A : Type 0} (f g : ℕ → A) (i n : ℕ) → ((j : ℕ) → i ≤ j → j < i + n → f j ≡ g j) → run f i n ≡ run g i n
@@ -257,13 +257,13 @@ unfolding row-names
 names-are t own = refl
 
 -- the names of a table's records
-names-run : {A : Type 0} (nm : A → ℕ) (g : ℕ → A) (i n : ℕ) → names-of nm (run g i n) ≡ run (λ j. nm (g j)) i n
-unfolding names-of run
+names-run : {A : Type 0} (nm : A → ℕ) (g : ℕ → A) (i n : ℕ) → entry-names nm (run g i n) ≡ run (λ j. nm (g j)) i n
+unfolding entry-names run
 names-run nm g i zero = refl
 names-run nm g i (suc n) = ap (λ l. nm (g i) ∷ l) (names-run nm g (suc i) n)
 
 pub names-items : {A : Type 0} (nm : A → ℕ) (f : List ℕ → A) (t : Table) (own : List ℕ) → ((r : List ℕ) → nm (f r) ≡ getD r 0 0) → 0 < t .width
-    → names-of nm (items f t own) ≡ row-names t own
+    → entry-names nm (items f t own) ≡ row-names t own
 unfolding row-names
 names-items nm f t own q w =
     names-run nm (λ i. f (row t own i)) 0 (rows-in t own)
@@ -315,8 +315,8 @@ module _ {A : Type 0} (f : List ℕ → A) (t : Table) (own vs : List ℕ) (s : 
   unfolding first-kept
   first-items nm q d = go (has-name (getD vs 0 0) (row-names t own)) refl
     where
-      z : has-name (nm (f vs)) (names-of nm (items f t own)) ≡ has-name (getD vs 0 0) (row-names t own)
-      z = ap (λ (k : ℕ). has-name k (names-of nm (items f t own))) (q vs) ∙ ap (has-name (getD vs 0 0)) (names-items nm f t own q (s .some))
+      z : has-name (nm (f vs)) (entry-names nm (items f t own)) ≡ has-name (getD vs 0 0) (row-names t own)
+      z = ap (λ (k : ℕ). has-name k (entry-names nm (items f t own))) (q vs) ∙ ap (has-name (getD vs 0 0)) (names-items nm f t own q (s .some))
 
       go : (b : Bool) → has-name (getD vs 0 0) (row-names t own) ≡ b → items f t (first-row t own vs) ≡ first-kept nm (f vs) (items f t own)
       go true e = ap (items f t) (sym (first-seen t own vs e)) ∙ sym (rw (z ∙ e, first-kept))

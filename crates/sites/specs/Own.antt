@@ -1,4 +1,5 @@
--- The tables of a module's own check, all in one run of numbers, and what it means. 01: The site; The block.
+-- The tables of a module's own check, all in one run of numbers, and what it means. 01: The value; The site; The block; Refused because
+-- of the state.
 -- Assumes nothing: these are definitions.
 use mathlib.Core.Path.{_≡_}
 use mathlib.Core.Bool.{Bool, true, false, _&&_, _||_}
@@ -60,6 +61,7 @@ pub record Table : Type 0 where
 abbrev pub names : ℕ
 names = name-bound
 
+-- the seven tables: the counts stand first, then the rows of each. 01, Refused because of the state: 1,024 sites, 512 pairs
 abbrev pub site-table : Table
 site-table = record { count = 0; base = 8; width = 5; limit = site-limit }
 
@@ -90,6 +92,7 @@ unfoldable pub run : {A : Type 0} → (ℕ → A) → ℕ → ℕ → List A
 run f i zero = []
 run f i (suc n) = f i ∷ run f (suc i) n
 
+-- the numbers of row i
 unfoldable pub row : Table → List ℕ → ℕ → List ℕ
 row t own i = take (t .width) (drop (t .base + t .width * i) own)
 
@@ -97,6 +100,7 @@ row t own i = take (t .width) (drop (t .base + t .width * i) own)
 unfoldable pub rows-in : Table → List ℕ → ℕ
 rows-in t own = min (getD own (t .count) 0) (t .limit)
 
+-- the rows of a table, f giving what each means
 abbrev pub items : {A : Type 0} → (List ℕ → A) → Table → List ℕ → List A
 items f t own = run (λ i. f (row t own i)) 0 (rows-in t own)
 
@@ -115,6 +119,7 @@ pub record Shape (t : Table) (own : List ℕ) : Type 0 where
 abbrev pub stored-row : Table → List ℕ → ℕ → List ℕ → List ℕ
 stored-row t own n vs = set (sets own (t .base + t .width * n) vs) (t .count) (n + 1)
 
+-- the same, where the table has room; and whether it has
 unfoldable pub pushed : Table → List ℕ → List ℕ → List ℕ
 pushed t own vs = elim (ltb (rows-in t own) (t .limit)) [ true ↦ stored-row t own (rows-in t own) vs | false ↦ own ]
 
@@ -214,26 +219,30 @@ added r o = record { answer = r; own = o }
 unfoldable pub grown : {A : Type 0} → ℕ → A → List A → List A
 grown limit x l = elim (ltb (length l) limit) [ true ↦ l ++ x ∷ [] | false ↦ l ]
 
+-- whether there is room
 abbrev pub room : {A : Type 0} → ℕ → List A → Stored
 room limit l = elim (ltb (length l) limit) [ true ↦ stored.Done | false ↦ stored.Full ]
 
-unfoldable pub names-of : {A : Type 0} → (A → ℕ) → List A → List ℕ
-names-of f [] = []
-names-of f (x ∷ l) = f x ∷ names-of f l
+-- the names of some entries
+unfoldable pub entry-names : {A : Type 0} → (A → ℕ) → List A → List ℕ
+entry-names f [] = []
+entry-names f (x ∷ l) = f x ∷ entry-names f l
 
 -- the first of each name is kept, at most `names` of them
 unfoldable pub first-kept : {A : Type 0} → (A → ℕ) → A → List A → List A
-first-kept f x l = elim (has-name (f x) (names-of f l)) [ true ↦ l | false ↦ grown names x l ]
+first-kept f x l = elim (has-name (f x) (entry-names f l)) [ true ↦ l | false ↦ grown names x l ]
 
--- 01, Refused because of the state: 1,024 sites, 512 pairs of name and block
+-- 01, Refused because of the state: 1,024 sites
 unfoldable pub add-site : site.Site → Own → Added
 add-site s o =
     added (room site-limit (o .sites))
     (record { sites = grown site-limit s (o .sites); pairs = o .pairs; outputs = o .outputs; regs = o .regs; mems = o .mems; misuses = o .misuses; conflicts = o .conflicts })
 
+-- the tables with these pairs
 abbrev pub with-pairs : List Pair → Own → Own
 with-pairs ps o = record { sites = o .sites; pairs = ps; outputs = o .outputs; regs = o .regs; mems = o .mems; misuses = o .misuses; conflicts = o .conflicts }
 
+-- 01, Refused because of the state: 512 pairs of name and block, each once
 unfoldable pub add-pair : Pair → Own → Added
 add-pair p o =
     elim (has-pair p (o .pairs)) [
@@ -241,27 +250,31 @@ add-pair p o =
       | false ↦ added (room pair-limit (o .pairs)) (with-pairs (grown pair-limit p (o .pairs)) o)
     ]
 
+-- 01, The site: each collected output, first port line
 unfoldable pub add-output : Port → Own → Own
 add-output x o = record { sites = o .sites; pairs = o .pairs; outputs = first-kept (λ p. p .name) x (o .outputs); regs = o .regs; mems = o .mems; misuses = o .misuses; conflicts = o .conflicts }
 
+-- 01, The block: regs and mems too count by their first collected line
 unfoldable pub add-reg : Storage → Own → Own
 add-reg x o = record { sites = o .sites; pairs = o .pairs; outputs = o .outputs; regs = first-kept (λ p. p .name) x (o .regs); mems = o .mems; misuses = o .misuses; conflicts = o .conflicts }
 
 unfoldable pub add-mem : Storage → Own → Own
 add-mem x o = record { sites = o .sites; pairs = o .pairs; outputs = o .outputs; regs = o .regs; mems = first-kept (λ p. p .name) x (o .mems); misuses = o .misuses; conflicts = o .conflicts }
 
+-- 01, The site: these three report once a name
 unfoldable pub add-misuse : Misused → Own → Own
 add-misuse x o = record { sites = o .sites; pairs = o .pairs; outputs = o .outputs; regs = o .regs; mems = o .mems; misuses = first-kept (λ p. p .name) x (o .misuses); conflicts = o .conflicts }
 
--- the whole number that is held as v + 2147483648
+-- 01, The value: the whole number that is held as v + 2147483648
 unfoldable pub unbiased : ℕ → ℤ
 unbiased v = elim (ltb v 2147483648) [ true ↦ negsuc (2147483647 - v) | false ↦ pos (v - 2147483648) ]
 
--- a value that is known, or not (01 takes one outside INT for 20 before this matters)
+-- 01, The value: a value that is known, or not (one outside INT gives 20 before this matters)
 abbrev pub value-of : Bool → ℕ → Value
 value-of true v = known (unbiased v)
 value-of false v = missing
 
+-- what was found, or none
 abbrev pub found-of : Found → Option ℕ
 found-of (found.At x) = some x
 found-of found.Nothing = none
@@ -281,6 +294,7 @@ blocks-by zero = blocks.None
 blocks-by (suc zero) = blocks.One
 blocks-by (suc (suc n)) = blocks.Several
 
+-- whether an extent is a range
 abbrev pub range-test : site.Extent → Bool
 range-test site.Whole = false
 range-test site.Dynamic = false
@@ -314,6 +328,7 @@ unfoldable pub skip-at : List ℕ → (ℕ → site.Site) → ℕ → List ℕ
 skip-at poison f zero = poison
 skip-at poison f (suc k) = f k .name ∷ skip-at poison f k
 
+-- the tables with these conflicts
 abbrev pub with-conflicts : List Conflict → Own → Own
 with-conflicts cs o = record { sites = o .sites; pairs = o .pairs; outputs = o .outputs; regs = o .regs; mems = o .mems; misuses = o .misuses; conflicts = cs }
 
@@ -326,6 +341,7 @@ pub record Front (old new : List ℕ) : Type 0 where
   pub size : length new ≡ length old
   pub at : (j : ℕ) → j < conflict-table .base → ¬ (j ≡ conflict-table .count) → getD new j 0 ≡ getD old j 0
 
+-- the conflicts of a run of numbers
 abbrev pub conflict-rows : List ℕ → List Conflict
 conflict-rows own = items conflict-from conflict-table own
 
@@ -344,6 +360,7 @@ conflict-step own k cs =
       | false ↦ site.with-conflict (site-row own k .name) (site.first-conflict [] (site.sites-of (site-row own k .name) (items site-from site-table own))) cs
     ]
 
+-- the conflict in a row, and one by its parts
 abbrev pub conflict-row : List ℕ → ℕ → Conflict
 conflict-row own i = conflict-from (row conflict-table own i)
 

@@ -15,7 +15,7 @@ use Rattle.spec.specs.Summary.{Kept, kept-summary, triples, triple-limit, paire
 use Rattle.graph.specs.Reach.{words-below, found}
 use Rattle.edges.specs.Lines.{summary-at}
 use Rattle.walk.specs.Alike.{Alike}
-use Rattle.summary.specs.Keeps.{state-of, start-of, count-of, total-of, kept-places, pairs-of, StateIs, Keeps, recorded}
+use Rattle.summary.specs.Keeps.{state-word, start-of, count-of, total-of, kept-places, pairs-of, StateIs, Keeps, recorded}
 use Rattle.summary.specs.Pairs.{Grown, Added}
 use Rattle.summary.proofs.Table.{miss, pairs-same, Same, carried, name-other}
 
@@ -141,7 +141,7 @@ module _ {k₀ k : List ℕ} {ps s : Summary} {kept : Kept} {busy : List ℕ} (m
   total-same : total-of after ≡ total-of k
   total-same = untouched 96 (λ e. omega arith) (λ e. omega arith) (λ e. omega arith)
 
-  own-state : state-of after m ≡ 2
+  own-state : state-word after m ≡ 2
   unfolding recorded
   own-state = let z = g .sized in getD-set-same (set (set k (32 + m) (total-of k₀)) (64 + m) c) m 2 0 (simp length-set (omega arith))
 
@@ -183,11 +183,11 @@ module _ {k₀ k : List ℕ} {ps s : Summary} {kept : Kept} {busy : List ℕ} (m
   unfolding kept-summary
   found-other n d = rw (ne-eqb m n (λ e. d (sym e)), kept-summary)
 
-  each-state : (n : ℕ) → n < 32 → (b : Bool) → eqb n m ≡ b → StateIs (state-of after n) after n ((m, s) ∷ kept) busy
+  each-state : (n : ℕ) → n < 32 → (b : Bool) → eqb n m ≡ b → StateIs (state-word after n) after n ((m, s) ∷ kept) busy
   each-state n l true f =
       let t = g .total in
-      let own : StateIs (state-of after m) after m ((m, s) ∷ kept) busy =
-      rw own-state (s, found-here, rw own-pairs a, omega (arith, own-start, own-count, total-same)) in
+      let own : StateIs (state-word after m) after m ((m, s) ∷ kept) busy =
+      rw own-state ((s, found-here, rw own-pairs a), omega (arith, own-start, own-count, total-same)) in
       rw (eqb-true n m f) own
   each-state n l false f =
       let d : ¬ (n ≡ m) = eqb-false n m f in

@@ -15,7 +15,7 @@ use Rattle.spec.specs.Edge.{Summary}
 use Rattle.spec.specs.Summary.{Kept, kept-summary, triples}
 use Rattle.edges.specs.Lines.{summary-at}
 use Rattle.walk.specs.Alike.{Alike}
-use Rattle.summary.specs.Keeps.{state-of, start-of, count-of, total-of, kept-places, first-of, pairs-of, StateIs, Keeps, Says}
+use Rattle.summary.specs.Keeps.{state-word, start-of, count-of, total-of, kept-places, first-of, pairs-of, StateIs, Keeps, Says}
 use Rattle.summary.specs.declared.State.the-variants as states
 
 -- ---- words
@@ -33,7 +33,7 @@ pairs-same k k′ first (suc count) h =
 
 -- the words of module m, and all pairs, are as they were
 pub record Same (k k′ : List ℕ) (m : ℕ) : Type 0 where
-  pub state : state-of k′ m ≡ state-of k m
+  pub state : state-word k′ m ≡ state-word k m
   pub start : start-of k′ m ≡ start-of k m
   pub count : count-of k′ m ≡ count-of k m
   pub pairs : (i : ℕ) → 97 ≤ i → i < 97 + 2 * total-of k → getD k′ i 0 ≡ getD k i 0
@@ -45,12 +45,12 @@ module _ {k k′ : List ℕ} {m : ℕ} (s : Same k k′ m) (kept kept′ : Kept)
   carry zero h = (e ∙ h .0, f ∙ h .1)
   carry (suc zero) h = (e ∙ h .0, f ∙ h .1)
   carry (suc (suc n)) h =
-      let l = h .3 in
+      let l = h .1 in
       let p : pairs-of k′ m ≡ pairs-of k m = rw (s .start, s .count) (pairs-same k k′ (first-of k m) (count-of k m) (λ i a b. s .pairs i (omega arith) (omega arith))) in
-      (h .0, e ∙ h .1, rw p (h .2), omega (arith, s .start, s .count, s .total))
+      ((h .0 .0, e ∙ h .0 .1, rw p (h .0 .2)), omega (arith, s .start, s .count, s .total))
 
-  pub carried : StateIs (state-of k m) k m kept busy → StateIs (state-of k′ m) k′ m kept′ busy′
-  carried h = rw (s .state) (carry (state-of k m) h)
+  pub carried : StateIs (state-word k m) k m kept busy → StateIs (state-word k′ m) k′ m kept′ busy′
+  carried h = rw (s .state) (carry (state-word k m) h)
 
 -- ---- the names in progress
 
@@ -80,16 +80,16 @@ module _ {k : List ℕ} {kept : Kept} {busy : List ℕ} (h : Keeps k kept busy) 
       go : (n : ℕ) → ¬ (n ≡ 0) → ¬ (n ≡ 1) → StateIs n k m kept busy → Says states.Kept k m kept busy
       go zero a b t = absurd (a refl)
       go (suc zero) a b t = absurd (b refl)
-      go (suc (suc n)) a b t = (t .0, t .1, t .2)
+      go (suc (suc n)) a b t = t .0
 
 -- the pairs of a module whose summary is kept
 pub kept-pairs : {k : List ℕ} {kept : Kept} {busy : List ℕ} → Keeps k kept busy → (m : ℕ) → m < 32 → (s : Summary) → kept-summary kept m ≡ some s → Alike (pairs-of k m) s
-kept-pairs {k} {kept} {busy} h m small s e = go (state-of k m) (h .each m small)
+kept-pairs {k} {kept} {busy} h m small s e = go (state-word k m) (h .each m small)
   where
     go : (n : ℕ) → StateIs n k m kept busy → Alike (pairs-of k m) s
     go zero t = absurd (Option·none-ne-some s (sym (t .0) ∙ e))
     go (suc zero) t = absurd (Option·none-ne-some s (sym (t .0) ∙ e))
-    go (suc (suc n)) t = let d : t .0 ≡ s = cc (t .1) in rw d at (t .2)
+    go (suc (suc n)) t = let d : t .0 .0 ≡ s = cc (t .0 .1) in rw d at (t .0 .2)
 
 -- `begin`
 pub began : (k : List ℕ) (m : ℕ) {k′ : List ℕ} → k′ ≡ set k m 1 → (kept : Kept) (busy : List ℕ) → Keeps k kept busy → m < 32 → kept-summary kept m ≡ none → Keeps k′ kept (m ∷ busy)
@@ -102,11 +102,11 @@ began k m q kept busy h small e =
       few = h .few;
     })
   where
-    go : (n : ℕ) → n < 32 → (b : Bool) → eqb n m ≡ b → StateIs (state-of (set k m 1) n) (set k m 1) n kept (m ∷ busy)
+    go : (n : ℕ) → n < 32 → (b : Bool) → eqb n m ≡ b → StateIs (state-word (set k m 1) n) (set k m 1) n kept (m ∷ busy)
     go n l true f =
         let d = eqb-true n m f in
         let z = h .sized in
-        let o : state-of (set k m 1) n ≡ 1 = rw d (getD-set-same k m 1 0 (omega arith)) in
+        let o : state-word (set k m 1) n ≡ 1 = rw d (getD-set-same k m 1 0 (omega arith)) in
         rw o (rw d (e, name-first m busy))
     go n l false f =
         let d : ¬ (n ≡ m) = eqb-false n m f in
@@ -141,7 +141,7 @@ none-kept k z h q =
     rw q
     (record {
       sized = rw length-set z;
-      each = λ n l. let e : state-of (set k 96 0) n ≡ 0 = miss k 96 n 0 (λ d. omega arith) ∙ h n l in rw e (refl, refl);
+      each = λ n l. let e : state-word (set k 96 0) n ≡ 0 = miss k 96 n 0 (λ d. omega arith) ∙ h n l in rw e (refl, refl);
       total = zero-here k 96;
       few = omega arith;
     })

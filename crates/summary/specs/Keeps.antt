@@ -18,8 +18,8 @@ use Rattle.summary.specs.declared.State.the-variants as states
 
 -- Words of the table: 32 of each: state of a module (0 not asked for yet, 1 in progress, else kept), the number of its first pair, how
 -- many it has; then the number of all pairs; then the pairs, an output and an input each, 1,024 of them.
-abbrev pub state-of : List ℕ → ℕ → ℕ
-state-of k m = getD k m 0
+abbrev pub state-word : List ℕ → ℕ → ℕ
+state-word k m = getD k m 0
 
 abbrev pub start-of : List ℕ → ℕ → ℕ
 start-of k m = getD k (32 + m) 0
@@ -41,24 +41,24 @@ first-of k m = 97 + 2 * start-of k m
 abbrev pub pairs-of : List ℕ → ℕ → Summary
 pairs-of k m = summary-at k (first-of k m) (count-of k m)
 
--- a module of which the table has a summary, that is in progress, or neither
-abbrev pub StateIs : ℕ → List ℕ → ℕ → Kept → List ℕ → Type 0
-StateIs zero k m kept busy = (kept-summary kept m ≡ none) × (has-name m busy ≡ false)
-StateIs (suc zero) k m kept busy = (kept-summary kept m ≡ none) × (has-name m busy ≡ true)
-StateIs (suc (suc n)) k m kept busy = (s : Summary) × (kept-summary kept m ≡ some s) × Alike (pairs-of k m) s × (start-of k m + count-of k m ≤ total-of k)
-
--- the words k hold the summaries that are kept, and say which modules are in progress
-pub record Keeps (k : List ℕ) (kept : Kept) (busy : List ℕ) : Type 0 where
-  pub sized : kept-places ≤ length k
-  pub each : (m : ℕ) → m < 32 → StateIs (state-of k m) k m kept busy
-  pub total : total-of k ≡ triples kept
-  pub few : triples kept ≤ triple-limit
-
--- what the state of module m says
+-- what the state of module m says: no summary of it is kept and it is not in progress, it is in progress, or the table has its summary
 abbrev pub Says : S.State → List ℕ → ℕ → Kept → List ℕ → Type 0
 Says states.New k m kept busy = (kept-summary kept m ≡ none) × (has-name m busy ≡ false)
 Says states.Busy k m kept busy = (kept-summary kept m ≡ none) × (has-name m busy ≡ true)
 Says states.Kept k m kept busy = (s : Summary) × (kept-summary kept m ≡ some s) × Alike (pairs-of k m) s
+
+-- the state by its word; the pairs of a summary that is kept are among those counted
+abbrev pub StateIs : ℕ → List ℕ → ℕ → Kept → List ℕ → Type 0
+StateIs zero k m kept busy = Says states.New k m kept busy
+StateIs (suc zero) k m kept busy = Says states.Busy k m kept busy
+StateIs (suc (suc n)) k m kept busy = Says states.Kept k m kept busy × (start-of k m + count-of k m ≤ total-of k)
+
+-- the words k hold the summaries that are kept, and say which modules are in progress
+pub record Keeps (k : List ℕ) (kept : Kept) (busy : List ℕ) : Type 0 where
+  pub sized : kept-places ≤ length k
+  pub each : (m : ℕ) → m < 32 → StateIs (state-word k m) k m kept busy
+  pub total : total-of k ≡ triples kept
+  pub few : triples kept ≤ triple-limit
 
 -- module m is kept, with so many pairs from that number on
 unfoldable pub recorded : List ℕ → ℕ → ℕ → ℕ → List ℕ

@@ -23,7 +23,7 @@ use Rattle.spec.specs.Check.{site-limit, pair-limit, storage-reports, reg-repor
 use Rattle.spec.proofs.Collection.{collecting}
 use Rattle.spec.proofs.Nodes.{or-parts}
 use Rattle.walk.specs.Walk.{Got, full, going, then-go, unless, Walked, walked, walk-items, fold-lines, add-all, same-pair, State, no-own, begin, Walking, walking, over-own, answered, Answered, Asking, line-step, walk-module, make-walk, ask-walk, own-walk, Tally, poison, own-reports, check-one, check-all, check-fused}
-use Rattle.walk.specs.Fold.{own-lines, own-of, own-after, own-full, Agrees, stops, after, module-outside, some-outside, tally-of, module-walked, module-stops, Fused}
+use Rattle.walk.specs.Fold.{own-lines, own-of-lines, own-after, own-full, Agrees, stops, after, module-outside, some-outside, tally-of, module-walked, module-stops, Fused}
 use Rattle.walk.proofs.Fold.{items-fold}
 use Rattle.walk.proofs.Tables.{outputs-first, storage-first, misuses-first, pairs-length, pairs-count}
 use Rattle.walk.proofs.Lines.{or-neither, then-unless, elim-unless, lines-fold}
@@ -124,8 +124,8 @@ module _ (d : Design) (inside : some-outside d ≡ false) where
 
 -- ---- a module's own check
 
-own-first : (bound : Bool) (hs : List Header) (cs : List Collected) → own-lines bound hs cs no-own ≡ own-of bound hs cs
-unfolding own-lines own-of outputs regs mems
+own-first : (bound : Bool) (hs : List Header) (cs : List Collected) → own-lines bound hs cs no-own ≡ own-of-lines bound hs cs
+unfolding own-lines own-of-lines outputs regs mems
 own-first bound hs cs = λ i. record {
   sites = sites bound hs cs;
   pairs = add-all same-pair (all-pairs hs cs) [];
@@ -184,11 +184,11 @@ module _ (d : Design) (agrees : Agrees (ask-walk (suc (length d)) d []) (comb-su
   flags-are : (kept : Kept) (m : ℕ) (k : Module)
       → module-stops d k kept || widths-out (name-table (own-vals k) k .names) (poison (module-walked d k kept .state .own)) (module-walked d k kept .state .own .sites) (module-walked d k kept .state .own .outputs)
       ≡ check-module-drivers d kept m k .full
-  unfolding check-module-drivers module-stops module-walked over-own poison own-of pairs
+  unfolding check-module-drivers module-stops module-walked over-own poison own-of-lines pairs
   flags-are kept m k =
       let c = collection (own-vals k) k in
       let h = module-heads d kept k (c .lines) in
-      let o = own-of (k .bound) (k .header) (c .lines) in
+      let o = own-of-lines (k .bound) (k .header) (c .lines) in
       own-flags (name-table (own-vals k) k .out) (lines-outside (k .header) (c .lines)) (ltb site-limit (length (o .sites))) (ltb pair-limit (length (o .pairs)))
       (h .full) (over-graph (h .heads)) (widths-out (name-table (own-vals k) k .names) (poison o) (o .sites) (o .outputs))
       ∙ rw (pairs-length (all-pairs (k .header) (c .lines)))
@@ -197,7 +197,7 @@ module _ (d : Design) (agrees : Agrees (ask-walk (suc (length d)) d []) (comb-su
   tally-at m k r = record { reports = own-reports m (name-table (own-vals k) k .names) (r .state .own) (r .state .heads); rounds = round-limit - r .left; kept = r .state .kept }
 
   tally-are : (kept : Kept) (m : ℕ) (k : Module) → tally-at m k (module-walked d k kept) ≡ tally-of (check-module-drivers d kept m k)
-  unfolding check-module-drivers module-walked own-reports poison own-of pairs
+  unfolding check-module-drivers module-walked own-reports poison own-of-lines pairs
   tally-are kept m k =
       let c = collection (own-vals k) k in
       let ps = all-pairs (k .header) (c .lines) in

@@ -1,4 +1,5 @@
 -- Summaries that lead to the same edges: the code may find the inputs that an output reaches in another order than the definition.
+-- 01: The edge.
 -- Assumes nothing: these are definitions.
 use mathlib.Core.Path.{_≡_}
 use mathlib.Core.Bool.{true, false}

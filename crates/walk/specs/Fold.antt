@@ -1,4 +1,5 @@
 -- What ties the fused walk to the specification: the walk is the fold over the collected list, and the fused check is the check.
+-- 01: The collected item; The site; The block; The edge; The report; Refused because of the state.
 -- Assumes nothing: these are definitions and statements.
 use mathlib.Core.Path.{_≡_}
 use mathlib.Core.Logic.{_↔_}
@@ -15,7 +16,7 @@ use Rattle.spec.specs.Summary.{Kept, Asked, lines-heads, comb-summary, module-h
 use Rattle.spec.specs.Check.{Checked, check-design}
 use Rattle.walk.specs.Walk.{full, going, unless, Walked, walked, add-all, same-output, same-storage, same-misused, same-pair, Own, State, Walking, over-own, answered, Asking, Tally, ask-walk, own-walk, check-fused}
 
--- the own tables after some collected lines, from tables o on
+-- 01, The site; The block: the own tables after some collected lines, from tables o on
 unfoldable pub own-lines : Bool → List Header → List Collected → Own → Own
 own-lines bound hs cs o =
     record {
@@ -27,9 +28,10 @@ own-lines bound hs cs o =
       misuses = add-all same-misused (misuses hs cs) (o .misuses);
     }
 
--- the own tables of a module's collected lines, as the specification lists them; the different pairs stand at their first
-unfoldable pub own-of : Bool → List Header → List Collected → Own
-own-of bound hs cs =
+-- 01, The site; The block: the own tables of a module's collected lines, as the specification lists them; the different pairs stand at
+-- their first
+unfoldable pub own-of-lines : Bool → List Header → List Collected → Own
+own-of-lines bound hs cs =
     record {
       sites = sites bound hs cs;
       pairs = add-all same-pair (all-pairs hs cs) [];
@@ -39,62 +41,65 @@ own-of bound hs cs =
       misuses = once-a-name [] (misuses hs cs);
     }
 
--- the own tables in the module's own check (true) and in a summary's walk, which leaves them
+-- 01, The site; The block: the own tables in the module's own check (true) and in a summary's walk, which leaves them
 unfoldable pub own-after : Bool → Bool → List Header → List Collected → Own → Own
 own-after true bound hs cs o = own-lines bound hs cs o
 own-after false bound hs cs o = o
 
--- whether they pass a limit
+-- 01, Refused because of the state: whether they pass a limit
 unfoldable pub own-full : Bool → Own → Bool
 own-full true o = over-own o
 own-full false o = false
 
--- asking by the walk gives what the specification gives, or is full where that says so
+-- 01, The edge: asking by the walk gives what the specification gives, or is full where that says so
 abbrev pub Agrees : Asking → (Kept → ℕ → Asked) → Type 0
 Agrees ask by = (kept : Kept) (m : ℕ) → ask kept m ≡ unless (by kept m .full) (answered (by kept m .summary) (by kept m .kept))
 
--- whether the specification says that a walk over some collected lines passes a limit or leaves INT
+-- 01, Refused because of the state: whether the specification says that a walk over some collected lines passes a limit or leaves INT
 unfoldable pub stops : (Kept → ℕ → Asked) → Walking → List Collected → State → Bool
 stops by w cs st =
     let h = lines-heads by (w .header) (st .kept) cs in
     lines-outside (w .header) cs || (own-full (w .own) (own-after (w .own) (w .bound) (w .header) cs (st .own)) || (h .full || over-graph (st .heads ++ h .heads)))
 
--- the state that the specification gives after some collected lines
+-- 01, The site; The block; The edge: the state that the specification gives after some collected lines
 unfoldable pub after : (Kept → ℕ → Asked) → Walking → List Collected → State → State
 after by w cs st =
     let h = lines-heads by (w .header) (st .kept) cs in
     record { own = own-after (w .own) (w .bound) (w .header) cs (st .own); heads = st .heads ++ h .heads; kept = h .kept }
 
--- whether a module evaluates a constant outside INT as it is collected: in its `const` lines, or at a collected line
+-- 01, Refused because of the state: whether a module evaluates a constant outside INT as it is collected: in its `const` lines, or at a
+-- collected line
 unfoldable pub module-outside : Module → Bool
 module-outside k = name-table (own-vals k) k .out || lines-outside (k .header) (collection (own-vals k) k .lines)
 
--- whether some module does
+-- 01, Refused because of the state: whether some module does
 unfoldable pub some-outside : List Module → Bool
 some-outside [] = false
 some-outside (k ∷ ks) = module-outside k || some-outside ks
 
--- what the specification's check gives, without the flag
+-- 01, The report: what the specification's check gives, without the flag
 abbrev pub tally-of : Checked → Tally
 tally-of c = record { reports = c .reports; rounds = c .rounds; kept = c .kept }
 
--- what the specification gives for a module's own walk: its tables, its heads, the summaries kept and the rounds left
+-- 01, The collected item: what the specification gives for a module's own walk: its tables, its heads, the summaries kept and the
+-- rounds left
 unfoldable pub module-walked : Design → Module → Kept → Walked State
 module-walked d k kept =
     let c = collection (own-vals k) k in
     let h = module-heads d kept k (c .lines) in
-    walked (c .left) (record { own = own-of (k .bound) (k .header) (c .lines); heads = h .heads; kept = h .kept })
+    walked (c .left) (record { own = own-of-lines (k .bound) (k .header) (c .lines); heads = h .heads; kept = h .kept })
 
--- whether the specification says that a module's own walk passes a limit or leaves INT
+-- 01, Refused because of the state: whether the specification says that a module's own walk passes a limit or leaves INT
 unfoldable pub module-stops : Design → Module → Kept → Bool
 module-stops d k kept =
     let c = collection (own-vals k) k in
     let h = module-heads d kept k (c .lines) in
-    name-table (own-vals k) k .out || (lines-outside (k .header) (c .lines) || (over-own (own-of (k .bound) (k .header) (c .lines)) || (h .full || over-graph (h .heads))))
+    name-table (own-vals k) k .out || (lines-outside (k .header) (c .lines) || (over-own (own-of-lines (k .bound) (k .header) (c .lines)) || (h .full || over-graph (h .heads))))
 
--- The walk is the fold over the collected list, and the fused check is the check: it is full exactly where the answer is 20, and
--- else has its reports, rounds and summaries. A summary's walk may be full for a constant that the specification evaluates only in
--- that module's own check; so walks of one module are tied where no module evaluates one outside INT, and the whole check always.
+-- 01, The collected item; The edge; The report; Refused because of the state: the walk is the fold over the collected list, and the
+-- fused check is the check: it is full exactly where the answer is 20, and else has its reports, rounds and summaries.
+-- A summary's walk may be full for a constant that the specification evaluates only in that module's own check; so walks of one module
+-- are tied where no module evaluates one outside INT, and the whole check always.
 pub record Fused : Type 0 where
   pub summary : (d : Design) → some-outside d ≡ false → (fuel : ℕ) (busy : List ℕ) → Agrees (ask-walk fuel d busy) (comb-summary fuel d busy)
   pub own-check : (d : Design) → some-outside d ≡ false → (k : Module) (kept : Kept) → own-walk d k kept ≡ unless (module-stops d k kept) (module-walked d k kept)

@@ -1,5 +1,6 @@
 -- The fused walk: collection, sites, blocks, heads and summaries in one go, as the code does it, with the tables threaded. It stops at
--- once where a limit is passed or a constant is outside INT. 01: The collected item; Refused because of the state.
+-- once where a limit is passed or a constant is outside INT. 01: The collected item; The site; The block; The edge; The report; Refused
+-- because of the state.
 -- Assumes nothing: these are definitions.
 use mathlib.Core.Bool.{Bool, true, false, _&&_, _||_}
 use mathlib.Core.List.{List, [], _∷_, _++_}
@@ -21,7 +22,7 @@ use Rattle.spec.specs.Report.{Report}
 use Rattle.spec.specs.Walk.{find-cycles}
 use Rattle.spec.specs.Check.{site-limit, pair-limit, misuse-reports, conflict-reports, output-reports, widths-out, reg-report, mem-report, storage-reports, loop-reports}
 
--- ---- stopping
+-- ---- 01, Refused because of the state: stopping
 
 -- what a step gives: a limit was passed or a constant was outside INT, or what it leaves
 pub data Got (A : Type 0) : Type 0 where
@@ -38,13 +39,14 @@ abbrev pub unless : {A : Type 0} → Bool → A → Got A
 unless true a = full
 unless false a = going a
 
--- ---- the walk, whatever is done at a line
+-- ---- 01, The collected item: the walk, whatever is done at a line
 
 -- what a walk leaves, and the rounds left for what follows
 pub record Walked (S : Type 0) : Type 0 where
   pub state : S
   pub left : ℕ
 
+-- the same, by its parts
 abbrev pub walked : {S : Type 0} → ℕ → S → Walked S
 walked left st = record { state = st; left = left }
 
@@ -105,7 +107,7 @@ unfoldable pub fold-lines : {S : Type 0} → (Names → Item → S → Got S) �
 fold-lines step [] st = going st
 fold-lines step (c ∷ cs) st = then-go (step (c .names) (c .item) st) (λ st′. fold-lines step cs st′)
 
--- ---- the tables
+-- ---- 01, The site; The block: the tables
 
 -- an entry at the end, where none is the same as it
 unfoldable pub add-new : {A : Type 0} → (A → A → Bool) → A → List A → List A
@@ -138,31 +140,33 @@ pub record Own : Type 0 where
   pub mems : List Storage
   pub misuses : List Misused
 
--- a walk's state: the own tables, the graph as the heads in order, and the summaries kept
+-- 01, The site; The block; The edge: a walk's state: the own tables, the graph as the heads in order, and the summaries kept
 pub record State : Type 0 where
   pub own : Own
   pub heads : List Head
   pub kept : Kept
 
--- the state before the first item of a module
+-- no entry yet
 abbrev pub no-own : Own
 no-own = record { sites = []; pairs = []; outputs = []; regs = []; mems = []; misuses = [] }
 
+-- 01, The edge: the state before the first item of a module: nothing is headed, and the summaries kept before stand
 abbrev pub begin : Kept → State
 begin kept = record { own = no-own; heads = []; kept = kept }
 
--- ---- one line
+-- ---- 01, The collected item: one line
 
--- which walk it is: a module's own check, which alone has own tables, or a summary's; and what it needs of the module
+-- 01, The edge: which walk it is: a module's own check, which alone has own tables, or a summary's; and what it needs of the module
 pub record Walking : Type 0 where
   pub own : Bool
   pub bound : Bool
   pub header : List Header
 
+-- 01, The edge: a walk of module k
 abbrev pub walking : Bool → Module → Walking
 walking own k = record { own = own; bound = k .bound; header = k .header }
 
--- what a collected line adds to the own tables
+-- 01, The site; The block: what a collected line adds to the own tables
 unfoldable pub own-line : Bool → List Header → Names → Item → Own → Own
 own-line bound hs names item o =
     record {
@@ -178,35 +182,37 @@ own-line bound hs names item o =
 unfoldable pub over-own : Own → Bool
 over-own o = ltb site-limit (length (o .sites)) || ltb pair-limit (length (o .pairs))
 
--- the own tables after a line; in a summary's walk (false) they stay
+-- 01, Refused because of the state: the own tables after a line, or a limit is passed; in a summary's walk (false) they stay
 unfoldable pub own-step : Bool → Bool → List Header → Names → Item → Own → Got Own
 own-step true bound hs names item o = let o′ = own-line bound hs names item o in unless (over-own o′) o′
 own-step false bound hs names item o = going o
 
--- what asking for a summary gives, and the summaries kept then
+-- 01, The edge: what asking for a summary gives, and the summaries kept then
 pub record Answered : Type 0 where
   pub summary : Summary
   pub kept : Kept
 
+-- 01, The edge: the same, by its parts
 abbrev pub answered : Summary → Kept → Answered
 answered s kept = record { summary = s; kept = kept }
 
--- how to ask for the summary of a module
+-- 01, The edge: how to ask for the summary of a module
 abbrev pub Asking : Type 0
 Asking = Kept → ℕ → Got Answered
 
--- only an instance line asks
+-- 01, The edge: only an instance line asks
 unfoldable pub ask-step : Asking → Kept → Option Inst → Got Answered
 ask-step ask kept none = going (answered [] kept)
 ask-step ask kept (some i) = ask kept (i .«module»)
 
--- the graph after a line's heads and reads
+-- 01, The edge; Refused because of the state: the graph after a line's heads and reads, or a limit is passed or an index is outside INT
 unfoldable pub head-step : Heads → State → Got State
 head-step h st =
     let heads = st .heads ++ h .heads in
     unless (h .out || over-graph heads) (record { own = st .own; heads = heads; kept = st .kept })
 
--- what is done at a collected line: its constants, its own entries, the summary that it asks for, and what it heads and reads
+-- 01, The site; The block; The edge: what is done at a collected line: its constants, its own entries, the summary that it
+-- asks for, and what it heads and reads
 unfoldable pub line-step : Asking → Walking → Names → Item → State → Got State
 line-step ask w names item st =
     elim (any-outside names (line-constants (w .header) item)) [
@@ -218,13 +224,13 @@ line-step ask w names item st =
 
 -- ---- a module, a summary, the whole check
 
--- a module from its first item to its last, over the values of its `val` and `const` lines
+-- 01, The collected item: a module from its first item to its last, over the values of its `val` and `const` lines
 unfoldable pub walk-module : Asking → Walking → Module → Kept → Got (Walked State)
 walk-module ask w k kept =
     let table = name-table (own-vals k) k in
     elim (table .out) [ true ↦ full | false ↦ walk-items (k .items) (line-step ask w) (table .names) round-limit (begin kept) ]
 
--- a summary that is made now, and kept
+-- 01, The edge: a summary that is made now, and kept
 unfoldable pub make-walk : Asking → Kept → ℕ → Module → Got Answered
 make-walk ask kept m k =
     then-go (walk-module ask (walking false k) k kept) (λ r.
@@ -232,7 +238,7 @@ make-walk ask kept m k =
     let kept′ : Kept = (m, s) ∷ r .state .kept in
     unless (ltb triple-limit (triples kept′)) (answered s kept′))
 
--- the summary of module m, where `busy` are being summarised and `fuel` is above the number of the others
+-- 01, The edge: the summary of module m, where `busy` are being summarised and `fuel` is above the number of the others
 unfoldable pub ask-walk : ℕ → Design → List ℕ → Asking
 ask-walk zero d busy kept m = going (answered [] kept)
 ask-walk (suc fuel) d busy kept m =
@@ -247,21 +253,22 @@ ask-walk (suc fuel) d busy kept m =
       ]
     ]
 
--- the walk of a module's own check
+-- 01, The collected item: the walk of a module's own check
 unfoldable pub own-walk : Design → Module → Kept → Got (Walked State)
 own-walk d k kept = walk-module (ask-walk (suc (length d)) d []) (walking true k) k kept
 
--- what the check of a module, or of several, gives
+-- 01, The report; Refused because of the state: what the check of a module, or of several, gives: reports, rounds, and the summaries
+-- kept then
 pub record Tally : Type 0 where
   pub reports : List Report
   pub rounds : ℕ
   pub kept : Kept
 
--- the names that get no further report: of misuses and of conflicts
+-- 01, The site: the names that get no further report: of misuses and of conflicts
 unfoldable pub poison : Own → List ℕ
 poison o = let ms = misused-names (o .misuses) in conflict-names (conflicts ms (o .sites) (o .sites)) ++ ms
 
--- the reports of module m from the tables of its own check; `names` is the module's own table
+-- 01, The report: the reports of module m from the tables of its own check; `names` is the module's own table
 unfoldable pub own-reports : ℕ → Names → Own → List Head → List Report
 own-reports m names o heads =
     misuse-reports m (o .misuses) ++ conflict-reports m (conflicts (misused-names (o .misuses)) (o .sites) (o .sites))
@@ -269,7 +276,7 @@ own-reports m names o heads =
     ++ storage-reports (reg-report m) (poison o) (o .pairs) (o .regs) ++ storage-reports (mem-report m) (poison o) (o .pairs) (o .mems)
     ++ loop-reports m heads (find-cycles heads)
 
--- a module's own check: the walk, then the widths that decide coverage, then the reports
+-- 01, The report; Refused because of the state: a module's own check: the walk, then the widths that decide coverage, then the reports
 unfoldable pub check-one : Design → Kept → ℕ → Module → Got Tally
 check-one d kept m k =
     then-go (own-walk d k kept) (λ r.
@@ -278,7 +285,7 @@ check-one d kept m k =
     unless (widths-out names (poison o) (o .sites) (o .outputs))
     (record { reports = own-reports m names o (r .state .heads); rounds = round-limit - r .left; kept = r .state .kept }))
 
--- modules in order, to the first that is full
+-- 01, The report: modules in order, to the first that is full
 unfoldable pub check-all : Design → Kept → ℕ → List Module → Got Tally
 check-all d kept m [] = going (record { reports = []; rounds = 0; kept = kept })
 check-all d kept m (k ∷ ks) =
@@ -286,5 +293,6 @@ check-all d kept m (k ∷ ks) =
     (λ a. then-go (check-all d (a .kept) (suc m) ks)
     (λ b. going (record { reports = a .reports ++ b .reports; rounds = a .rounds + b .rounds; kept = b .kept })))
 
+-- 01, The report: every module of the design
 unfoldable pub check-fused : Design → Got Tally
 check-fused d = check-all d [] 0 d

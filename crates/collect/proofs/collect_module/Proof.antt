@@ -1,33 +1,34 @@
--- `collect_module` meets its contract, one law for each way. Assumes nothing.
-use mathlib.Core.Path.{refl}
-use Rattle.collect.proofs.FaceLaws.{run-fits, not-long, not-many, module-walked}
+-- `collect_module` meets its contract: one law for each way. Assumes nothing.
+use mathlib.Core.Path.{_∙_}
+use Rattle.collect.proofs.OwnLaws.{collects-left, collects-full, lent-left, lent-full}
 use borrow.Author.Needs.{needs}
 use Rattle.collect.proofs.collect_module.Statement.{statement}
 use Rattle.collect.proofs.collect_module.Tie as tie
+use Rattle.collect.proofs.collect_module.Reads as reads
+use Rattle.collect.proofs.collect_module.Lts as lts
+use Rattle.collect.proofs.own_walk.Reads as own-walk-reads
+use Rattle.graph.proofs.clear.Reads as clear-reads
 
-returns : tie.Need-returns
-returns c = (λ x kept C. not-long (c .before .before .before .before .before .before .before .before .args .text .now) (c .before .before .before .before .before .before .before .before .args .kinds .now) (c .before .before .before .before .before .before .before .before .args .mods .now) (c .before .before .before .before .before .before .before .before .args .count) (c .before .before .before .before .before .before .before .before .args .m) (c .before .before .before .before .before .before .before .before .args .names .now) (c .before .before .before .before .before .before .before .before .args .used) (c .before .before .before .before .before .before .before .before .args .own .now) (c .before .before .before .before .before .before .before .before .args .g .now) (c .before .before .before .before .before .before .before .before .args .k .now) x kept C (c .if1 .taken), (record { size = refl; same = λ i h. refl }, tt))
+own-walk-requires : tie.Need-own-walk-requires
+own-walk-requires c κs = search needs
 
-returns-2 : tie.Need-returns-2
-returns-2 c = (λ x kept C. not-many (c .before .before .before .before .before .before .before .before .before .args .text .now) (c .before .before .before .before .before .before .before .before .before .args .kinds .now) (c .before .before .before .before .before .before .before .before .before .args .mods .now) (c .before .before .before .before .before .before .before .before .before .args .count) (c .before .before .before .before .before .before .before .before .before .args .m) (c .before .before .before .before .before .before .before .before .before .args .names .now) (c .before .before .before .before .before .before .before .before .before .args .used) (c .before .before .before .before .before .before .before .before .before .args .own .now) (c .before .before .before .before .before .before .before .before .before .args .g .now) (c .before .before .before .before .before .before .before .before .before .args .k .now) x kept C (c .if2 .taken), (record { size = refl; same = λ i h. refl }, tt))
+enum-known-used : tie.Need-enum-known-used
+enum-known-used c = search needs
 
-items-of-module-requires : tie.Need-items-of-module-requires
-items-of-module-requires c κs = search needs
+enum-told : tie.Need-enum-told
+enum-told c = search needs
 
-run-at-requires : tie.Need-run-at-requires
-run-at-requires c κs = search needs
+clear-requires : tie.Need-clear-requires
+clear-requires c κs = search needs
 
-module-kinds-requires : tie.Need-module-kinds-requires
-module-kinds-requires c κs = search needs
+clear-requires-2 : tie.Need-clear-requires-2
+clear-requires-2 c κs = search needs
 
-is-bound-requires : tie.Need-is-bound-requires
-is-bound-requires c κs = search needs
+clear-requires-3 : tie.Need-clear-requires-3
+clear-requires-3 c κs = search needs
 
-add-collect-items : tie.Need-add-collect-items
-add-collect-items c = search needs
-
-collect-items-requires : tie.Need-collect-items-requires
-collect-items-requires c κs = run-fits (c .before .before .before .before .before .before .before .before .before .before .before .before .before .before .before .before .before .args .text .now) (c .before .before .before .before .before .before .before .before .before .before .before .before .before .before .before .before .before .args .mods .now) (c .before .before .before .before .before .before .before .before .before .before .before .before .before .before .before .before .before .args .m) (c .before .before .before .before .before .before .before .items-of-module .result .now) (c .before .before .before .before .before .before .run-at .result) (c .before .before .before .before .before .before .before .items-of-module .ensures) (c .before .before .before .before .before .before .run-at .ensures) (c .before .before .before .before .before .before .run-at .ok) (c .before .before .before .before .before .before .before .before .before .if1 .left)
+clear-requires-4 : tie.Need-clear-requires-4
+clear-requires-4 c κs = search needs
 
 same-length : tie.Need-same-length
 same-length c = search needs
@@ -41,23 +42,42 @@ same-length-3 c = search needs
 same-length-4 : tie.Need-same-length-4
 same-length-4 c = search needs
 
-returns-3 : tie.Need-returns-3
-returns-3 c = (λ x kept C. module-walked (c .before .before .before .before .before .before .before .before .before .before .before .before .before .before .before .before .before .before .before .before .before .before .before .before .before .before .args .text .now) (c .before .before .before .before .before .before .before .before .before .before .before .before .before .before .before .before .before .before .before .before .before .before .before .before .before .before .args .kinds .now) (c .before .before .before .before .before .before .before .before .before .before .before .before .before .before .before .before .before .before .before .before .before .before .before .before .before .before .args .mods .now) (c .before .before .before .before .before .before .before .before .before .before .before .before .before .before .before .before .before .before .before .before .before .before .before .before .before .before .args .count) (c .before .before .before .before .before .before .before .before .before .before .before .before .before .before .before .before .before .before .before .before .before .before .before .before .before .before .args .m) (c .before .before .before .before .before .before .before .before .before .before .before .before .before .before .before .before .before .before .before .before .before .before .before .before .before .before .args .names .now) (c .before .before .before .before .before .before .before .before .before .before .before .before .before .before .before .before .before .before .before .before .before .before .before .before .before .before .args .used) (c .before .before .before .before .before .before .before .before .before .before .before .before .before .before .before .before .before .before .before .before .before .before .before .before .before .before .args .own .now) (c .before .before .before .before .before .before .before .before .before .before .before .before .before .before .before .before .before .before .before .before .before .before .before .before .before .before .args .g .now) (c .before .before .before .before .before .before .before .before .before .before .before .before .before .before .before .before .before .before .before .before .before .before .before .before .before .before .args .k .now) x kept C (c .before .before .before .before .before .before .before .before .before .before .before .before .before .before .before .before .items-of-module .result .now) (c .before .before .before .before .before .before .before .before .before .before .before .before .before .before .before .before .items-of-module .ensures) (c .before .before .before .before .before .before .before .before .before .before .before .before .before .before .before .run-at .result) (c .before .before .before .before .before .before .before .before .before .before .before .before .before .before .before .run-at .ensures) (c .before .before .before .before .before .before .before .before .before .before .before .before .before .before .module-kinds .result .now) (c .before .before .before .before .before .before .before .before .before .before .before .before .before .before .module-kinds .ensures) (c .before .before .before .before .before .before .before .before .before .before .before .before .before .is-bound .result) (c .before .before .before .before .before .before .before .before .before .before .before .before .before .is-bound .ensures) (c .before .before .before .before .before .before .before .before .collect-items .result) _ _ _ (c .before .before .before .before .before .before .before .before .collect-items .ensures .0), c .before .before .before .before .before .before .before .before .collect-items .ensures .1)
+returns : tie.Need-returns
+returns c = (λ x kept C. collects-left (c .before .before .before .before .before .before .before .before .before .before .before .before .before .before .before .before .before .before .before .before .before .before .before .args .text .now) (c .before .before .before .before .before .before .before .before .before .before .before .own-walk .last .1 .1 .1 .1 .1 .0) (c .before .before .before .before .before .before .before .before .before .before .before .own-walk .last .1 .1 .1 .1 .1 .1 .0) (c .before .before .before .before .before .before .before .before .before .before .before .own-walk .last .1 .1 .1 .1 .1 .1 .1 .0) (c .before .before .before .before .before .before .before .before .before .before .before .own-walk .last .1 .1 .1 .1 .1 .1 .1 .1 .0) x _ (c .before .before .before .before .before .before .before .before .before .before .before .own-walk .result) (c .before .before .before .before .before .before .before .before .before .before .before .own-walk .ensures .0 x kept C) (c .before .used .given .1), lent-left (c .before .before .before .before .before .before .before .before .before .before .before .before .before .before .before .before .before .before .before .before .before .before .before .args .names .now) (c .before .before .before .before .before .before .before .before .before .before .before .before .before .before .before .before .before .before .before .before .before .before .before .args .own .now) (c .before .before .before .before .before .before .before .before .before .before .before .before .before .before .before .before .before .before .before .before .before .before .before .args .g .now) (c .before .before .before .before .before .before .before .before .before .before .before .before .before .before .before .before .before .before .before .before .before .before .before .args .k .now) (c .before .before .before .before .before .before .before .before .before .before .before .own-walk .last .1 .1 .1 .1 .1 .0) (c .before .before .before .before .before .before .before .before .before .before .before .own-walk .last .1 .1 .1 .1 .1 .1 .0) (c .before .before .before .before .before .before .before .before .before .before .before .own-walk .last .1 .1 .1 .1 .1 .1 .1 .0) (c .before .before .before .before .before .before .before .before .before .before .before .own-walk .last .1 .1 .1 .1 .1 .1 .1 .1 .0) (c .before .before .before .before .before .before .before .before .before .before .before .own-walk .kept .1 .1 .1 .1 .1 .0, c .before .before .before .before .before .before .before .before .before .before .before .own-walk .kept .1 .1 .1 .1 .1 .1 .0, c .before .before .before .before .before .before .before .before .before .before .before .own-walk .kept .1 .1 .1 .1 .1 .1 .1 .0, c .before .before .before .before .before .before .before .before .before .before .before .own-walk .kept .1 .1 .1 .1 .1 .1 .1 .1 .0) (c .before .before .before .before .before .before .before .before .before .before .before .own-walk .result) (c .before .before .before .before .before .before .before .before .before .before .before .own-walk .ensures .1) (c .before .used .given .1))
+
+same-length-5 : tie.Need-same-length-5
+same-length-5 c = search needs
+
+same-length-6 : tie.Need-same-length-6
+same-length-6 c = search needs
+
+same-length-7 : tie.Need-same-length-7
+same-length-7 c = search needs
+
+same-length-8 : tie.Need-same-length-8
+same-length-8 c = search needs
+
+returns-2 : tie.Need-returns-2
+returns-2 c = (λ x kept C. collects-full (c .before .before .before .before .before .before .before .before .before .before .before .before .before .before .before .before .before .before .before .before .before .before .before .before .before .before .before .before .before .before .before .before .before .before .before .before .before .before .args .text .now) (c .before .before .before .before .before .before .before .before .before .before .before .before .before .before .before .before .before .before .before .before .before .before .before .before .before .before .own-walk .last .1 .1 .1 .1 .1 .0) (c .before .before .before .before .before .before .before .before .before .before .before .before .before .before .before .before .before .before .before .before .before .before .before .before .before .before .own-walk .last .1 .1 .1 .1 .1 .1 .0) (c .before .before .before .before .before .before .before .before .before .before .before .before .before .before .before .before .before .before .before .before .before .before .before .before .before .before .own-walk .last .1 .1 .1 .1 .1 .1 .1 .0) (c .before .before .before .before .before .before .before .before .before .before .before .before .before .before .before .before .before .before .before .before .before .before .before .before .before .before .own-walk .last .1 .1 .1 .1 .1 .1 .1 .1 .0) x _ (c .before .before .before .before .before .before .before .before .before .before .before .before .before .before .before .before .before .before .before .before .before .before .before .before .before .before .own-walk .result) (c .before .before .before .before .before .before .before .before .before .before .before .before .before .before .before .before .before .before .before .before .before .before .before .before .before .before .own-walk .ensures .0 x kept C) (c .before .before .before .before .before .before .before .before .before .before .before .before .before .before .before .before .enum-told .given .1), lent-full (c .before .before .before .before .before .before .before .before .before .before .before .before .before .before .before .before .before .before .before .before .before .before .before .before .before .before .before .before .before .before .before .before .before .before .before .before .before .before .args .names .now) (c .before .before .before .before .before .before .before .before .before .before .before .before .before .before .before .before .before .before .before .before .before .before .before .before .before .before .before .before .before .before .before .before .before .before .before .before .before .before .args .own .now) (c .before .before .before .before .before .before .before .before .before .before .before .before .before .before .before .before .before .before .before .before .before .before .before .before .before .before .before .before .before .before .before .before .before .before .before .before .before .before .args .g .now) (c .before .before .before .before .before .before .before .before .before .before .before .before .before .before .before .before .before .before .before .before .before .before .before .before .before .before .before .before .before .before .before .before .before .before .before .before .before .before .args .k .now) (c .before .before .before .before .before .before .before .before .before .before .before .before .before .before .clear .last .0) (c .before .before .before .before .before .before .before .before .before .before .clear2 .last .0) (c .before .before .before .before .before .before .clear3 .last .0) (c .before .before .clear4 .last .0) (c .before .before .before .before .before .before .before .before .before .before .before .before .before .before .clear .kept .0 ∙ c .before .before .before .before .before .before .before .before .before .before .before .before .before .before .before .before .before .before .before .before .before .before .before .before .before .before .own-walk .kept .1 .1 .1 .1 .1 .0, c .before .before .before .before .before .before .before .before .before .before .clear2 .kept .0 ∙ c .before .before .before .before .before .before .before .before .before .before .before .before .before .before .before .before .before .before .before .before .before .before .before .before .before .before .own-walk .kept .1 .1 .1 .1 .1 .1 .0, c .before .before .before .before .before .before .clear3 .kept .0 ∙ c .before .before .before .before .before .before .before .before .before .before .before .before .before .before .before .before .before .before .before .before .before .before .before .before .before .before .own-walk .kept .1 .1 .1 .1 .1 .1 .1 .0, c .before .before .clear4 .kept .0 ∙ c .before .before .before .before .before .before .before .before .before .before .before .before .before .before .before .before .before .before .before .before .before .before .before .before .before .before .own-walk .kept .1 .1 .1 .1 .1 .1 .1 .1 .0) (c .before .before .before .before .before .before .before .before .before .before .before .before .before .before .before .before .before .before .before .before .before .before .before .before .before .before .own-walk .last .1 .1 .1 .1 .1 .0) (c .before .before .before .before .before .before .before .before .before .before .before .before .before .before .before .before .before .before .before .before .before .before .before .before .before .before .own-walk .last .1 .1 .1 .1 .1 .1 .0) (c .before .before .before .before .before .before .before .before .before .before .before .before .before .before .before .before .before .before .before .before .before .before .before .before .before .before .own-walk .last .1 .1 .1 .1 .1 .1 .1 .0) (c .before .before .before .before .before .before .before .before .before .before .before .before .before .before .before .before .before .before .before .before .before .before .before .before .before .before .own-walk .last .1 .1 .1 .1 .1 .1 .1 .1 .0) (c .before .before .before .before .before .before .before .before .before .before .before .before .before .before .before .before .before .before .before .before .before .before .before .before .before .before .own-walk .kept .1 .1 .1 .1 .1 .0, c .before .before .before .before .before .before .before .before .before .before .before .before .before .before .before .before .before .before .before .before .before .before .before .before .before .before .own-walk .kept .1 .1 .1 .1 .1 .1 .0, c .before .before .before .before .before .before .before .before .before .before .before .before .before .before .before .before .before .before .before .before .before .before .before .before .before .before .own-walk .kept .1 .1 .1 .1 .1 .1 .1 .0, c .before .before .before .before .before .before .before .before .before .before .before .before .before .before .before .before .before .before .before .before .before .before .before .before .before .before .own-walk .kept .1 .1 .1 .1 .1 .1 .1 .1 .0) (c .before .before .before .before .before .before .before .before .before .before .before .before .before .before .clear .ensures) (c .before .before .before .before .before .before .before .before .before .before .clear2 .ensures) (c .before .before .before .before .before .before .clear3 .ensures) (c .before .before .clear4 .ensures))
 
 pub collect-module-spec : {M : Type 1} → statement M
 collect-module-spec =
     tie.close
     (tie.spec
-    returns
-    returns-2
-    items-of-module-requires
-    run-at-requires
-    module-kinds-requires
-    is-bound-requires
-    add-collect-items
-    collect-items-requires
+    own-walk-requires
+    enum-known-used
+    enum-told
+    clear-requires
+    clear-requires-2
+    clear-requires-3
+    clear-requires-4
     same-length
     same-length-2
     same-length-3
     same-length-4
-    returns-3)
+    returns
+    same-length-5
+    same-length-6
+    same-length-7
+    same-length-8
+    returns-2)

@@ -6,9 +6,9 @@ use Prim.Native.Nat.{_≤_, _-_}
 use lib.ListN.{length, length-set}
 use Rattle.graph.specs.Cycles.{Zeroed}
 use Rattle.graph.proofs.Sorting.{zeroed-none, zeroed-more}
-use Rattle.drivers.proofs.CheckLaws.{stands-emptied}
-use Rattle.drivers.proofs.check.empty.Statement.{statement}
-use Rattle.drivers.proofs.check.empty.Tie as tie
+use Rattle.collect.proofs.OwnLaws.{stands-emptied}
+use Rattle.collect.proofs.empty.Statement.{statement}
+use Rattle.collect.proofs.empty.Tie as tie
 
 abbrev Inv-loop : tie.InvT-loop
 Inv-loop g₀ i₀ g i = Zeroed 3074 i g₀ g × (i ≤ 512) × (3586 ≤ length g₀)

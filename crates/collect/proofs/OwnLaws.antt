@@ -1,0 +1,153 @@
+-- A module's own walk from the slices as they are lent: its tables emptied, one law for each way of the code. Assumes nothing.
+use mathlib.Core.Path.{_≡_, refl, sym, ap, _∙_, subst}
+use mathlib.Core.Bool.{true}
+use mathlib.Core.List.{List, [], List·Memᴰ·not-nil}
+use Prim.Native.Nat.{ℕ, _+_, _≤_, _<_}
+use native.Mathlib.Omega.{arith}
+use lib.ListN.{length, getD, set, length-set, replicate}
+use lib.Seq.{getD-set-same, getD-set-other}
+use Rattle.spec.specs.Bytes.{Bytes}
+use Rattle.spec.specs.Syntax.{Module}
+use Rattle.spec.specs.Refusal.{decode}
+use Rattle.spec.specs.Value.{Table, own-vals, name-table}
+use Rattle.spec.specs.Edge.{all-nodes, edges-from}
+use Rattle.spec.specs.Summary.{Kept}
+use Rattle.graph.specs.Table.{nodes-below, newest, edges-below, out}
+use Rattle.graph.specs.Stands.{Stands}
+use Rattle.graph.specs.Cycles.{Zeroed}
+use Rattle.sites.specs.Own.{places}
+use Rattle.runs.specs.Text.{ModuleAt}
+use Rattle.runs.proofs.Text.{module-at}
+use Rattle.walk.specs.Walk.{Got, full, Walked, State, no-own, own-walk, walk-module}
+use Rattle.steps.specs.Modules.{name-places, NamesAre}
+use Rattle.steps.specs.declared.modules.Named.{Named}
+use Rattle.steps.specs.declared.modules.Named.the-variants as named
+use Rattle.items.specs.Held.{Held}
+use Rattle.collect.specs.declared.Walked as W
+use Rattle.collect.specs.declared.Walked.the-variants as walks
+use Rattle.collect.specs.declared.Collected.{Collected}
+use Rattle.collect.specs.declared.Collected.the-variants as collected
+use Rattle.collect.specs.Cycle.{mode, Ends, Framed, RoundsWithin}
+use Rattle.collect.specs.Face.{graph-places, WalkGiven, ModuleGiven, Collects, rounds-of, Lent}
+use Rattle.collect.proofs.Going.{names-framed}
+
+-- ---- an empty graph
+
+-- words with no node, no edge and no first edge are the graph of no heads
+stands-none : (g : List ℕ) → graph-places ≤ length g → getD g 0 0 ≡ 0 → getD g 1 0 ≡ 0 → ((s : ℕ) → s < 512 → getD g (3074 + s) 0 ≡ 0) → Stands g []
+unfolding newest nodes-below edges-below out all-nodes edges-from
+stands-none g h a b f = record {
+  sized = h;
+  few = omega arith;
+  once = rw a tt;
+  listed = λ m i. rw a at i;
+  all = λ m i. absurd (List·Memᴰ·not-nil i);
+  started = λ i l. absurd (omega arith);
+  headed = λ i l. absurd (omega arith);
+  linked = record {
+    room = omega arith;
+    few = omega arith;
+    sources = λ i l. absurd (omega arith);
+    firsts = λ s l. rw b (f s l);
+    links = λ i l. absurd (omega arith);
+  };
+  ends = λ i l. absurd (omega arith);
+  reads-once = λ i. rw b tt;
+  reads = λ i j l m. absurd (omega arith);
+  edge-count = rw a b;
+}
+
+pub stands-emptied : (g₀ g : List ℕ) (n : ℕ) → Zeroed 3074 n g₀ g → 512 ≤ n → graph-places ≤ length g₀ → Stands (set (set g 0 0) 1 0) []
+stands-emptied g₀ g n Z e h =
+    let s = Z .size in
+    let l = length-set g 0 0 in
+    let l′ = length-set (set g 0 0) 1 0 in
+    stands-none (set (set g 0 0) 1 0) (omega arith)
+    (getD-set-other (set g 0 0) 1 0 0 0 (λ z. omega arith) ∙ getD-set-same g 0 0 0 (omega arith))
+    (getD-set-same (set g 0 0) 1 0 0 (omega arith))
+    (λ i q. getD-set-other (set g 0 0) 1 (3074 + i) 0 0 (λ z. omega arith) ∙ getD-set-other g 0 (3074 + i) 0 0 (λ z. omega arith) ∙ Z .zeros i (omega arith))
+
+-- ---- a module
+
+-- the rounds left
+pub few-left : (a : W.Walked) {left : ℕ} → RoundsWithin a 4096 → a ≡ walks.Left left → left ≤ 4096
+few-left a h e = subst (λ (b : W.Walked). RoundsWithin b 4096) e h
+
+module _ {text kinds mods : List ℕ} {count m : ℕ} {names own g k : List ℕ} {x : Module} {kept : Kept} (C : ModuleGiven text kinds mods count m names own g k x kept) where
+  abbrev T : Table
+  T = name-table (own-vals x) x
+
+  here : ModuleAt text mods m x
+  here = subst (λ (ms : List ℕ). ModuleAt text ms m x) (sym (C .tabled .mods-are)) (module-at text (length mods) (C .tabled .formed) (C .tabled .mods-fit) m x (C .there))
+
+  walk-out : T .out ≡ true → own-walk (decode text) x kept ≡ full
+  unfolding own-walk walk-module
+  walk-out e = rw (e, walk-module)
+
+  -- what filling the name table leaves
+  module _ (names′ : List ℕ) (r : Named) (f : (j : Module) → ModuleAt text mods m j → name-places ≤ length names → NamesAre r names′ (name-table (own-vals j) j)) where
+    pub own-outside : r ≡ named.Outside → own-walk (decode text) x kept ≡ full
+    own-outside e = walk-out (subst (λ (n : Named). NamesAre n names′ T) e (f x here (C .named)))
+
+    module _ {used : ℕ} (e : r ≡ named.Used used) (own′ g′ : List ℕ) (held : length own ≡ places → (t : Bytes) → Held t own′ no-own)
+        (empty : graph-places ≤ length g → Stands g′ []) where
+      filled : NamesAre (named.Used used) names′ T
+      filled = subst (λ (n : Named). NamesAre n names′ T) e (f x here (C .named))
+
+      given : WalkGiven text kinds mods count m names′ used own′ g′ k x kept
+      given =
+          record {
+            tabled = C .tabled;
+            there = C .there;
+            inside = filled .1;
+            named = filled .0;
+            room = filled .2;
+            held = held (C .owned) text;
+            stands = empty (C .graphed);
+            keeps = C .keeps;
+          }
+
+      -- what the walk leaves
+      module _ (own″ g″ k″ : List ℕ) (a : W.Walked) (walk : (j : Module) (kept′ : Kept) → WalkGiven text kinds mods count m names′ used own′ g′ k j kept′
+          → Ends a (mode true (j .bound)) text own″ g″ k″ [] (own-walk (decode text) j kept′)) where
+        pub own-full : a ≡ walks.Full → own-walk (decode text) x kept ≡ full
+        own-full q = subst (λ (b : W.Walked). Ends b (mode true (x .bound)) text own″ g″ k″ [] (own-walk (decode text) x kept)) q (walk x kept given)
+
+        pub own-left : {left : ℕ} → a ≡ walks.Left left → (names″ : List ℕ) → Framed used names′ names″
+            → Collects (collected.Left used left) text names″ own″ g″ k″ x (own-walk (decode text) x kept)
+        own-left {left} q names″ framed =
+            let ends : Ends (walks.Left left) (mode true (x .bound)) text own″ g″ k″ [] (own-walk (decode text) x kept) =
+            subst (λ (y : W.Walked). Ends y (mode true (x .bound)) text own″ g″ k″ [] (own-walk (decode text) x kept)) q (walk x kept given) in
+            (ends .0, ends .1, ends .2, names-framed used names′ names″ framed ∙ filled .0)
+
+-- ---- the answer of a module's collection
+
+module _ (text names own g k : List ℕ) (x : Module) (y : Got (Walked State)) (a : Collected) (h : Collects a text names own g k x y) where
+  pub collects-left : {used left : ℕ} → a ≡ collected.Left used left → Collects (collected.Left used left) text names own g k x y
+  collects-left e = subst (λ (b : Collected). Collects b text names own g k x y) e h
+
+  pub collects-full : a ≡ collected.Full → y ≡ full
+  collects-full e = subst (λ (b : Collected). Collects b text names own g k x y) e h
+
+abbrev pub Sizes : List ℕ → List ℕ → List ℕ → List ℕ → List ℕ → List ℕ → List ℕ → List ℕ → Type 0
+Sizes names own g k names′ own′ g′ k′ = (length names′ ≡ length names) × (length own′ ≡ length own) × (length g′ ≡ length g) × (length k′ ≡ length k)
+
+module _ (names own g k names′ own′ g′ k′ : List ℕ) (s : Sizes names own g k names′ own′ g′ k′) where
+  pub lent-left : (a : Collected) {used left : ℕ} → rounds-of a ≤ 4096 → a ≡ collected.Left used left → Lent (collected.Left used left) names own g k names′ own′ g′ k′
+  lent-left a h e = record { sizes = s; emptied = λ z. absurd (omega arith); rounds = subst (λ (b : Collected). rounds-of b ≤ 4096) e h }
+
+  -- each slice is cleared after the walk left it with its length
+  pub lent-full : (names₁ own₁ g₁ k₁ : List ℕ) → Sizes names own g k names₁ own₁ g₁ k₁
+      → names′ ≡ replicate (length names₁) 0 → own′ ≡ replicate (length own₁) 0 → g′ ≡ replicate (length g₁) 0 → k′ ≡ replicate (length k₁) 0
+      → Lent collected.Full names own g k names′ own′ g′ k′
+  lent-full names₁ own₁ g₁ k₁ t a b c d =
+      record {
+        sizes = s;
+        emptied = λ _. (
+          a ∙ ap (λ (n : ℕ). replicate n 0) (t .0),
+          b ∙ ap (λ (n : ℕ). replicate n 0) (t .1),
+          c ∙ ap (λ (n : ℕ). replicate n 0) (t .2),
+          d ∙ ap (λ (n : ℕ). replicate n 0) (t .3),
+        );
+        rounds = omega arith;
+      }

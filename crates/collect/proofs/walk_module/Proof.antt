@@ -1,0 +1,63 @@
+-- `walk_module` meets its contract, one law for each way. Assumes nothing.
+use mathlib.Core.Path.{refl}
+use Rattle.collect.proofs.FaceLaws.{run-fits, not-long, not-many, module-walked}
+use borrow.Author.Needs.{needs}
+use Rattle.collect.proofs.walk_module.Statement.{statement}
+use Rattle.collect.proofs.walk_module.Tie as tie
+
+returns : tie.Need-returns
+returns c = (λ x kept C. not-long (c .before .before .before .before .before .before .before .before .args .text .now) (c .before .before .before .before .before .before .before .before .args .kinds .now) (c .before .before .before .before .before .before .before .before .args .mods .now) (c .before .before .before .before .before .before .before .before .args .count) (c .before .before .before .before .before .before .before .before .args .m) (c .before .before .before .before .before .before .before .before .args .names .now) (c .before .before .before .before .before .before .before .before .args .used) (c .before .before .before .before .before .before .before .before .args .own .now) (c .before .before .before .before .before .before .before .before .args .g .now) (c .before .before .before .before .before .before .before .before .args .k .now) x kept C (c .if1 .taken), (record { size = refl; same = λ i h. refl }, tt))
+
+returns-2 : tie.Need-returns-2
+returns-2 c = (λ x kept C. not-many (c .before .before .before .before .before .before .before .before .before .args .text .now) (c .before .before .before .before .before .before .before .before .before .args .kinds .now) (c .before .before .before .before .before .before .before .before .before .args .mods .now) (c .before .before .before .before .before .before .before .before .before .args .count) (c .before .before .before .before .before .before .before .before .before .args .m) (c .before .before .before .before .before .before .before .before .before .args .names .now) (c .before .before .before .before .before .before .before .before .before .args .used) (c .before .before .before .before .before .before .before .before .before .args .own .now) (c .before .before .before .before .before .before .before .before .before .args .g .now) (c .before .before .before .before .before .before .before .before .before .args .k .now) x kept C (c .if2 .taken), (record { size = refl; same = λ i h. refl }, tt))
+
+items-of-module-requires : tie.Need-items-of-module-requires
+items-of-module-requires c κs = search needs
+
+run-at-requires : tie.Need-run-at-requires
+run-at-requires c κs = search needs
+
+module-kinds-requires : tie.Need-module-kinds-requires
+module-kinds-requires c κs = search needs
+
+is-bound-requires : tie.Need-is-bound-requires
+is-bound-requires c κs = search needs
+
+add-collect-items : tie.Need-add-collect-items
+add-collect-items c = search needs
+
+collect-items-requires : tie.Need-collect-items-requires
+collect-items-requires c κs = run-fits (c .before .before .before .before .before .before .before .before .before .before .before .before .before .before .before .before .before .args .text .now) (c .before .before .before .before .before .before .before .before .before .before .before .before .before .before .before .before .before .args .mods .now) (c .before .before .before .before .before .before .before .before .before .before .before .before .before .before .before .before .before .args .m) (c .before .before .before .before .before .before .before .items-of-module .result .now) (c .before .before .before .before .before .before .run-at .result) (c .before .before .before .before .before .before .before .items-of-module .ensures) (c .before .before .before .before .before .before .run-at .ensures) (c .before .before .before .before .before .before .run-at .ok) (c .before .before .before .before .before .before .before .before .before .if1 .left)
+
+same-length : tie.Need-same-length
+same-length c = search needs
+
+same-length-2 : tie.Need-same-length-2
+same-length-2 c = search needs
+
+same-length-3 : tie.Need-same-length-3
+same-length-3 c = search needs
+
+same-length-4 : tie.Need-same-length-4
+same-length-4 c = search needs
+
+returns-3 : tie.Need-returns-3
+returns-3 c = (λ x kept C. module-walked (c .before .before .before .before .before .before .before .before .before .before .before .before .before .before .before .before .before .before .before .before .before .before .before .before .before .before .args .text .now) (c .before .before .before .before .before .before .before .before .before .before .before .before .before .before .before .before .before .before .before .before .before .before .before .before .before .before .args .kinds .now) (c .before .before .before .before .before .before .before .before .before .before .before .before .before .before .before .before .before .before .before .before .before .before .before .before .before .before .args .mods .now) (c .before .before .before .before .before .before .before .before .before .before .before .before .before .before .before .before .before .before .before .before .before .before .before .before .before .before .args .count) (c .before .before .before .before .before .before .before .before .before .before .before .before .before .before .before .before .before .before .before .before .before .before .before .before .before .before .args .m) (c .before .before .before .before .before .before .before .before .before .before .before .before .before .before .before .before .before .before .before .before .before .before .before .before .before .before .args .names .now) (c .before .before .before .before .before .before .before .before .before .before .before .before .before .before .before .before .before .before .before .before .before .before .before .before .before .before .args .used) (c .before .before .before .before .before .before .before .before .before .before .before .before .before .before .before .before .before .before .before .before .before .before .before .before .before .before .args .own .now) (c .before .before .before .before .before .before .before .before .before .before .before .before .before .before .before .before .before .before .before .before .before .before .before .before .before .before .args .g .now) (c .before .before .before .before .before .before .before .before .before .before .before .before .before .before .before .before .before .before .before .before .before .before .before .before .before .before .args .k .now) x kept C (c .before .before .before .before .before .before .before .before .before .before .before .before .before .before .before .before .items-of-module .result .now) (c .before .before .before .before .before .before .before .before .before .before .before .before .before .before .before .before .items-of-module .ensures) (c .before .before .before .before .before .before .before .before .before .before .before .before .before .before .before .run-at .result) (c .before .before .before .before .before .before .before .before .before .before .before .before .before .before .before .run-at .ensures) (c .before .before .before .before .before .before .before .before .before .before .before .before .before .before .module-kinds .result .now) (c .before .before .before .before .before .before .before .before .before .before .before .before .before .before .module-kinds .ensures) (c .before .before .before .before .before .before .before .before .before .before .before .before .before .is-bound .result) (c .before .before .before .before .before .before .before .before .before .before .before .before .before .is-bound .ensures) (c .before .before .before .before .before .before .before .before .collect-items .result) _ _ _ (c .before .before .before .before .before .before .before .before .collect-items .ensures .0), c .before .before .before .before .before .before .before .before .collect-items .ensures .1)
+
+pub walk-module-spec : {M : Type 1} → statement M
+walk-module-spec =
+    tie.close
+    (tie.spec
+    returns
+    returns-2
+    items-of-module-requires
+    run-at-requires
+    module-kinds-requires
+    is-bound-requires
+    add-collect-items
+    collect-items-requires
+    same-length
+    same-length-2
+    same-length-3
+    same-length-4
+    returns-3)
