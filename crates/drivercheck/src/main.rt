@@ -1,24 +1,24 @@
-// Prints the reports of the text on standard input, or `(refused NUMBER LINE)`.
+// Prints the reports of the text on standard input, or `(refused NUMBER LINE)`; `(unread)` where the text cannot be read.
+use input::Input;
 
-// Reads what is left of standard input, so that whoever writes it is not cut off: 2^48 bytes at most.
-fn drain(buf: &mut [u8; 65536]) {
-    let mut left: u32 = 4294967295;
-    while 0 < left {
-        left -= 1;
-        if io::read_full(libc::STDIN_FILENO, buf) < 65536 {
-            return;
-        }
+// All of it to standard output; where that fails, one line on standard error says so.
+fn print(lines: &[u8]) {
+    if !io::write_all(libc::STDOUT_FILENO, lines) {
+        io::write_all(libc::STDERR_FILENO, b"standard output cannot be written\n");
     }
+}
+
+fn print_list(text: &[u8]) {
+    let mut out = [0u8; program::REPORT];
+    let n = program::print_to(text, &mut out);
+    print(&out[..n]);
 }
 
 // The buffer holds more than the longest text, so that one that is too long is seen to be.
 fn main() {
     let mut text = io::large_buffer();
-    let n = io::read_full(libc::STDIN_FILENO, &mut text);
-    let mut out = [0u8; program::REPORT];
-    if n == 65536 {
-        drain(&mut out);
+    match input::read_all(&mut text) {
+        Input::Read(n) => print_list(&text[..n]),
+        Input::Failed => print(b"(unread)\n"),
     }
-    let m = program::print_to(&text[..n], &mut out);
-    io::write_all(libc::STDOUT_FILENO, &out[..m]);
 }

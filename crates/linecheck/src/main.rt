@@ -1,4 +1,5 @@
-// Is a text well formed? Prints nothing where it is, and else `(refused NUMBER LINE)`.
+// Is a text well formed? Prints nothing where it is, and else `(refused NUMBER LINE)`; `(unread)` where the text cannot be read.
+use input::Input;
 use lines::read::Verdict;
 use report::Put;
 
@@ -15,12 +16,20 @@ fn print_refused(number: u32, line: u32) {
     }
 }
 
+fn print_verdict(text: &[u8]) {
+    match lines::read::verdict_of(text) {
+        Verdict::Refused(number, line) => print_refused(number, line),
+        Verdict::Formed(_) => {}
+    }
+}
+
 // The buffer holds more than the longest text, so that one that is too long is seen to be.
 fn main() {
     let mut text = io::large_buffer();
-    let n = io::read_full(libc::STDIN_FILENO, &mut text);
-    match lines::read::verdict_of(&text[..n]) {
-        Verdict::Refused(number, line) => print_refused(number, line),
-        Verdict::Formed(_) => {}
+    match input::read_all(&mut text) {
+        Input::Read(n) => print_verdict(&text[..n]),
+        Input::Failed => {
+            io::write_all(libc::STDOUT_FILENO, b"(unread)\n");
+        }
     }
 }
