@@ -1,4 +1,4 @@
--- The ways of `repeat_items` and `branch_items`: what the body leaves is what the walk over the item gives.
+-- The ways of `repeat_items`, `repeat_rounds` and `branch_items`: what the body leaves is what the walk over the item gives.
 -- Assumes nothing.
 use mathlib.Core.Path.{_≡_, refl, sym, _∙_, ap, subst}
 use mathlib.Core.Bool.{Bool, true, false, _||_, true≢false}
@@ -33,7 +33,7 @@ use Rattle.steps.specs.declared.Chosen.the-variants as chosen
 use Rattle.steps.proofs.Ways.{repeat-never, repeat-once, repeat-rounds, inner-repeat, inner-const-if, next-value}
 use Rattle.collect.specs.declared.Walked as W
 use Rattle.collect.specs.declared.Walked.the-variants as walks
-use Rattle.collect.specs.Cycle.{PartOf, Mode, World, Single, Given, OneGiven, Holding, Ends, RoundsWithin, Framed, walking-of, step-of, walk-of, one-of}
+use Rattle.collect.specs.Cycle.{PartOf, Mode, World, Single, Given, OneGiven, Holding, Ends, RoundsWithin, Framed, walking-of, step-of, walk-of, one-of, turns-of}
 use Rattle.collect.proofs.Turns.{step-outside, repeat-step, const-if-step}
 use Rattle.collect.proofs.Ways.{or-none, fine}
 use Rattle.collect.proofs.Parts.{part-drop, part-piece}
@@ -129,17 +129,6 @@ module _ (fuel : ℕ) (mo : Mode) (text kinds mods : List ℕ) (count : ℕ) (x 
   abbrev walks-body : (w : Single) → Repeated w → Walks State
   walks-body w G = λ names′ left′ st′. walk-items (body-of w G) (step-of fuel text mo (w .header) (w .busy)) names′ left′ st′
 
-  abbrev round-walk : ℕ → ℕ → ℕ → (w : Single) (G : Repeated w) → ℕ → ℕ → State → Got (Walked State)
-  round-walk n low total w G i left st = walk-rounds (walks-body w G) n (signed (low + i)) (total - i) (names-of names₀ used) left st
-
-  -- i rounds are walked
-  pub record Rounds (n low total i left : ℕ) (names own g k : List ℕ) : Type 0 where
-    pub inside : i ≤ total
-    pub fewer : left ≤ left₀
-    pub framed : Framed used names₀ names
-    pub sized : Sized own₀ g₀ k₀ own g k
-    pub walking : (w : Single) (G : Repeated w) → (st : State) × Holding mo text own g k (w .busy) st × (one w ≡ round-walk n low total w G i left st)
-
   module _ (r : T.Times) (told : (n : ℕ) (low high : Expr) (is : Items) → ShowsItem x depth (repeat n low high is)
       → TimesAre r left₀ n (value (names-of names₀ used) low) (value (names-of names₀ used) high)) where
     told-as : (t : T.Times) → r ≡ t → (w : Single) (G : Repeated w)
@@ -174,33 +163,30 @@ module _ (fuel : ℕ) (mo : Mode) (text kinds mods : List ℕ) (count : ℕ) (x 
         )
 
     module _ (a : ℕ) (at-body : (d n : ℕ) (low high : Expr) (is : Items) → ShowsItem x d (repeat n low high is) → a ≡ third-end x) (within : a ≤ length x) (body : Bytes) (cut : body ≡ drop a x) where
-      abbrev inner : (w : Single) → Repeated w → State → World
-      inner w G st = record { header = w .header; items = body-of w G; state = st; busy = w .busy }
+      abbrev inner : (w : Single) → Repeated w → World
+      inner w G = record { header = w .header; items = body-of w G; state = w .state; busy = w .busy }
 
       body-run : (w : Single) (G : Repeated w) → RunOf (depth - 1) body (body-of w G)
       body-run w G =
           let e = at-body depth (G .head .0) (G .head .1) (G .head .2) (G .head .3) (shown w G) in
           subst (λ (y : Bytes). RunOf (depth - 1) y (body-of w G)) (sym (cut ∙ ap (λ (n : ℕ). drop n x) e)) (in-it w G .body)
 
-      -- the body is walked with this state, the names `names` of which so many are used
-      given-body : (names : List ℕ) (used′ : ℕ) (own g k : List ℕ) (w : Single) (G : Repeated w) (st : State) → used′ + (depth - 1) ≤ length names / 2 → Holding mo text own g k (w .busy) st
-          → Given mo text kinds mods count body (from + a) (depth - 1) ks names used′ own g k (inner w G st)
-      given-body names used′ own g k w G st fits h =
+      -- the body is walked with so many names
+      given-body : (used′ : ℕ) (w : Single) (G : Repeated w) → used′ + (depth - 1) ≤ length names₀ / 2
+          → Given mo text kinds mods count body (from + a) (depth - 1) ks names₀ used′ own₀ g₀ k₀ (inner w G)
+      given-body used′ w G fits =
           record {
             tabled = G .tabled;
             run = body-run w G;
             part = subst (λ (y : Bytes). PartOf text (from + a) y) (sym cut) (part-drop text from x (G .part) a within);
             told = G .told;
             room = fits;
-            holding = h;
+            holding = G .holding;
           }
 
-      abbrev BodyAnswers : W.Walked → (names : List ℕ) (used′ left : ℕ) (own g k own′ g′ k′ : List ℕ) → Type 0
-      BodyAnswers b names used′ left own g k own′ g′ k′ =
-          (w : World) → Given mo text kinds mods count body (from + a) (depth - 1) ks names used′ own g k w
-          → Ends b mo text own′ g′ k′ (w .busy) (walk-of fuel text mo w (names-of names used′) left)
-
-      pub body-once : r ≡ times.Once → (b : W.Walked) (own′ g′ k′ : List ℕ) → BodyAnswers b names₀ used left₀ own₀ g₀ k₀ own′ g′ k′
+      pub body-once : r ≡ times.Once → (b : W.Walked) (own′ g′ k′ : List ℕ)
+          → ((w : World) → Given mo text kinds mods count body (from + a) (depth - 1) ks names₀ used own₀ g₀ k₀ w
+          → Ends b mo text own′ g′ k′ (w .busy) (walk-of fuel text mo w (names-of names₀ used) left₀))
           → (w : Single) → Repeated w → Ends b mo text own′ g′ k′ (w .busy) (one w)
       body-once e b own′ g′ k′ f w G =
           let t = told-as times.Once e w G in
@@ -210,10 +196,8 @@ module _ (fuel : ℕ) (mo : Mode) (text kinds mods : List ℕ) (count : ℕ) (x 
           one-repeats w G (t .0)
           ∙ repeat-once (walks-body w G) (G .head .0) (names-of names₀ used) left₀ (w .state) (value (names-of names₀ used) (G .head .1)) (value (names-of names₀ used) (G .head .2)) (t .1)
           in
-          subst (λ (y : Got (Walked State)). Ends b mo text own′ g′ k′ (w .busy) y) (sym q)
-          (f (inner w G (w .state)) (given-body names₀ used own₀ g₀ k₀ w G (w .state) (omega arith) (G .holding)))
+          subst (λ (y : Got (Walked State)). Ends b mo text own′ g′ k′ (w .busy) y) (sym q) (f (inner w G) (given-body used w G (omega arith)))
 
-      -- ---- the rounds
       module _ (n low total : ℕ) (rounds-told : r ≡ times.Rounds n low total) where
         pub never-short : left₀ < total → (w : Single) → Repeated w → one w ≡ full
         never-short h w G = let t = told-as (times.Rounds n low total) rounds-told w G in let q = t .3 in absurd (omega arith)
@@ -221,107 +205,148 @@ module _ (fuel : ℕ) (mo : Mode) (text kinds mods : List ℕ) (count : ℕ) (x 
         pub never-wide : 4294967295 - low < total → (w : Single) → Repeated w → one w ≡ full
         never-wide h w G = let t = told-as (times.Rounds n low total) rounds-told w G in let q = t .4 in absurd (omega arith)
 
-        pub rounds-start : total ≤ left₀ → Rounds n low total 0 (left₀ - total) names₀ own₀ g₀ k₀
-        rounds-start h =
+        -- the rounds are walked, with one name more than are used
+        pub rounds-done : (b : W.Walked) (own′ g′ k′ : List ℕ)
+            → ((w : World) → Given mo text kinds mods count body (from + a) (depth - 1) ks names₀ (used + 1) own₀ g₀ k₀ w
+            → Ends b mo text own′ g′ k′ (w .busy) (turns-of fuel text mo w n low total (names-of names₀ used) (left₀ - total)))
+            → (w : Single) → Repeated w → Ends b mo text own′ g′ k′ (w .busy) (one w)
+        rounds-done b own′ g′ k′ f w G =
+            let t = told-as (times.Rounds n low total) rounds-told w G in
+            let d = in-it w G .deeper in
+            let m = G .room in
+            let q =
+            one-repeats w G (t .0)
+            ∙ repeat-rounds (walks-body w G) (G .head .0) (names-of names₀ used) left₀ (w .state) (value (names-of names₀ used) (G .head .1)) (value (names-of names₀ used) (G .head .2)) (t .1) .0
+            ∙ ap (λ (v : ℕ). walk-rounds (walks-body w G) v (signed low) total (names-of names₀ used) (left₀ - total) (w .state)) (sym (t .2))
+            in
+            subst (λ (y : Got (Walked State)). Ends b mo text own′ g′ k′ (w .busy) y) (sym q)
+            (f (inner w G) (given-body (used + 1) w G (omega arith)))
+
+-- ---- the rounds of a `repeat`
+
+module _ (fuel : ℕ) (mo : Mode) (text kinds mods : List ℕ) (count : ℕ) (s : Bytes) (base depth : ℕ) (ks names₀ : List ℕ) (used n low total left₀ : ℕ) (own₀ g₀ k₀ : List ℕ) where
+  abbrev Entered : World → Type 0
+  Entered w = Given mo text kinds mods count s base depth ks names₀ (used + 1) own₀ g₀ k₀ w
+
+  abbrev every : World → Got (Walked State)
+  every w = turns-of fuel text mo w n low total (names-of names₀ used) left₀
+
+  abbrev each : World → Walks State
+  each w = λ names′ left′ st. walk-items (w .items) (step-of fuel text mo (w .header) (w .busy)) names′ left′ st
+
+  -- i rounds are walked
+  pub record Rounds (i left : ℕ) (names own g k : List ℕ) : Type 0 where
+    pub inside : i ≤ total
+    pub fewer : left ≤ left₀
+    pub framed : Framed used names₀ names
+    pub sized : Sized own₀ g₀ k₀ own g k
+    pub walking : (w : World) (G : Entered w) → (st : State) × Holding mo text own g k (w .busy) st × (every w ≡ walk-rounds (each w) n (signed (low + i)) (total - i) (names-of names₀ used) left st)
+
+  pub rounds-start : Rounds 0 left₀ names₀ own₀ g₀ k₀
+  rounds-start =
+      record {
+        inside = omega arith;
+        fewer = omega arith;
+        framed = framed-same;
+        sized = record { own-size = refl; g-size = refl; k-size = refl };
+        walking = λ w G.
+            let z : low ≡ low + 0 = omega arith in
+            let y : total ≡ total - 0 = omega arith in (
+              w .state,
+              G .holding,
+              ap (λ (v : ℕ). walk-rounds (each w) n (signed v) total (names-of names₀ used) left₀ (w .state)) z
+                  ∙ ap (λ (v : ℕ). walk-rounds (each w) n (signed (low + 0)) v (names-of names₀ used) left₀ (w .state)) y,
+            );
+      }
+
+  module _ (i left : ℕ) (names own g k : List ℕ) (o : Rounds i left names own g k) where
+    pub rounds-end : total ≤ i → (w : World) → Entered w → Ends (walks.Left left) mo text own g k (w .busy) (every w)
+    unfolding walk-rounds
+    rounds-end h w G =
+        let s = o .walking w G in
+        let z : total - i ≡ 0 = omega arith in
+        (s .0, s .2 ∙ ap (λ (v : ℕ). walk-rounds (each w) n (signed (low + i)) v (names-of names₀ used) left (s .0)) z, s .1)
+
+    -- the variable has its place
+    roomy : (w : World) (G : Entered w) → used < length names / 2
+    roomy w G = let m = subst (λ (v : ℕ). used + 1 + depth ≤ v / 2) (sym (o .framed .size)) (G .room) in omega arith
+
+    pub push-held : room names used ≡ false → (w : World) → Entered w → every w ≡ full
+    push-held e w G = absurd (true≢false (sym (lt-ltb used (length names / 2) (roomy w G)) ∙ e))
+
+    module _ (more : i < total) (put : List ℕ) (pushes : put ≡ pushed names used n (low + i)) where
+      pub push-framed : Framed used names₀ put
+      push-framed = framed-again (o .framed) (framed-pushed used names n (low + i) put pushes)
+
+      named : (w : World) (G : Entered w) → names-of put (used + 1) ≡ (n, signed (low + i)) ∷ names-of names₀ used
+      named w G =
+          ap (λ (t : List ℕ). names-of t (used + 1)) pushes
+          ∙ names-pushed names used n (low + i) (lt-ltb used (length names / 2) (roomy w G))
+          ∙ ap (λ (l : Names). (n, signed (low + i)) ∷ l) (names-framed used names₀ names (o .framed))
+
+      -- what the body is walked with
+      abbrev inside-of : (w : World) → Entered w → World
+      inside-of w G = record { header = w .header; items = w .items; state = o .walking w G .0; busy = w .busy }
+
+      given-round : (w : World) (G : Entered w) → Given mo text kinds mods count s base depth ks put (used + 1) own g k (inside-of w G)
+      given-round w G =
+          record {
+            tabled = G .tabled;
+            run = G .run;
+            part = G .part;
+            told = G .told;
+            room = subst (λ (v : ℕ). used + 1 + depth ≤ v / 2) (sym (push-framed .size)) (G .room);
+            holding = o .walking w G .1;
+          }
+
+      one-more : (w : World) (G : Entered w)
+          → every w
+          ≡ then-go (walk-of fuel text mo (inside-of w G) (names-of put (used + 1)) left)
+          (λ y. walk-rounds (each w) n (signed (low + i) +ℤ pos 1) (total - (i + 1)) (names-of names₀ used) (y .left) (y .state))
+      unfolding walk-rounds
+      one-more w G =
+          let s = o .walking w G in
+          let z : total - i ≡ suc (total - (i + 1)) = omega arith in
+          s .2 ∙ ap (λ (v : ℕ). walk-rounds (each w) n (signed (low + i)) v (names-of names₀ used) left (s .0)) z
+          ∙ ap (λ (l : Names). then-go (walk-items (w .items) (step-of fuel text mo (w .header) (w .busy)) l left (s .0))
+          (λ y. walk-rounds (each w) n (signed (low + i) +ℤ pos 1) (total - (i + 1)) (names-of names₀ used) (y .left) (y .state))) (sym (named w G))
+
+      module _ (b : W.Walked) (names′ own′ g′ k′ : List ℕ) (f : (w : World) → Given mo text kinds mods count s base depth ks put (used + 1) own g k w
+          → Ends b mo text own′ g′ k′ (w .busy) (walk-of fuel text mo w (names-of put (used + 1)) left)) where
+        as-body : (c : W.Walked) → b ≡ c → (w : World) (G : Entered w) → Ends c mo text own′ g′ k′ (w .busy) (walk-of fuel text mo (inside-of w G) (names-of put (used + 1)) left)
+        as-body c e w G =
+            subst (λ (y : W.Walked). Ends y mo text own′ g′ k′ (w .busy) (walk-of fuel text mo (inside-of w G) (names-of put (used + 1)) left)) e
+            (f (inside-of w G) (given-round w G))
+
+        pub rounds-framed : Framed (used + 1) put names′ → Framed used names₀ names′
+        rounds-framed frame = framed-again push-framed (framed-less frame)
+
+        pub rounds-next : (l : ℕ) → b ≡ walks.Left l → RoundsWithin b left → Framed (used + 1) put names′ → Sized own g k own′ g′ k′ → Rounds (i + 1) l names′ own′ g′ k′
+        rounds-next l e few′ frame size =
+            let c = subst (λ (y : W.Walked). RoundsWithin y left) e few′ in
+            let p = o .fewer in
+            let q = o .sized in
             record {
               inside = omega arith;
               fewer = omega arith;
-              framed = framed-same;
-              sized = record { own-size = refl; g-size = refl; k-size = refl };
+              framed = rounds-framed frame;
+              sized = record { own-size = size .own-size ∙ q .own-size; g-size = size .g-size ∙ q .g-size; k-size = size .k-size ∙ q .k-size };
               walking = λ w G.
-                  let t = told-as (times.Rounds n low total) rounds-told w G in
-                  let z : low ≡ low + 0 = omega arith in
-                  let y : total ≡ total - 0 = omega arith in (
-                    w .state,
-                    G .holding,
-                    one-repeats w G (t .0)
-                        ∙ repeat-rounds (walks-body w G) (G .head .0) (names-of names₀ used) left₀ (w .state) (value (names-of names₀ used) (G .head .1)) (value (names-of names₀ used) (G .head .2)) (t .1) .0
-                        ∙ ap (λ (v : ℕ). walk-rounds (walks-body w G) v (signed low) total (names-of names₀ used) (left₀ - total) (w .state)) (sym (t .2))
-                        ∙ ap (λ (v : ℕ). walk-rounds (walks-body w G) n (signed v) total (names-of names₀ used) (left₀ - total) (w .state)) z
-                        ∙ ap (λ (v : ℕ). walk-rounds (walks-body w G) n (signed (low + 0)) v (names-of names₀ used) (left₀ - total) (w .state)) y,
+                  let E = as-body (walks.Left l) e w G in
+                  let z : low + i + 1 ≡ low + (i + 1) = omega arith in (
+                    E .0,
+                    E .2,
+                    one-more w G
+                        ∙ ap (λ (y : Got (Walked State)). then-go y (λ v. walk-rounds (each w) n (signed (low + i) +ℤ pos 1) (total - (i + 1)) (names-of names₀ used) (v .left) (v .state))) (E .1)
+                        ∙ ap (λ (v : ℤ). walk-rounds (each w) n v (total - (i + 1)) (names-of names₀ used) l (E .0)) (next-value (low + i))
+                        ∙ ap (λ (v : ℕ). walk-rounds (each w) n (signed v) (total - (i + 1)) (names-of names₀ used) l (E .0)) z,
                   );
             }
 
-        module _ (i left : ℕ) (names own g k : List ℕ) (o : Rounds n low total i left names own g k) where
-          pub rounds-end : total ≤ i → (w : Single) → Repeated w → Ends (walks.Left left) mo text own g k (w .busy) (one w)
-          unfolding walk-rounds
-          rounds-end h w G =
-              let s = o .walking w G in
-              let z : total - i ≡ 0 = omega arith in
-              (s .0, s .2 ∙ ap (λ (v : ℕ). walk-rounds (walks-body w G) n (signed (low + i)) v (names-of names₀ used) left (s .0)) z, s .1)
-
-          -- the variable has its place
-          roomy : (w : Single) (G : Repeated w) → used < length names / 2
-          roomy w G =
-              let d = in-it w G .deeper in
-              let m = subst (λ (v : ℕ). used + depth ≤ v / 2) (sym (o .framed .size)) (G .room) in
-              omega arith
-
-          pub push-held : room names used ≡ false → (w : Single) → Repeated w → one w ≡ full
-          push-held e w G = absurd (true≢false (sym (lt-ltb used (length names / 2) (roomy w G)) ∙ e))
-
-          module _ (more : i < total) (put : List ℕ) (pushes : put ≡ pushed names used n (low + i)) where
-            pub push-framed : Framed used names₀ put
-            push-framed = framed-again (o .framed) (framed-pushed used names n (low + i) put pushes)
-
-            named : (w : Single) (G : Repeated w) → names-of put (used + 1) ≡ (n, signed (low + i)) ∷ names-of names₀ used
-            named w G =
-                ap (λ (t : List ℕ). names-of t (used + 1)) pushes
-                ∙ names-pushed names used n (low + i) (lt-ltb used (length names / 2) (roomy w G))
-                ∙ ap (λ (l : Names). (n, signed (low + i)) ∷ l) (names-framed used names₀ names (o .framed))
-
-            fits : (w : Single) (G : Repeated w) → used + 1 + (depth - 1) ≤ length put / 2
-            fits w G =
-                let d = in-it w G .deeper in
-                let m = subst (λ (v : ℕ). used + depth ≤ v / 2) (sym (push-framed .size)) (G .room) in
-                omega arith
-
-            one-more : (w : Single) (G : Repeated w)
-                → one w
-                ≡ then-go (walk-of fuel text mo (inner w G (o .walking w G .0)) (names-of put (used + 1)) left)
-                (λ y. walk-rounds (walks-body w G) n (signed (low + i) +ℤ pos 1) (total - (i + 1)) (names-of names₀ used) (y .left) (y .state))
-            unfolding walk-rounds
-            one-more w G =
-                let s = o .walking w G in
-                let z : total - i ≡ suc (total - (i + 1)) = omega arith in
-                s .2 ∙ ap (λ (v : ℕ). walk-rounds (walks-body w G) n (signed (low + i)) v (names-of names₀ used) left (s .0)) z
-                ∙ ap (λ (l : Names). then-go (walk-items (body-of w G) (step-of fuel text mo (w .header) (w .busy)) l left (s .0))
-                (λ y. walk-rounds (walks-body w G) n (signed (low + i) +ℤ pos 1) (total - (i + 1)) (names-of names₀ used) (y .left) (y .state))) (sym (named w G))
-
-            module _ (b : W.Walked) (names′ own′ g′ k′ : List ℕ) (f : BodyAnswers b put (used + 1) left own g k own′ g′ k′) where
-              answered-body : (w : Single) (G : Repeated w) → Ends b mo text own′ g′ k′ (w .busy) (walk-of fuel text mo (inner w G (o .walking w G .0)) (names-of put (used + 1)) left)
-              answered-body w G = f (inner w G (o .walking w G .0)) (given-body put (used + 1) own g k w G (o .walking w G .0) (fits w G) (o .walking w G .1))
-
-              pub rounds-framed : Framed (used + 1) put names′ → Framed used names₀ names′
-              rounds-framed frame = framed-again push-framed (framed-less frame)
-
-              pub rounds-next : (l : ℕ) → b ≡ walks.Left l → RoundsWithin b left → Framed (used + 1) put names′ → Sized own g k own′ g′ k′ → Rounds n low total (i + 1) l names′ own′ g′ k′
-              rounds-next l e few′ frame size =
-                  let c = subst (λ (y : W.Walked). RoundsWithin y left) e few′ in
-                  let p = o .fewer in
-                  let q = o .sized in
-                  record {
-                    inside = omega arith;
-                    fewer = omega arith;
-                    framed = rounds-framed frame;
-                    sized = record { own-size = size .own-size ∙ q .own-size; g-size = size .g-size ∙ q .g-size; k-size = size .k-size ∙ q .k-size };
-                    walking = λ w G.
-                        let E = subst (λ (y : W.Walked). Ends y mo text own′ g′ k′ (w .busy) (walk-of fuel text mo (inner w G (o .walking w G .0)) (names-of put (used + 1)) left)) e (answered-body w G) in
-                        let z : low + i + 1 ≡ low + (i + 1) = omega arith in (
-                          E .0,
-                          E .2,
-                          one-more w G
-                              ∙ ap (λ (y : Got (Walked State)). then-go y (λ v. walk-rounds (walks-body w G) n (signed (low + i) +ℤ pos 1) (total - (i + 1)) (names-of names₀ used) (v .left) (v .state))) (E .1)
-                              ∙ ap (λ (v : ℤ). walk-rounds (walks-body w G) n v (total - (i + 1)) (names-of names₀ used) l (E .0)) (next-value (low + i))
-                              ∙ ap (λ (v : ℕ). walk-rounds (walks-body w G) n (signed v) (total - (i + 1)) (names-of names₀ used) l (E .0)) z,
-                        );
-                  }
-
-              pub rounds-full : b ≡ walks.Full → (w : Single) → Repeated w → one w ≡ full
-              rounds-full e w G =
-                  let E = subst (λ (y : W.Walked). Ends y mo text own′ g′ k′ (w .busy) (walk-of fuel text mo (inner w G (o .walking w G .0)) (names-of put (used + 1)) left)) e (answered-body w G) in
-                  one-more w G
-                  ∙ ap (λ (y : Got (Walked State)). then-go y (λ v. walk-rounds (walks-body w G) n (signed (low + i) +ℤ pos 1) (total - (i + 1)) (names-of names₀ used) (v .left) (v .state))) E
+        pub rounds-full : b ≡ walks.Full → (w : World) → Entered w → every w ≡ full
+        rounds-full e w G =
+            one-more w G
+            ∙ ap (λ (y : Got (Walked State)). then-go y (λ v. walk-rounds (each w) n (signed (low + i) +ℤ pos 1) (total - (i + 1)) (names-of names₀ used) (v .left) (v .state))) (as-body walks.Full e w G)
 
 -- ---- `constif`
 

@@ -90,24 +90,33 @@ module _ (fuel : ℕ) (mo : Mode) (text s : Bytes) (depth : ℕ) (names : Names)
     pub going-full : one-of fuel text mo one names left ≡ full → x ≡ full
     going-full e = split ∙ ap (λ (y : Got (Walked State)). then-go y (λ r. walk-items (F .rest) (step-of fuel text mo header busy) names (r .left) (r .state))) e
 
-    -- a line that holds nothing: its step is all
-    pub plain-ends : plain (F .item) ≡ true → {own′ g′ k′ : List ℕ} → Stepped true mo text own′ g′ k′ busy (step-of fuel text mo header busy names (F .item) (G .state))
-        → Ends (walks.Left left) mo text own′ g′ k′ busy (one-of fuel text mo one names left)
-    plain-ends p S = (
-      S .0,
-      ap (λ (y : Got State). then-go y (λ st. walk-inner (F .item) (step-of fuel text mo header busy) names left st)) (S .1)
-          ∙ inner-plain (step-of fuel text mo header busy) names left (S .0) (F .item) p,
-      S .2,
-    )
+-- ---- one item
 
-    pub inst-ends : (i : Inst) → F .item ≡ inst i → {own′ g′ k′ : List ℕ} → Stepped true mo text own′ g′ k′ busy (step-of fuel text mo header busy names (F .item) (G .state))
-        → Ends (walks.Left left) mo text own′ g′ k′ busy (one-of fuel text mo one names left)
-    inst-ends i q S = (
-      S .0,
-      ap (λ (y : Got State). then-go y (λ st. walk-inner (F .item) (step-of fuel text mo header busy) names left st)) (S .1)
-          ∙ ap (λ (j : Item). walk-inner j (step-of fuel text mo header busy) names left (S .0)) q ∙ inner-inst (step-of fuel text mo header busy) names left (S .0) i,
-      S .2,
-    )
+module _ (fuel : ℕ) (mo : Mode) (text : Bytes) (names : Names) (left : ℕ) (w : Single) where
+  abbrev stepping : Got State
+  stepping = step-of fuel text mo (w .header) (w .busy) names (w .item) (w .state)
 
-    pub step-full : step-of fuel text mo header busy names (F .item) (G .state) ≡ full → one-of fuel text mo one names left ≡ full
-    step-full e = ap (λ (y : Got State). then-go y (λ st. walk-inner (F .item) (step-of fuel text mo header busy) names left st)) e
+  abbrev onward : Got State → Got (Walked State)
+  onward y = then-go y (λ st. walk-inner (w .item) (step-of fuel text mo (w .header) (w .busy)) names left st)
+
+  -- a line that holds nothing: its step is all
+  pub plain-ends : plain (w .item) ≡ true → {own′ g′ k′ : List ℕ} → Stepped true mo text own′ g′ k′ (w .busy) stepping
+      → Ends (walks.Left left) mo text own′ g′ k′ (w .busy) (one-of fuel text mo w names left)
+  plain-ends p S = (
+    S .0,
+    ap (λ (y : Got State). onward y) (S .1) ∙ inner-plain (step-of fuel text mo (w .header) (w .busy)) names left (S .0) (w .item) p,
+    S .2,
+  )
+
+  pub inst-ends : (i : Inst) → w .item ≡ inst i → {own′ g′ k′ : List ℕ} → Stepped true mo text own′ g′ k′ (w .busy) stepping
+      → Ends (walks.Left left) mo text own′ g′ k′ (w .busy) (one-of fuel text mo w names left)
+  inst-ends i q S = (
+    S .0,
+    ap (λ (y : Got State). onward y) (S .1)
+        ∙ ap (λ (j : Item). walk-inner j (step-of fuel text mo (w .header) (w .busy)) names left (S .0)) q
+        ∙ inner-inst (step-of fuel text mo (w .header) (w .busy)) names left (S .0) i,
+    S .2,
+  )
+
+  pub step-full : stepping ≡ full → one-of fuel text mo w names left ≡ full
+  step-full e = ap (λ (y : Got State). onward y) e

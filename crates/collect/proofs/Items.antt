@@ -1,4 +1,4 @@
--- The loop of `collect_items`: where it stands, and one law for each way of its turn.
+-- One item, by what it is, and the loop over a run of items: where it stands, and one law for each way of its turn.
 -- Assumes nothing.
 use mathlib.Core.Path.{_≡_, refl, sym, _∙_, ap, subst}
 use mathlib.Core.Bool.{Bool, true, false}
@@ -7,7 +7,7 @@ use Prim.Native.Nat.{ℕ, _+_, _/_, _≤_, _<_}
 use native.Mathlib.Omega.{arith}
 use lib.ListN.{length, drop}
 use Rattle.spec.specs.Bytes.{Bytes}
-use Rattle.spec.specs.Syntax.{Item}
+use Rattle.spec.specs.Syntax.{Item, port, wire, reg, mem, const, drive, on, inst, repeat, const-if}
 use Rattle.spec.specs.Value.{Names}
 use Rattle.spec.specs.Refusal.{decode}
 use Rattle.lines.specs.Parts.{piece}
@@ -15,13 +15,12 @@ use Rattle.consteval.specs.Worth.{names-of}
 use Rattle.runs.specs.Run.{ShowsItem, form-length, item-end}
 use Rattle.runs.proofs.Items.{FirstOf, first-of-run}
 use Rattle.walk.specs.Walk.{Got, full, Walked, State, ask-walk}
-use Rattle.steps.specs.Steps.{plain, HeadIs}
+use Rattle.steps.specs.Steps.{HeadIs}
 use Rattle.steps.specs.declared.Head as H
 use Rattle.steps.specs.declared.Head.the-variants as head
 use Rattle.collect.specs.declared.Walked as W
 use Rattle.collect.specs.declared.Walked.the-variants as walks
-use Rattle.items.specs.Lines.{StandsAt}
-use Rattle.collect.specs.Cycle.{PartOf, Mode, mode, World, Single, Given, OneGiven, Ends, RoundsWithin, Stepped, Framed, PlainEnds, step-of, walk-of, one-of}
+use Rattle.collect.specs.Cycle.{PartOf, Mode, World, Single, Given, OneGiven, Ends, RoundsWithin, Stepped, Framed, PlainEnds, step-of, walk-of, one-of}
 use Rattle.collect.specs.Plain.{PlainLine}
 use Rattle.collect.proofs.Parts.{end-within, part-piece, stands-here}
 use Rattle.collect.proofs.Going.{Going, one, going-end, going-next, going-full, plain-ends, inst-ends, step-full, names-framed}
@@ -38,8 +37,26 @@ framed-same = record { size = refl; same = λ i h. refl }
 pub framed-again : {used : ℕ} {a b c : List ℕ} → Framed used a b → Framed used b c → Framed used a c
 framed-again p q = record { size = q .size ∙ p .size; same = λ i h. q .same i h ∙ p .same i h }
 
+-- fewer rounds are left than there were before some were spent
+pub within-more : (r : W.Walked) (a b : ℕ) → a ≤ b → RoundsWithin r a → RoundsWithin r b
+within-more (walks.Left l) a b h w = omega arith
+within-more walks.Full a b h w = tt
+
 sized-again : {a b c d e f g h i : List ℕ} → Sized a b c d e f → Sized d e f g h i → Sized a b c g h i
 sized-again p q = record { own-size = q .own-size ∙ p .own-size; g-size = q .g-size ∙ p .g-size; k-size = q .k-size ∙ p .k-size }
+
+-- each item has a head
+some-head : (i : Item) → (h : H.Head) × HeadIs h i
+some-head (port d n w s) = (head.Plain, refl)
+some-head (wire n e s) = (head.Plain, refl)
+some-head (reg n s) = (head.Plain, refl)
+some-head (mem n s) = (head.Plain, refl)
+some-head (const n e) = (head.Plain, refl)
+some-head (drive lv e) = (head.Plain, refl)
+some-head (on s ss) = (head.Plain, refl)
+some-head (inst i) = (head.Inst, (i, refl))
+some-head (repeat n l h is) = (head.Repeat, (n, l, h, is, refl))
+some-head (const-if c is js) = (head.ConstIf, (c, is, js, refl))
 
 -- the walk from the entry has come to `at`
 pub record On (fuel : ℕ) (mo : Mode) (text kinds mods : List ℕ) (count : ℕ) (s : Bytes) (base depth : ℕ) (ks names₀ : List ℕ) (used left₀ : ℕ) (own₀ g₀ k₀ : List ℕ)
@@ -126,117 +143,96 @@ module _ (fuel : ℕ) (mo : Mode) (text kinds mods : List ℕ) (count : ℕ) (s 
       stop : ((w : World) (G : Entered w) → one-of fuel text mo (single w G) (names-of names₀ used) left ≡ full) → (w : World) → Entered w → walk w ≡ full
       stop e w G = going-full fuel mo text s depth (names-of names₀ used) (w .header) (w .busy) (walk w) (o .walking w G) (first w G) (e w G)
 
-      module _ (h r : H.Head) (told : (i : Item) (d : ℕ) → ShowsItem x d i → HeadIs r i) (is : r ≡ h) where
-        headed : (w : World) (G : Entered w) → HeadIs h (first w G .item)
-        headed w G = subst (λ (y : H.Head). HeadIs y (first w G .item)) is (told (first w G .item) depth (shows w G))
+      -- the item has a head, whichever it is
+      abbrev Answers : W.Walked → (own′ g′ k′ : List ℕ) → Type 0
+      Answers a own′ g′ k′ =
+          (h : H.Head) (w : Single) → OneGiven h mo text kinds mods count x (base + at + 1) depth ks names used own g k w
+          → Ends a mo text own′ g′ k′ (w .busy) (one-of fuel text mo w (names-of names used) left)
 
-        abbrev Answers : W.Walked → (own′ g′ k′ : List ℕ) → Type 0
-        Answers a own′ g′ k′ =
-            (w : Single) → OneGiven h mo text kinds mods count x (base + at + 1) depth ks names used own g k w
-            → Ends a mo text own′ g′ k′ (w .busy) (one-of fuel text mo w (names-of names used) left)
+      answered : (a : W.Walked) (own′ g′ k′ : List ℕ) → Answers a own′ g′ k′
+          → (w : World) (G : Entered w) → Ends a mo text own′ g′ k′ (w .busy) (one-of fuel text mo (single w G) (names-of names₀ used) left)
+      answered a own′ g′ k′ f w G =
+          let h = some-head (first w G .item) in
+          subst (λ (ns : Names). Ends a mo text own′ g′ k′ (w .busy) (one-of fuel text mo (single w G) ns left)) names-same
+          (f (h .0) (single w G) (given (h .0) w G (h .1)))
 
-        -- a `repeat` or a `constif`
-        pub body-next : (l : ℕ) (names′ own′ g′ k′ : List ℕ) (a : W.Walked) → a ≡ walks.Left l → RoundsWithin a left → Framed used names names′ → Sized own g k own′ g′ k′
-            → Answers a own′ g′ k′ → On fuel mo text kinds mods count s base depth ks names₀ used left₀ own₀ g₀ k₀ end l names′ own′ g′ k′
-        body-next l names′ own′ g′ k′ a e few frame size f =
-            next l names′ own′ g′ k′ (subst (λ (y : W.Walked). RoundsWithin y left) e few) frame size
-            (λ w G.
-            subst (λ (ns : Names). Ends (walks.Left l) mo text own′ g′ k′ (w .busy) (one-of fuel text mo (single w G) ns left)) names-same
-            (subst (λ (y : W.Walked). Ends y mo text own′ g′ k′ (w .busy) (one-of fuel text mo (single w G) (names-of names used) left)) e
-            (f (single w G) (given h w G (headed w G)))))
+      pub item-next : (l : ℕ) (names′ own′ g′ k′ : List ℕ) (a : W.Walked) → a ≡ walks.Left l → RoundsWithin a left → Framed used names names′ → Sized own g k own′ g′ k′
+          → Answers a own′ g′ k′ → On fuel mo text kinds mods count s base depth ks names₀ used left₀ own₀ g₀ k₀ end l names′ own′ g′ k′
+      item-next l names′ own′ g′ k′ a e few frame size f =
+          next l names′ own′ g′ k′ (subst (λ (y : W.Walked). RoundsWithin y left) e few) frame size
+          (λ w G.
+          subst (λ (y : W.Walked). Ends y mo text own′ g′ k′ (w .busy) (one-of fuel text mo (single w G) (names-of names₀ used) left)) e (answered a own′ g′ k′ f w G))
 
-        pub body-full : (own′ g′ k′ : List ℕ) (a : W.Walked) → a ≡ walks.Full → Answers a own′ g′ k′ → (w : World) → Entered w → walk w ≡ full
-        body-full own′ g′ k′ a e f =
-            stop
-            (λ w G.
-            subst (λ (ns : Names). one-of fuel text mo (single w G) ns left ≡ full) names-same
-            (subst (λ (y : W.Walked). Ends y mo text own′ g′ k′ (w .busy) (one-of fuel text mo (single w G) (names-of names used) left)) e
-            (f (single w G) (given h w G (headed w G)))))
+      pub item-full : (own′ g′ k′ : List ℕ) (a : W.Walked) → a ≡ walks.Full → Answers a own′ g′ k′ → (w : World) → Entered w → walk w ≡ full
+      item-full own′ g′ k′ a e f =
+          stop
+          (λ w G.
+          subst (λ (y : W.Walked). Ends y mo text own′ g′ k′ (w .busy) (one-of fuel text mo (single w G) (names-of names₀ used) left)) e (answered a own′ g′ k′ f w G))
 
-      abbrev stepping : (w : World) → Entered w → Names → Got State
-      stepping w G ns = step-of fuel text mo (w .header) (w .busy) ns (first w G .item) (o .walking w G .state)
+-- ---- one item, by its head
 
-      -- an instance
-      module _ (r : H.Head) (told : (i : Item) (d : ℕ) → ShowsItem x d i → HeadIs r i) (is : r ≡ head.Inst) where
-        inst-headed : (w : World) (G : Entered w) → HeadIs head.Inst (first w G .item)
-        inst-headed = headed head.Inst r told is
+module _ (fuel : ℕ) (mo : Mode) (text kinds mods : List ℕ) (count : ℕ) (x : Bytes) (from depth : ℕ) (ks names : List ℕ) (used left : ℕ) (own g k : List ℕ) (r : H.Head) (told : (i : Item) (d : ℕ) → ShowsItem x d i → HeadIs r i) where
+  abbrev Is : H.Head → Single → Type 0
+  Is h w = OneGiven h mo text kinds mods count x from depth ks names used own g k w
 
-        abbrev Steps : Bool → (g′ k′ : List ℕ) → Type 0
-        Steps b g′ k′ =
-            (mo : Mode) (own : List ℕ) (from : ℕ) (w : Single) → OneGiven head.Inst mo text kinds mods count x from depth ks names used own g k w
-            → Stepped b mo text own g′ k′ (w .busy) (step-of fuel text mo (w .header) (w .busy) (names-of names used) (w .item) (w .state))
+  abbrev item-walk : Single → Got (Walked State)
+  item-walk w = one-of fuel text mo w (names-of names used) left
 
-        stepped : (b : Bool) (g′ k′ : List ℕ) → Steps b g′ k′ → (w : World) (G : Entered w) → Stepped b mo text own g′ k′ (w .busy) (stepping w G (names-of names₀ used))
-        stepped b g′ k′ f w G =
-            subst (λ (ns : Names). Stepped b mo text own g′ k′ (w .busy) (stepping w G ns)) names-same
-            (f mo own (base + at + 1) (single w G) (given head.Inst w G (inst-headed w G)))
+  -- it is what the code takes it for
+  taken-for : (h : H.Head) → r ≡ h → (h′ : H.Head) (w : Single) → Is h′ w → Is h w
+  taken-for h e h′ w G =
+      record {
+        tabled = G .tabled;
+        shows = G .shows;
+        head = subst (λ (y : H.Head). HeadIs y (w .item)) e (told (w .item) depth (G .shows));
+        part = G .part;
+        told = G .told;
+        room = G .room;
+        holding = G .holding;
+      }
 
-        pub inst-next : (b : Bool) → b ≡ true → (g′ k′ : List ℕ) → length g′ ≡ length g → length k′ ≡ length k → Steps b g′ k′
-            → On fuel mo text kinds mods count s base depth ks names₀ used left₀ own₀ g₀ k₀ end left names own g′ k′
-        inst-next b was g′ k′ gs kz p =
-            let f = subst (λ (c : Bool). Steps c g′ k′) was p in
-            next left names own g′ k′ (omega arith) framed-same (record { own-size = refl; g-size = gs; k-size = kz })
-            (λ w G.
-            inst-ends fuel mo text s depth (names-of names₀ used) (w .header) (w .busy) (walk w) (o .walking w G) (first w G) (inst-headed w G .0) (inst-headed w G .1)
-            (stepped true g′ k′ f w G))
+  -- a `repeat` or a `constif`
+  pub body-walked : (h : H.Head) → r ≡ h → (a : W.Walked) (own′ g′ k′ : List ℕ) → ((w : Single) → Is h w → Ends a mo text own′ g′ k′ (w .busy) (item-walk w))
+      → (h′ : H.Head) (w : Single) → Is h′ w → Ends a mo text own′ g′ k′ (w .busy) (item-walk w)
+  body-walked h e a own′ g′ k′ f h′ w G = f w (taken-for h e h′ w G)
 
-        pub inst-full : (b : Bool) → b ≡ false → (g′ k′ : List ℕ) → Steps b g′ k′ → (w : World) → Entered w → walk w ≡ full
-        inst-full b was g′ k′ p =
-            let f = subst (λ (c : Bool). Steps c g′ k′) was p in
-            stop (λ w G. step-full fuel mo text s depth (names-of names₀ used) (w .header) (w .busy) (walk w) (o .walking w G) (first w G) (stepped false g′ k′ f w G))
+  abbrev item-step : Single → Got State
+  item-step w = step-of fuel text mo (w .header) (w .busy) (names-of names used) (w .item) (w .state)
 
--- a plain line
-module _ (fuel : ℕ) (checking bound : Bool) (text kinds mods : List ℕ) (count : ℕ) (s : Bytes) (base depth : ℕ) (ks names₀ : List ℕ) (used left₀ : ℕ) (own₀ g₀ k₀ : List ℕ) (at left : ℕ) (names own g k : List ℕ) (o : On fuel (mode checking bound) text kinds mods count s base depth ks names₀ used left₀ own₀ g₀ k₀ at left names own g k) (more : at + 1 < length s) (end : ℕ) (x : Bytes) (till : end ≡ at + 1 + form-length 0 (drop (at + 1) s)) (cut : x ≡ piece s at end) (r : H.Head) (told : (i : Item) (d : ℕ) → ShowsItem x d i → HeadIs r i) (is : r ≡ head.Plain) where
-  abbrev mo : Mode
-  mo = mode checking bound
+  -- an instance
+  module _ (is : r ≡ head.Inst) (b : Bool) (g′ k′ : List ℕ)
+      (steps : (mo : Mode) (own : List ℕ) (from : ℕ) (w : Single) → OneGiven head.Inst mo text kinds mods count x from depth ks names used own g k w
+      → Stepped b mo text own g′ k′ (w .busy) (step-of fuel text mo (w .header) (w .busy) (names-of names used) (w .item) (w .state))) where
+    inst-stepped : (c : Bool) → b ≡ c → (h : H.Head) (w : Single) → Is h w → Stepped c mo text own g′ k′ (w .busy) (item-step w)
+    inst-stepped c was h w G =
+        subst (λ (y : Bool). Stepped y mo text own g′ k′ (w .busy) (item-step w)) was (steps mo own from w (taken-for head.Inst is h w G))
 
-  abbrev Enters : World → Type 0
-  Enters w = Given mo text kinds mods count s base depth ks names₀ used own₀ g₀ k₀ w
+    pub inst-walked : b ≡ true → (h : H.Head) (w : Single) → Is h w → Ends (walks.Left left) mo text own g′ k′ (w .busy) (item-walk w)
+    inst-walked was h w G =
+        let i = taken-for head.Inst is h w G .head in
+        inst-ends fuel mo text (names-of names used) left w (i .0) (i .1) (inst-stepped true was h w G)
 
-  abbrev ahead : (w : World) (G : Enters w) → FirstOf depth s at (o .walking w G .items)
-  ahead = first fuel mo text kinds mods count s base depth ks names₀ used left₀ own₀ g₀ k₀ at left names own g k o more end x till cut
+    pub inst-full : b ≡ false → (h : H.Head) (w : Single) → Is h w → item-walk w ≡ full
+    inst-full was h w G = step-full fuel mo text (names-of names used) left w (inst-stepped false was h w G)
 
-  shown : (w : World) (G : Enters w) → ShowsItem x depth (ahead w G .item)
-  shown = shows fuel mo text kinds mods count s base depth ks names₀ used left₀ own₀ g₀ k₀ at left names own g k o more end x till cut
+  -- a plain line
+  module _ (is : r ≡ head.Plain) (b : Bool) (own′ g′ : List ℕ) (line : PlainLine b x from depth ks (mo .own) (mo .bound) (names-of names used) own g own′ g′) where
+    plain-stepped : (c : Bool) → b ≡ c → (h : H.Head) (w : Single) → Is h w
+        → PlainEnds c mo text own′ g′ (w .header) (names-of names used) (w .item) (w .state .own) (w .state .heads)
+    plain-stepped c was h w G =
+        subst (λ (y : Bool). PlainEnds y mo text own′ g′ (w .header) (names-of names used) (w .item) (w .state .own) (w .state .heads)) was
+        (line text (w .item) (G .shows) (taken-for head.Plain is h w G .head) (stands-here text from x (G .part) kinds mods count (G .tabled)) (w .header) (G .told) (w .state .own)
+        (G .holding .owned) (w .state .heads) (G .holding .stands))
 
-  is-plain : (w : World) (G : Enters w) → plain (ahead w G .item) ≡ true
-  is-plain = headed fuel mo text kinds mods count s base depth ks names₀ used left₀ own₀ g₀ k₀ at left names own g k o more end x till cut head.Plain r told is
+    pub plain-walked : b ≡ true → (h : H.Head) (w : Single) → Is h w → Ends (walks.Left left) mo text own′ g′ k (w .busy) (item-walk w)
+    plain-walked was h w G =
+        let e = plain-stepped true was h w G in
+        plain-ends fuel mo text (names-of names used) left w (taken-for head.Plain is h w G .head) (
+          record { own = e .0; heads = e .1; kept = w .state .kept },
+          e .2 (ask-walk fuel (decode text) (w .busy)) (w .state .kept),
+          record { owned = e .3; stands = e .4; keeps = G .holding .keeps },
+        )
 
-  step-here : (w : World) (G : Enters w) → Got State
-  step-here w G = step-of fuel text mo (w .header) (w .busy) (names-of names₀ used) (ahead w G .item) (o .walking w G .state)
-
-  plainly : (b : Bool) (own′ g′ : List ℕ) → PlainLine b x (base + at + 1) depth ks checking bound (names-of names used) own g own′ g′
-      → (w : World) (G : Enters w)
-      → PlainEnds b mo text own′ g′ (w .header) (names-of names₀ used) (ahead w G .item) (o .walking w G .state .own) (o .walking w G .state .heads)
-  plainly b own′ g′ f w G =
-      let st = o .walking w G .state in
-      let p = part-piece text base s (G .part) at end (omega arith) in
-      let q = stands-here text (base + at + 1) (piece s at end) p kinds mods count (G .tabled) in
-      subst (λ (ns : Names). PlainEnds b mo text own′ g′ (w .header) ns (ahead w G .item) (st .own) (st .heads)) (names-framed used names₀ names (o .framed))
-      (f text (ahead w G .item) (shown w G) (is-plain w G) (subst (λ (y : Bytes). StandsAt text (base + at + 1) y) (sym cut) q) (w .header) (G .told) (st .own) (o .walking w G .holding .owned) (st .heads)
-      (o .walking w G .holding .stands))
-
-  pub plain-next : (b : Bool) → b ≡ true → (own′ g′ : List ℕ) → length own′ ≡ length own → length g′ ≡ length g
-      → PlainLine b x (base + at + 1) depth ks checking bound (names-of names used) own g own′ g′
-      → On fuel mo text kinds mods count s base depth ks names₀ used left₀ own₀ g₀ k₀ end left names own′ g′ k
-  plain-next b was own′ g′ os gs p =
-      let f = subst (λ (c : Bool). PlainLine c x (base + at + 1) depth ks checking bound (names-of names used) own g own′ g′) was p in
-      next fuel mo text kinds mods count s base depth ks names₀ used left₀ own₀ g₀ k₀ at left names own g k o more end x till cut left names own′ g′ k (omega arith)
-      framed-same (record { own-size = os; g-size = gs; k-size = refl })
-      (λ w G.
-      let st = o .walking w G .state in
-      let e = plainly true own′ g′ f w G in
-      plain-ends fuel mo text s depth (names-of names₀ used) (w .header) (w .busy) _ (o .walking w G) (ahead w G) (is-plain w G) (
-        record { own = e .0; heads = e .1; kept = st .kept },
-        e .2 (ask-walk fuel (decode text) (w .busy)) (st .kept),
-        record { owned = e .3; stands = e .4; keeps = o .walking w G .holding .keeps },
-      ))
-
-  pub plain-full : (b : Bool) → b ≡ false → (own′ g′ : List ℕ) → PlainLine b x (base + at + 1) depth ks checking bound (names-of names used) own g own′ g′
-      → (w : World) → Enters w → _≡_ {A = Got (Walked State)} (walk-of fuel text mo w (names-of names₀ used) left₀) full
-  plain-full b was own′ g′ p =
-      let f = subst (λ (c : Bool). PlainLine c x (base + at + 1) depth ks checking bound (names-of names used) own g own′ g′) was p in
-      stop fuel mo text kinds mods count s base depth ks names₀ used left₀ own₀ g₀ k₀ at left names own g k o more end x till cut
-      (λ w G.
-      step-full fuel mo text s depth (names-of names₀ used) (w .header) (w .busy) _ (o .walking w G) (ahead w G)
-      (plainly false own′ g′ f w G (ask-walk fuel (decode text) (w .busy)) (o .walking w G .state .kept)))
+    pub plain-full : b ≡ false → (h : H.Head) (w : Single) → Is h w → item-walk w ≡ full
+    plain-full was h w G =
+        step-full fuel mo text (names-of names used) left w (plain-stepped false was h w G (ask-walk fuel (decode text) (w .busy)) (w .state .kept))

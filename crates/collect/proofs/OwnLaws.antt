@@ -1,20 +1,16 @@
 -- A module's own walk from the slices as they are lent: its tables emptied, one law for each way of the code. Assumes nothing.
-use mathlib.Core.Path.{_≡_, refl, sym, ap, _∙_, subst}
+use mathlib.Core.Path.{_≡_, sym, ap, _∙_, subst}
 use mathlib.Core.Bool.{true}
-use mathlib.Core.List.{List, [], List·Memᴰ·not-nil}
-use Prim.Native.Nat.{ℕ, _+_, _≤_, _<_}
+use mathlib.Core.List.{List, []}
+use Prim.Native.Nat.{ℕ, _≤_}
 use native.Mathlib.Omega.{arith}
-use lib.ListN.{length, getD, set, length-set, replicate}
-use lib.Seq.{getD-set-same, getD-set-other}
+use lib.ListN.{length, replicate}
 use Rattle.spec.specs.Bytes.{Bytes}
 use Rattle.spec.specs.Syntax.{Module}
 use Rattle.spec.specs.Refusal.{decode}
 use Rattle.spec.specs.Value.{Table, own-vals, name-table}
-use Rattle.spec.specs.Edge.{all-nodes, edges-from}
 use Rattle.spec.specs.Summary.{Kept}
-use Rattle.graph.specs.Table.{nodes-below, newest, edges-below, out}
-use Rattle.graph.specs.Stands.{Stands}
-use Rattle.graph.specs.Cycles.{Zeroed}
+use Rattle.graph.specs.Stands.{graph-places, Stands}
 use Rattle.sites.specs.Own.{places}
 use Rattle.runs.specs.Text.{ModuleAt}
 use Rattle.runs.proofs.Text.{module-at}
@@ -28,44 +24,8 @@ use Rattle.collect.specs.declared.Walked.the-variants as walks
 use Rattle.collect.specs.declared.Collected.{Collected}
 use Rattle.collect.specs.declared.Collected.the-variants as collected
 use Rattle.collect.specs.Cycle.{mode, Ends, Framed, RoundsWithin}
-use Rattle.collect.specs.Face.{graph-places, WalkGiven, ModuleGiven, Collects, rounds-of, Lent}
+use Rattle.collect.specs.Face.{WalkGiven, ModuleGiven, Collects, left-of, LentAfter}
 use Rattle.collect.proofs.Going.{names-framed}
-
--- ---- an empty graph
-
--- words with no node, no edge and no first edge are the graph of no heads
-stands-none : (g : List ℕ) → graph-places ≤ length g → getD g 0 0 ≡ 0 → getD g 1 0 ≡ 0 → ((s : ℕ) → s < 512 → getD g (3074 + s) 0 ≡ 0) → Stands g []
-unfolding newest nodes-below edges-below out all-nodes edges-from
-stands-none g h a b f = record {
-  sized = h;
-  few = omega arith;
-  once = rw a tt;
-  listed = λ m i. rw a at i;
-  all = λ m i. absurd (List·Memᴰ·not-nil i);
-  started = λ i l. absurd (omega arith);
-  headed = λ i l. absurd (omega arith);
-  linked = record {
-    room = omega arith;
-    few = omega arith;
-    sources = λ i l. absurd (omega arith);
-    firsts = λ s l. rw b (f s l);
-    links = λ i l. absurd (omega arith);
-  };
-  ends = λ i l. absurd (omega arith);
-  reads-once = λ i. rw b tt;
-  reads = λ i j l m. absurd (omega arith);
-  edge-count = rw a b;
-}
-
-pub stands-emptied : (g₀ g : List ℕ) (n : ℕ) → Zeroed 3074 n g₀ g → 512 ≤ n → graph-places ≤ length g₀ → Stands (set (set g 0 0) 1 0) []
-stands-emptied g₀ g n Z e h =
-    let s = Z .size in
-    let l = length-set g 0 0 in
-    let l′ = length-set (set g 0 0) 1 0 in
-    stands-none (set (set g 0 0) 1 0) (omega arith)
-    (getD-set-other (set g 0 0) 1 0 0 0 (λ z. omega arith) ∙ getD-set-same g 0 0 0 (omega arith))
-    (getD-set-same (set g 0 0) 1 0 0 (omega arith))
-    (λ i q. getD-set-other (set g 0 0) 1 (3074 + i) 0 0 (λ z. omega arith) ∙ getD-set-other g 0 (3074 + i) 0 0 (λ z. omega arith) ∙ Z .zeros i (omega arith))
 
 -- ---- a module
 
@@ -132,14 +92,17 @@ module _ (text names own g k : List ℕ) (x : Module) (y : Got (Walked State)) (
 abbrev pub Sizes : List ℕ → List ℕ → List ℕ → List ℕ → List ℕ → List ℕ → List ℕ → List ℕ → Type 0
 Sizes names own g k names′ own′ g′ k′ = (length names′ ≡ length names) × (length own′ ≡ length own) × (length g′ ≡ length g) × (length k′ ≡ length k)
 
+pub left-few : (a : Collected) {used left : ℕ} → left-of a ≤ 4096 → a ≡ collected.Left used left → left ≤ 4096
+left-few a h e = subst (λ (b : Collected). left-of b ≤ 4096) e h
+
 module _ (names own g k names′ own′ g′ k′ : List ℕ) (s : Sizes names own g k names′ own′ g′ k′) where
-  pub lent-left : (a : Collected) {used left : ℕ} → rounds-of a ≤ 4096 → a ≡ collected.Left used left → Lent (collected.Left used left) names own g k names′ own′ g′ k′
-  lent-left a h e = record { sizes = s; emptied = λ z. absurd (omega arith); rounds = subst (λ (b : Collected). rounds-of b ≤ 4096) e h }
+  pub lent-left : (used left : ℕ) → LentAfter (collected.Left used left) names own g k names′ own′ g′ k′
+  lent-left used left = record { sizes = s; emptied = λ z. absurd (omega arith) }
 
   -- each slice is cleared after the walk left it with its length
   pub lent-full : (names₁ own₁ g₁ k₁ : List ℕ) → Sizes names own g k names₁ own₁ g₁ k₁
       → names′ ≡ replicate (length names₁) 0 → own′ ≡ replicate (length own₁) 0 → g′ ≡ replicate (length g₁) 0 → k′ ≡ replicate (length k₁) 0
-      → Lent collected.Full names own g k names′ own′ g′ k′
+      → LentAfter collected.Full names own g k names′ own′ g′ k′
   lent-full names₁ own₁ g₁ k₁ t a b c d =
       record {
         sizes = s;
@@ -149,5 +112,4 @@ module _ (names own g k names′ own′ g′ k′ : List ℕ) (s : Sizes names o
           c ∙ ap (λ (n : ℕ). replicate n 0) (t .2),
           d ∙ ap (λ (n : ℕ). replicate n 0) (t .3),
         );
-        rounds = omega arith;
       }

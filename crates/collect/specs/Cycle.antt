@@ -11,11 +11,12 @@ use Rattle.spec.specs.Refusal.{refusal, well-formed, decode}
 use Rattle.spec.specs.Value.{Names}
 use Rattle.spec.specs.Edge.{Head}
 use Rattle.spec.specs.Summary.{Kept}
+use Rattle.consteval.specs.Worth.{signed}
 use Rattle.lines.specs.Tables.{put-kinds, put-mods}
 use Rattle.graph.specs.Stands.{Stands}
 use Rattle.edges.specs.Reads.{KindsOf}
 use Rattle.runs.specs.Run.{ShowsItem, RunOf}
-use Rattle.walk.specs.Walk.{Got, full, going, then-go, Walked, walked, walk-inner, Own, over-own, State, Walking, Answered, Asking, line-step, walk-items, ask-walk}
+use Rattle.walk.specs.Walk.{Got, full, going, then-go, Walked, walked, walk-rounds, walk-inner, Own, over-own, State, Walking, Answered, Asking, line-step, walk-items, ask-walk}
 use Rattle.walk.specs.Alike.{Alike}
 use Rattle.items.specs.Held.{Held}
 use Rattle.summary.specs.Keeps.{Keeps, pairs-of}
@@ -107,6 +108,11 @@ walk-of fuel text mo w names left = walk-items (w .items) (step-of fuel text mo 
 abbrev pub one-of : ℕ → Bytes → Mode → Single → Names → ℕ → Got (Walked State)
 one-of fuel text mo w names left =
     then-go (step-of fuel text mo (w .header) (w .busy) names (w .item) (w .state)) (λ st. walk-inner (w .item) (step-of fuel text mo (w .header) (w .busy)) names left st)
+
+-- 01, The collected item: the walk over the rounds of a repeat that holds these items; its variable n has the values from `low` on
+abbrev pub turns-of : ℕ → Bytes → Mode → World → (n low rounds : ℕ) → Names → ℕ → Got (Walked State)
+turns-of fuel text mo w n low rounds names left =
+    walk-rounds (λ names′ left′ st. walk-items (w .items) (step-of fuel text mo (w .header) (w .busy)) names′ left′ st) n (signed low) rounds names left (w .state)
 
 -- what a walk leaves: the rounds left and the state, or it is full
 abbrev pub Ends : W.Walked → Mode → (text own g k : List ℕ) → List ℕ → Got (Walked State) → Type 0

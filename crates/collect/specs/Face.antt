@@ -12,7 +12,7 @@ use Rattle.spec.specs.Refusal.{decode}
 use Rattle.spec.specs.Value.{own-vals, name-table}
 use Rattle.spec.specs.Summary.{Kept}
 use Rattle.consteval.specs.Worth.{names-of}
-use Rattle.graph.specs.Stands.{Stands}
+use Rattle.graph.specs.Stands.{graph-places, Stands}
 use Rattle.sites.specs.Own.{places}
 use Rattle.walk.specs.Walk.{Got, full, going, Walked, walked, State, no-own}
 use Rattle.steps.specs.Modules.{name-places}
@@ -22,12 +22,8 @@ use Rattle.collect.specs.declared.Collected.{Collected}
 use Rattle.collect.specs.declared.Collected.the-variants as collected
 use Rattle.collect.specs.Cycle.{Tabled, Holding, mode}
 
--- 01, Refused because of the state: how many places a graph has
-abbrev pub graph-places : ℕ
-graph-places = 15874
-
--- module x is number m of an accepted text, each slice has places for the limits that it serves, and the words k hold the summaries kept so
--- far; what the other slices hold does not matter
+-- 01, Refused because of the state: module x is number m of an accepted text; `own` has just the places of its tables, and names, graph and
+-- summaries have theirs or more; the words k hold the summaries kept so far, and what the others hold does not matter
 pub record ModuleGiven (text kinds mods : List ℕ) (count m : ℕ) (names own g k : List ℕ) (x : Module) (kept : Kept) : Type 0 where
   pub tabled : Tabled text kinds mods count
   pub there : getElem? (decode text) m ≡ some x
@@ -43,24 +39,24 @@ Collects (collected.Left used left) text names own g k x y =
     (st : State) × (y ≡ going (walked left st)) × Holding (mode true (x .bound)) text own g k [] st × (names-of names used ≡ name-table (own-vals x) x .names)
 Collects collected.Full text names own g k x y = y ≡ full
 
--- 01, Refused because of the state: the number of each answer
+-- 01, Refused because of the state: the number that the whole check gives where a module is full; 0 where there is none yet
 abbrev pub number-of : Collected → ℕ
 number-of (collected.Left used left) = 0
 number-of collected.Full = 20
 
--- 01, The collected item: the rounds that are left
-abbrev pub rounds-of : Collected → ℕ
-rounds-of (collected.Left used left) = left
-rounds-of collected.Full = 0
+-- 01, The collected item: of the 4,096 rounds, those that are left
+abbrev pub left-of : Collected → ℕ
+left-of (collected.Left used left) = left
+left-of collected.Full = 0
 
--- 01, Worthless checks: what every lent slice becomes, whatever it held: it keeps its length, and where the number is 20 each place is 0
-pub record Lent (r : Collected) (names own g k names′ own′ g′ k′ : List ℕ) : Type 0 where
+-- 01, Worthless checks: what every slice that is lent to be written becomes, whatever it held: it keeps its length, and where the number is 20
+-- each place of it is 0
+pub record LentAfter (r : Collected) (names own g k names′ own′ g′ k′ : List ℕ) : Type 0 where
   pub sizes : (length names′ ≡ length names) × (length own′ ≡ length own) × (length g′ ≡ length g) × (length k′ ≡ length k)
   pub emptied : number-of r ≡ 20
       → (names′ ≡ replicate (length names) 0) × (own′ ≡ replicate (length own) 0) × (g′ ≡ replicate (length g) 0) × (k′ ≡ replicate (length k) 0)
-  pub rounds : rounds-of r ≤ 4096
 
--- where the walk over the items of module x begins: its name table stands, with room for the variables of open repeats, and its tables are empty
+-- 01, The collected item: where the walk over the items of module x begins: its name table stands, with room for the variables of open repeats, and its tables are empty
 pub record WalkGiven (text kinds mods : List ℕ) (count m : ℕ) (names : List ℕ) (used : ℕ) (own g k : List ℕ) (x : Module) (kept : Kept) : Type 0 where
   pub tabled : Tabled text kinds mods count
   pub there : getElem? (decode text) m ≡ some x

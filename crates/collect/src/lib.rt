@@ -23,11 +23,11 @@ ghost use Rattle.spec.specs.Refusal.{decode, has-name};
 ghost use Rattle.spec.specs.Syntax.{Module};
 ghost use Rattle.spec.specs.Summary.{Kept, kept-summary};
 ghost use Rattle.walk.specs.Walk.{ask-walk, own-walk};
+ghost use Rattle.steps.specs.declared.Head as heads;
 ghost use Rattle.steps.specs.declared.Head.the-variants as head;
 ghost use Rattle.summary.specs.Keeps.{Keeps};
-ghost use Rattle.graph.specs.Stands.{Stands};
-ghost use Rattle.collect.specs.Face.{graph-places, WalkGiven, ModuleGiven, Collects, rounds-of, Lent};
-ghost use Rattle.collect.specs.Cycle.{Mode, World, Given, Single, OneGiven, mode, Ends, walk-of, one-of, step-of, Framed, RoundsWithin, Stepped, Tabled, AskedFor};
+ghost use Rattle.collect.specs.Face.{WalkGiven, ModuleGiven, Collects, left-of, LentAfter};
+ghost use Rattle.collect.specs.Cycle.{Mode, World, Given, Single, OneGiven, mode, Ends, walk-of, one-of, turns-of, step-of, Framed, RoundsWithin, Stepped, Tabled, AskedFor};
 
 // What collecting a module gives: a limit is passed or a constant is outside INT; else how many names its table has, and the rounds left.
 pub enum Collected {
@@ -48,32 +48,46 @@ enum Asked {
     Full,
 }
 
+// What a run of items is walked with: the modules of the text, how many of them may still be begun, the brackets left, which walk it is, and
+// how many names are used.
+struct Pass {
+    count: u32,
+    fuel: u32,
+    depth: u32,
+    checking: bool,
+    bound: bool,
+    used: usize,
+}
+
+// The rounds of a repeat: its variable, the first value, how many there are, and what is left of the module's rounds when these are spent.
+struct Turn {
+    name: u32,
+    low: u32,
+    rounds: u32,
+    left: u32,
+}
+
 // Walks a run of items: what stands behind the byte at 0 of s, which is at `base` in the text.
 fn collect_items(
     text: &[u8],
     kinds: &[u8],
     mods: &[u32],
-    count: u32,
     s: &[u8],
     base: u32,
-    depth: u32,
-    fuel: u32,
-    ks: &[u8],
-    checking: bool,
-    bound: bool,
-    names: &mut [u32],
-    used: usize,
+    pass: Pass,
     left: u32,
+    ks: &[u8],
+    names: &mut [u32],
     own: &mut [u32],
     g: &mut [u32],
     k: &mut [u32],
 ) -> Walked
     requires { ⌜ base + length (now s) ≤ 4294967295 ⌝ }
-    ensures { λ r. ⌜ ((w : World) → Given (mode checking bound) (now (text .entry)) (now (kinds .entry)) (now (mods .entry)) count (now (s .entry)) base depth
-        (now (ks .entry)) (now (names .entry)) used (now (own .entry)) (now (g .entry)) (now (k .entry)) w
-        → Ends r (mode checking bound) (now (text .entry)) (now (own .exit)) (now (g .exit)) (now (k .exit)) (w .busy)
-        (walk-of fuel (now (text .entry)) (mode checking bound) w (names-of (now (names .entry)) used) left)) ⌝ }
-    ensures { λ r. ⌜ Framed used (now (names .entry)) (now (names .exit)) × RoundsWithin r left ⌝ }
+    ensures { λ r. ⌜ ((w : World) → Given (mode (pass .checking) (pass .bound)) (now (text .entry)) (now (kinds .entry)) (now (mods .entry)) (pass .count) (now (s .entry)) base (pass .depth)
+        (now (ks .entry)) (now (names .entry)) (pass .used) (now (own .entry)) (now (g .entry)) (now (k .entry)) w
+        → Ends r (mode (pass .checking) (pass .bound)) (now (text .entry)) (now (own .exit)) (now (g .exit)) (now (k .exit)) (w .busy)
+        (walk-of (pass .fuel) (now (text .entry)) (mode (pass .checking) (pass .bound)) w (names-of (now (names .entry)) (pass .used)) left)) ⌝ }
+    ensures { λ r. ⌜ Framed (pass .used) (now (names .entry)) (now (names .exit)) × RoundsWithin r left ⌝ }
 {
     let mut at: usize = 0;
     let mut left = left;
@@ -81,85 +95,68 @@ fn collect_items(
         let end = runs::form_end(s, at + 1);
         let x = parts::between(s, at, end);
         let from = base + at as u32 + 1;
-        match steps::head_of(x) {
-            Head::Plain => {
-                if !plain::plain_line(x, from, depth, ks, checking, bound, names, used, own, g) {
-                    return Walked::Full;
-                }
+        match collect_item(text, kinds, mods, x, from, pass, left, ks, names, own, g, k) {
+            Walked::Left(l) => {
+                left = l;
                 at = end;
             }
-            Head::Inst => {
-                if !inst_edges(
-                    text,
-                    kinds,
-                    mods,
-                    count,
-                    x,
-                    depth,
-                    fuel,
-                    ks,
-                    names,
-                    used,
-                    g,
-                    k,
-                ) {
-                    return Walked::Full;
-                }
-                at = end;
-            }
-            Head::Repeat => match repeat_items(
-                text,
-                kinds,
-                mods,
-                count,
-                x,
-                from,
-                depth,
-                fuel,
-                ks,
-                checking,
-                bound,
-                names,
-                used,
-                left,
-                own,
-                g,
-                k,
-            ) {
-                Walked::Left(l) => {
-                    left = l;
-                    at = end;
-                }
-                Walked::Full => return Walked::Full,
-            },
-            Head::ConstIf => match branch_items(
-                text,
-                kinds,
-                mods,
-                count,
-                x,
-                from,
-                depth,
-                fuel,
-                ks,
-                checking,
-                bound,
-                names,
-                used,
-                left,
-                own,
-                g,
-                k,
-            ) {
-                Walked::Left(l) => {
-                    left = l;
-                    at = end;
-                }
-                Walked::Full => return Walked::Full,
-            },
+            Walked::Full => return Walked::Full,
         }
     }
     Walked::Left(left)
+}
+
+// Walks one item, which is at `from` in the text: its line, then what it holds.
+fn collect_item(
+    text: &[u8],
+    kinds: &[u8],
+    mods: &[u32],
+    x: &[u8],
+    from: u32,
+    pass: Pass,
+    left: u32,
+    ks: &[u8],
+    names: &mut [u32],
+    own: &mut [u32],
+    g: &mut [u32],
+    k: &mut [u32],
+) -> Walked
+    requires { ⌜ from + length (now x) ≤ 4294967295 ⌝ }
+    ensures { λ r. ⌜ ((h : heads.Head) (w : Single) → OneGiven h (mode (pass .checking) (pass .bound)) (now (text .entry)) (now (kinds .entry)) (now (mods .entry)) (pass .count) (now (x .entry)) from (pass .depth)
+        (now (ks .entry)) (now (names .entry)) (pass .used) (now (own .entry)) (now (g .entry)) (now (k .entry)) w
+        → Ends r (mode (pass .checking) (pass .bound)) (now (text .entry)) (now (own .exit)) (now (g .exit)) (now (k .exit)) (w .busy)
+        (one-of (pass .fuel) (now (text .entry)) (mode (pass .checking) (pass .bound)) w (names-of (now (names .entry)) (pass .used)) left)) ⌝ }
+    ensures { λ r. ⌜ Framed (pass .used) (now (names .entry)) (now (names .exit)) × RoundsWithin r left ⌝ }
+{
+    match steps::head_of(x) {
+        Head::Plain => {
+            if plain::plain_line(
+                x,
+                from,
+                pass.depth,
+                ks,
+                pass.checking,
+                pass.bound,
+                names,
+                pass.used,
+                own,
+                g,
+            ) {
+                Walked::Left(left)
+            } else {
+                Walked::Full
+            }
+        }
+        Head::Inst => {
+            if inst_edges(text, kinds, mods, x, pass, ks, names, g, k) {
+                Walked::Left(left)
+            } else {
+                Walked::Full
+            }
+        }
+        Head::Repeat => repeat_items(text, kinds, mods, x, from, pass, left, ks, names, own, g, k),
+        Head::ConstIf => branch_items(text, kinds, mods, x, from, pass, left, ks, names, own, g, k),
+    }
 }
 
 // A `repeat` line: its body once, or as often as its bounds say; the rounds are spent before the body runs.
@@ -167,56 +164,35 @@ fn repeat_items(
     text: &[u8],
     kinds: &[u8],
     mods: &[u32],
-    count: u32,
     x: &[u8],
     from: u32,
-    depth: u32,
-    fuel: u32,
-    ks: &[u8],
-    checking: bool,
-    bound: bool,
-    names: &mut [u32],
-    used: usize,
+    pass: Pass,
     left: u32,
+    ks: &[u8],
+    names: &mut [u32],
     own: &mut [u32],
     g: &mut [u32],
     k: &mut [u32],
 ) -> Walked
     requires { ⌜ from + length (now x) ≤ 4294967295 ⌝ }
-    ensures { λ r. ⌜ ((w : Single) → OneGiven head.Repeat (mode checking bound) (now (text .entry)) (now (kinds .entry)) (now (mods .entry)) count (now (x .entry)) from depth
-        (now (ks .entry)) (now (names .entry)) used (now (own .entry)) (now (g .entry)) (now (k .entry)) w
-        → Ends r (mode checking bound) (now (text .entry)) (now (own .exit)) (now (g .exit)) (now (k .exit)) (w .busy)
-        (one-of fuel (now (text .entry)) (mode checking bound) w (names-of (now (names .entry)) used) left)) ⌝ }
-    ensures { λ r. ⌜ Framed used (now (names .entry)) (now (names .exit)) × RoundsWithin r left ⌝ }
+    ensures { λ r. ⌜ ((w : Single) → OneGiven head.Repeat (mode (pass .checking) (pass .bound)) (now (text .entry)) (now (kinds .entry)) (now (mods .entry)) (pass .count) (now (x .entry)) from (pass .depth)
+        (now (ks .entry)) (now (names .entry)) (pass .used) (now (own .entry)) (now (g .entry)) (now (k .entry)) w
+        → Ends r (mode (pass .checking) (pass .bound)) (now (text .entry)) (now (own .exit)) (now (g .exit)) (now (k .exit)) (w .busy)
+        (one-of (pass .fuel) (now (text .entry)) (mode (pass .checking) (pass .bound)) w (names-of (now (names .entry)) (pass .used)) left)) ⌝ }
+    ensures { λ r. ⌜ Framed (pass .used) (now (names .entry)) (now (names .exit)) × RoundsWithin r left ⌝ }
 {
-    if depth == 0 {
+    if pass.depth == 0 {
         return Walked::Full;
     }
     let a = steps::body_at(x);
-    let body = parts::rest(x, a);
+    let s = parts::rest(x, a);
     let base = from + a as u32;
-    match steps::times_of(x, depth, names, used, left) {
+    let mut deep = pass;
+    deep.depth = pass.depth - 1;
+    match steps::times_of(x, pass.depth, names, pass.used, left) {
         Times::Outside => Walked::Full,
         Times::Never => Walked::Left(left),
-        Times::Once => collect_items(
-            text,
-            kinds,
-            mods,
-            count,
-            body,
-            base,
-            depth - 1,
-            fuel,
-            ks,
-            checking,
-            bound,
-            names,
-            used,
-            left,
-            own,
-            g,
-            k,
-        ),
+        Times::Once => collect_items(text, kinds, mods, s, base, deep, left, ks, names, own, g, k),
         Times::Rounds(n, low, rounds) => {
             if left < rounds {
                 return Walked::Full;
@@ -224,41 +200,57 @@ fn repeat_items(
             if 4294967295 - low < rounds {
                 return Walked::Full;
             }
-            let mut left = left - rounds;
-            let mut i: u32 = 0;
-            while i < rounds {
-                if !names::push(names, used, n, low + i) {
-                    return Walked::Full;
-                }
-                match collect_items(
-                    text,
-                    kinds,
-                    mods,
-                    count,
-                    body,
-                    base,
-                    depth - 1,
-                    fuel,
-                    ks,
-                    checking,
-                    bound,
-                    names,
-                    used + 1,
-                    left,
-                    own,
-                    g,
-                    k,
-                ) {
-                    Walked::Left(l) => {
-                        left = l;
-                        i += 1;
-                    }
-                    Walked::Full => return Walked::Full,
-                }
-            }
-            Walked::Left(left)
+            let turn = Turn {
+                name: n,
+                low,
+                rounds,
+                left: left - rounds,
+            };
+            repeat_rounds(text, kinds, mods, s, base, deep, turn, ks, names, own, g, k)
         }
     }
+}
+
+// The rounds of a `repeat`: its body s once for each value of its variable, which is the newest name.
+fn repeat_rounds(
+    text: &[u8],
+    kinds: &[u8],
+    mods: &[u32],
+    s: &[u8],
+    base: u32,
+    pass: Pass,
+    turn: Turn,
+    ks: &[u8],
+    names: &mut [u32],
+    own: &mut [u32],
+    g: &mut [u32],
+    k: &mut [u32],
+) -> Walked
+    requires { ⌜ base + length (now s) ≤ 4294967295 ⌝ }
+    requires { ⌜ turn .low + turn .rounds ≤ 4294967295 ⌝ }
+    ensures { λ r. ⌜ ((w : World) → Given (mode (pass .checking) (pass .bound)) (now (text .entry)) (now (kinds .entry)) (now (mods .entry)) (pass .count) (now (s .entry)) base (pass .depth)
+        (now (ks .entry)) (now (names .entry)) (pass .used + 1) (now (own .entry)) (now (g .entry)) (now (k .entry)) w
+        → Ends r (mode (pass .checking) (pass .bound)) (now (text .entry)) (now (own .exit)) (now (g .exit)) (now (k .exit)) (w .busy)
+        (turns-of (pass .fuel) (now (text .entry)) (mode (pass .checking) (pass .bound)) w (turn .name) (turn .low) (turn .rounds) (names-of (now (names .entry)) (pass .used)) (turn .left))) ⌝ }
+    ensures { λ r. ⌜ Framed (pass .used) (now (names .entry)) (now (names .exit)) × RoundsWithin r (turn .left) ⌝ }
+{
+    let mut left = turn.left;
+    let mut i: u32 = 0;
+    while i < turn.rounds {
+        if !names::push(names, pass.used, turn.name, turn.low + i) {
+            return Walked::Full;
+        }
+        let mut open = pass;
+        open.used = pass.used + 1;
+        match collect_items(text, kinds, mods, s, base, open, left, ks, names, own, g, k) {
+            Walked::Left(l) => {
+                left = l;
+                i += 1;
+            }
+            Walked::Full => return Walked::Full,
+        }
+    }
+    Walked::Left(left)
 }
 
 // A `constif` line: the items of the branch that its condition takes.
@@ -266,56 +258,37 @@ fn branch_items(
     text: &[u8],
     kinds: &[u8],
     mods: &[u32],
-    count: u32,
     x: &[u8],
     from: u32,
-    depth: u32,
-    fuel: u32,
-    ks: &[u8],
-    checking: bool,
-    bound: bool,
-    names: &mut [u32],
-    used: usize,
+    pass: Pass,
     left: u32,
+    ks: &[u8],
+    names: &mut [u32],
     own: &mut [u32],
     g: &mut [u32],
     k: &mut [u32],
 ) -> Walked
     requires { ⌜ from + length (now x) ≤ 4294967295 ⌝ }
-    ensures { λ r. ⌜ ((w : Single) → OneGiven head.ConstIf (mode checking bound) (now (text .entry)) (now (kinds .entry)) (now (mods .entry)) count (now (x .entry)) from depth
-        (now (ks .entry)) (now (names .entry)) used (now (own .entry)) (now (g .entry)) (now (k .entry)) w
-        → Ends r (mode checking bound) (now (text .entry)) (now (own .exit)) (now (g .exit)) (now (k .exit)) (w .busy)
-        (one-of fuel (now (text .entry)) (mode checking bound) w (names-of (now (names .entry)) used) left)) ⌝ }
-    ensures { λ r. ⌜ Framed used (now (names .entry)) (now (names .exit)) × RoundsWithin r left ⌝ }
+    ensures { λ r. ⌜ ((w : Single) → OneGiven head.ConstIf (mode (pass .checking) (pass .bound)) (now (text .entry)) (now (kinds .entry)) (now (mods .entry)) (pass .count) (now (x .entry)) from (pass .depth)
+        (now (ks .entry)) (now (names .entry)) (pass .used) (now (own .entry)) (now (g .entry)) (now (k .entry)) w
+        → Ends r (mode (pass .checking) (pass .bound)) (now (text .entry)) (now (own .exit)) (now (g .exit)) (now (k .exit)) (w .busy)
+        (one-of (pass .fuel) (now (text .entry)) (mode (pass .checking) (pass .bound)) w (names-of (now (names .entry)) (pass .used)) left)) ⌝ }
+    ensures { λ r. ⌜ Framed (pass .used) (now (names .entry)) (now (names .exit)) × RoundsWithin r left ⌝ }
 {
-    if depth < 2 {
+    if pass.depth < 2 {
         return Walked::Full;
     }
-    match steps::branch_of(x, depth, names, used) {
+    match steps::branch_of(x, pass.depth, names, pass.used) {
         Chosen::Outside => Walked::Full,
         Chosen::Run(a, b) => {
             if x.len() <= a {
                 return Walked::Full;
             }
-            collect_items(
-                text,
-                kinds,
-                mods,
-                count,
-                parts::between(x, a, b),
-                from + a as u32 + 1,
-                depth - 2,
-                fuel,
-                ks,
-                checking,
-                bound,
-                names,
-                used,
-                left,
-                own,
-                g,
-                k,
-            )
+            let s = parts::between(x, a, b);
+            let base = from + a as u32 + 1;
+            let mut deep = pass;
+            deep.depth = pass.depth - 2;
+            collect_items(text, kinds, mods, s, base, deep, left, ks, names, own, g, k)
         }
     }
 }
@@ -325,137 +298,113 @@ fn inst_edges(
     text: &[u8],
     kinds: &[u8],
     mods: &[u32],
-    count: u32,
     x: &[u8],
-    depth: u32,
-    fuel: u32,
+    pass: Pass,
     ks: &[u8],
     names: &[u32],
-    used: usize,
     g: &mut [u32],
     k: &mut [u32],
 ) -> bool
     ensures { λ r. ⌜ ((mo : Mode) (own : List ℕ) (from : ℕ) (w : Single)
-        → OneGiven head.Inst mo (now (text .entry)) (now (kinds .entry)) (now (mods .entry)) count (now (x .entry)) from depth
-        (now (ks .entry)) (now (names .entry)) used own (now (g .entry)) (now (k .entry)) w
+        → OneGiven head.Inst mo (now (text .entry)) (now (kinds .entry)) (now (mods .entry)) (pass .count) (now (x .entry)) from (pass .depth)
+        (now (ks .entry)) (now (names .entry)) (pass .used) own (now (g .entry)) (now (k .entry)) w
         → Stepped r mo (now (text .entry)) own (now (g .exit)) (now (k .exit)) (w .busy)
-        (step-of fuel (now (text .entry)) mo (w .header) (w .busy) (names-of (now (names .entry)) used) (w .item) (w .state))) ⌝ }
+        (step-of (pass .fuel) (now (text .entry)) mo (w .header) (w .busy) (names-of (now (names .entry)) (pass .used)) (w .item) (w .state))) ⌝ }
 {
-    let index = edges::inst_index(x, depth, names, used);
+    let index = edges::inst_index(x, pass.depth, names, pass.used);
     if places::is_outside(index) {
         return false;
     }
     let m = edges::inst_module(x);
-    match comb_summary(text, kinds, mods, count, m, fuel, k) {
+    match comb_summary(text, kinds, mods, m, pass, k) {
         Asked::Full => false,
-        Asked::Empty => edges::inst_heads(x, depth, index, k, 0, 0, ks, names, used, g),
+        Asked::Empty => edges::inst_heads(x, pass.depth, index, k, 0, 0, ks, names, pass.used, g),
         Asked::Kept => {
             let first = summary::first(k, m);
             let pairs = summary::count(k, m);
-            edges::inst_heads(x, depth, index, k, first, pairs, ks, names, used, g)
+            edges::inst_heads(
+                x,
+                pass.depth,
+                index,
+                k,
+                first,
+                pairs,
+                ks,
+                names,
+                pass.used,
+                g,
+            )
         }
     }
 }
 
 // The summary of module m, made when it is first asked for; nothing for a module that is missing or in progress.
-fn comb_summary(
-    text: &[u8],
-    kinds: &[u8],
-    mods: &[u32],
-    count: u32,
-    m: u32,
-    fuel: u32,
-    k: &mut [u32],
-) -> Asked
-    ensures { λ r. ⌜ ((kept : Kept) (busy : List ℕ) → Tabled (now (text .entry)) (now (kinds .entry)) (now (mods .entry)) count → Keeps (now (k .entry)) kept busy
-        → AskedFor r (now (k .exit)) m busy (ask-walk fuel (decode (now (text .entry))) busy kept m)) ⌝ }
+fn comb_summary(text: &[u8], kinds: &[u8], mods: &[u32], m: u32, pass: Pass, k: &mut [u32]) -> Asked
+    ensures { λ r. ⌜ ((kept : Kept) (busy : List ℕ) → Tabled (now (text .entry)) (now (kinds .entry)) (now (mods .entry)) (pass .count) → Keeps (now (k .entry)) kept busy
+        → AskedFor r (now (k .exit)) m busy (ask-walk (pass .fuel) (decode (now (text .entry))) busy kept m)) ⌝ }
 {
-    if fuel == 0 {
+    if pass.fuel == 0 {
         return Asked::Empty;
     }
-    if count <= m {
+    if pass.count <= m {
         return Asked::Empty;
     }
     match summary::state_of(k, m) {
         State::Kept => Asked::Kept,
         State::Busy => Asked::Empty,
-        State::New => make_summary(text, kinds, mods, count, m, fuel - 1, k),
+        State::New => {
+            let mut begun = pass;
+            begun.fuel = pass.fuel - 1;
+            make_summary(text, kinds, mods, m, begun, k)
+        }
     }
 }
 
 // Makes the summary of module m: walks its items with tables of their own, and keeps what its outputs reach.
-fn make_summary(
-    text: &[u8],
-    kinds: &[u8],
-    mods: &[u32],
-    count: u32,
-    m: u32,
-    fuel: u32,
-    k: &mut [u32],
-) -> Asked
-    ensures { λ r. ⌜ ((kept : Kept) (busy : List ℕ) → Tabled (now (text .entry)) (now (kinds .entry)) (now (mods .entry)) count → Keeps (now (k .entry)) kept busy
-        → m < count → kept-summary kept m ≡ none → has-name m busy ≡ false
-        → AskedFor r (now (k .exit)) m busy (ask-walk (suc fuel) (decode (now (text .entry))) busy kept m)) ⌝ }
+fn make_summary(text: &[u8], kinds: &[u8], mods: &[u32], m: u32, pass: Pass, k: &mut [u32]) -> Asked
+    ensures { λ r. ⌜ ((kept : Kept) (busy : List ℕ) → Tabled (now (text .entry)) (now (kinds .entry)) (now (mods .entry)) (pass .count) → Keeps (now (k .entry)) kept busy
+        → m < pass .count → kept-summary kept m ≡ none → has-name m busy ≡ false
+        → AskedFor r (now (k .exit)) m busy (ask-walk (suc (pass .fuel)) (decode (now (text .entry))) busy kept m)) ⌝ }
 {
     if 32768 < text.len() {
         return Asked::Full;
     }
     let mut names = [0u32; 6616];
-    match modules::names_of_module(text, mods, m, &mut names) {
-        Named::Outside => Asked::Full,
-        Named::Used(used) => {
-            summary::begin(k, m);
-            let mut g = [0u32; 16898];
-            let mut own = [0u32; 1];
-            let run = modules::items_of_module(text, mods, m);
-            let base = places::run_at(mods, m);
-            let ks = places::module_kinds(kinds, m);
-            match collect_items(
-                text,
-                kinds,
-                mods,
-                count,
-                run,
-                base,
-                32,
-                fuel,
-                ks,
-                false,
-                false,
-                &mut names,
-                used,
-                4096,
-                &mut own,
-                &mut g,
-                k,
-            ) {
-                Walked::Full => Asked::Full,
-                Walked::Left(_) => {
-                    if summary::summarise(run, ks, &g, k, m) {
-                        Asked::Kept
-                    } else {
-                        Asked::Full
-                    }
-                }
-            }
-        }
+    let Named::Used(used) = modules::names_of_module(text, mods, m, &mut names) else {
+        return Asked::Full;
+    };
+    summary::begin(k, m);
+    let mut g = [0u32; 16898];
+    let mut own = [0u32; 1];
+    let run = modules::items_of_module(text, mods, m);
+    let base = places::run_at(mods, m);
+    let ks = places::module_kinds(kinds, m);
+    let mut pass = pass;
+    pass.depth = 32;
+    pass.checking = false;
+    pass.bound = false;
+    pass.used = used;
+    let Walked::Left(_) = collect_items(
+        text,
+        kinds,
+        mods,
+        run,
+        base,
+        pass,
+        4096,
+        ks,
+        &mut names,
+        &mut own,
+        &mut g,
+        k,
+    ) else {
+        return Asked::Full;
+    };
+    if summary::summarise(run, ks, &g, k, m) {
+        Asked::Kept
+    } else {
+        Asked::Full
     }
-}
-
-// Empties the graph: no nodes, no edges, and no node's first edge.
-fn empty(g: &mut [u32])
-    ensures { λ _. ⌜ (graph-places ≤ length (now (g .entry)) → Stands (now (g .exit)) []) ⌝ }
-{
-    if g.len() < 3586 {
-        return;
-    }
-    let mut i: usize = 0;
-    while i < 512 {
-        g[3074 + i] = 0;
-        i += 1;
-    }
-    g[0] = 0;
-    g[1] = 0;
 }
 
 // Walks the items of module m in its own check, with 4,096 rounds. An accepted text has 32 modules at most.
@@ -486,28 +435,31 @@ fn walk_module(
     let base = places::run_at(mods, m);
     let ks = places::module_kinds(kinds, m);
     let bound = places::is_bound(mods, m);
+    let pass = Pass {
+        count,
+        fuel: count + 1,
+        depth: 32,
+        checking: true,
+        bound,
+        used,
+    };
     collect_items(
         text,
         kinds,
         mods,
-        count,
         run,
         base,
-        32,
-        count + 1,
-        ks,
-        true,
-        bound,
-        names,
-        used,
+        pass,
         4096,
+        ks,
+        names,
         own,
         g,
         k,
     )
 }
 
-// The name table of module m, and the walk over its items from empty tables.
+// The name table of module m, and the walk over its items: own tables and graph are empty where it begins, and k has the summaries kept so far.
 fn own_walk(
     text: &[u8],
     kinds: &[u8],
@@ -522,13 +474,13 @@ fn own_walk(
     ensures { λ r. ⌜ ((x : Module) (kept : Kept) → ModuleGiven (now (text .entry)) (now (kinds .entry)) (now (mods .entry)) count m
         (now (names .entry)) (now (own .entry)) (now (g .entry)) (now (k .entry)) x kept
         → Collects r (now (text .entry)) (now (names .exit)) (now (own .exit)) (now (g .exit)) (now (k .exit)) x (own-walk (decode (now (text .entry))) x kept)) ⌝ }
-    ensures { λ r. ⌜ rounds-of r ≤ 4096 ⌝ }
+    ensures { λ r. ⌜ left-of r ≤ 4096 ⌝ }
 {
     match modules::names_of_module(text, mods, m, names) {
         Named::Outside => Collected::Full,
         Named::Used(used) => {
             items::reset(own);
-            empty(g);
+            graph::reset(g);
             match walk_module(text, kinds, mods, count, m, names, used, own, g, k) {
                 Walked::Full => Collected::Full,
                 Walked::Left(left) => Collected::Left(used, left),
@@ -538,7 +490,7 @@ fn own_walk(
 }
 
 // Collects module m in its own check: its name table, its own tables and its graph, and in k the summaries that its instances asked for.
-// Where it is full, every lent place is 0 afterwards.
+// Where it is full, every place that is lent to be written is 0 afterwards.
 pub fn collect_module(
     text: &[u8],
     kinds: &[u8],
@@ -553,7 +505,8 @@ pub fn collect_module(
     ensures { λ r. ⌜ ((x : Module) (kept : Kept) → ModuleGiven (now (text .entry)) (now (kinds .entry)) (now (mods .entry)) count m
         (now (names .entry)) (now (own .entry)) (now (g .entry)) (now (k .entry)) x kept
         → Collects r (now (text .entry)) (now (names .exit)) (now (own .exit)) (now (g .exit)) (now (k .exit)) x (own-walk (decode (now (text .entry))) x kept)) ⌝ }
-    ensures { λ r. ⌜ Lent r (now (names .entry)) (now (own .entry)) (now (g .entry)) (now (k .entry))
+    ensures { λ r. ⌜ left-of r ≤ 4096 ⌝ }
+    ensures { λ r. ⌜ LentAfter r (now (names .entry)) (now (own .entry)) (now (g .entry)) (now (k .entry))
         (now (names .exit)) (now (own .exit)) (now (g .exit)) (now (k .exit)) ⌝ }
 {
     match own_walk(text, kinds, mods, count, m, names, own, g, k) {

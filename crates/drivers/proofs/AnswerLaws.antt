@@ -26,8 +26,9 @@ use Rattle.steps.specs.Modules.{name-places}
 use Rattle.summary.specs.Keeps.{kept-places}
 use Rattle.collect.specs.Cycle.{Tabled}
 use Rattle.drivers.specs.Emits.{Within, Appended}
-use Rattle.collect.specs.Face.{graph-places}
-use Rattle.drivers.specs.Check.{work-places, Enough, Tallied, first-place, answer-of, accepted, lent-places, slices, exit-of}
+use Rattle.graph.specs.Stands.{graph-places}
+use Rattle.graph.specs.Cycles.{work-places}
+use Rattle.drivers.specs.Check.{Enough, Tallied, first-place, answer-of, accepted, lent-places, slices, exit-of}
 use Rattle.drivers.specs.declared.emit.Place.{Place}
 use Rattle.drivers.specs.declared.check.Checked.{Checked}
 use Rattle.drivers.specs.declared.check.Checked.the-variants as checks

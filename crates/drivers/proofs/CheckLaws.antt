@@ -16,7 +16,7 @@ use Rattle.graph.specs.Stands.{Stands}
 use Rattle.graph.specs.Cycles.{Roomy}
 use Rattle.walk.specs.Walk.{Got, full, then-go, unless, Walked, State, Own, Tally, own-walk, poison, own-reports, check-one}
 use Rattle.items.specs.Held.{Held}
-use Rattle.collect.specs.Face.{ModuleGiven, Collects, rounds-of}
+use Rattle.collect.specs.Face.{ModuleGiven, Collects, left-of}
 use Rattle.collect.specs.declared.Collected.{Collected}
 use Rattle.collect.specs.declared.Collected.the-variants as collected
 use Rattle.drivers.specs.Groups.{Reported}
@@ -27,8 +27,8 @@ use Rattle.drivers.specs.declared.groups.Covered.the-variants as covered
 use Rattle.drivers.specs.declared.check.Checked.the-variants as checks
 
 -- the rounds left
-pub few-left : (a : Collected) {used left : ℕ} → rounds-of a ≤ 4096 → a ≡ collected.Left used left → left ≤ 4096
-few-left a h e = subst (λ (b : Collected). rounds-of b ≤ 4096) e h
+pub few-left : (a : Collected) {used left : ℕ} → left-of a ≤ 4096 → a ≡ collected.Left used left → left ≤ 4096
+few-left a h e = subst (λ (b : Collected). left-of b ≤ 4096) e h
 
 module _ {text kinds mods : List ℕ} {count m : ℕ} {names own g w k : List ℕ} {x : Module} {kept : Kept} (C : Checking text kinds mods count m names own g w k x kept) where
   abbrev T : Table

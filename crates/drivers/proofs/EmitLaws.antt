@@ -6,7 +6,6 @@ use Prim.Native.Nat.{ℕ, _+_, _≤_, _<_, min}
 use native.Mathlib.Omega.{arith}
 use lib.ListN.{length, take, drop, length-append, take-append-drop}
 use lib.Seq.{sets, sets-eq}
-use lib.Dec.{leb}
 use borrow.Author.Tests.{le-leb}
 use Rattle.spec.specs.Bytes.{Bytes}
 use Rattle.spec.specs.Report.{Report, show-reports, show-report}

@@ -2,20 +2,20 @@
 use mathlib.Core.Path.{_≡_, refl, sym, ap, _∙_, subst}
 use mathlib.Core.Bool.{Bool}
 use mathlib.Core.List.{List, [], _∷_, _++_, map, append-assoc, append-nil}
-use Prim.Native.Nat.{ℕ, zero, suc, _+_, _-_, _<_, _≤_}
+use Prim.Native.Nat.{ℕ, suc, _+_, _-_, _<_, _≤_}
 use native.Mathlib.Omega.{arith}
 use native.Mathlib.Numerals.{add-one}
 use lib.ListN.{length, getD}
 use Rattle.spec.specs.Bytes.{Bytes, show-number, show-rest, show-form}
 use Rattle.spec.specs.Report.{Report, loop-report, show-node, show-nodes, show-report, show-reports}
 use Rattle.spec.specs.Edge.{Node, Head}
-use Rattle.spec.specs.Walk.{start-of, find-cycles}
+use Rattle.spec.specs.Walk.{find-cycles}
 use Rattle.spec.specs.Check.{loop-reports}
 use Rattle.report.specs.declared.Node as rnode
 use Rattle.report.specs.Line.{field, walk-head, walk-node, walk-tail, node-of, node-bytes as report-node}
 use Rattle.graph.specs.Table.{count, node-at, start-at}
 use Rattle.graph.specs.Stands.{Stands}
-use Rattle.graph.specs.Cycles.{words-from, Awaits, Next, Roomy}
+use Rattle.graph.specs.Cycles.{words-from, Awaits, Next}
 use Rattle.graph.specs.declared.Cycle as C
 use Rattle.graph.specs.declared.Cycle.the-variants as cycles
 use Rattle.drivers.specs.declared.emit.Place.{Place}

@@ -13,24 +13,20 @@ use Rattle.spec.specs.Refusal.{decode}
 use Rattle.spec.specs.Summary.{Kept}
 use Rattle.spec.specs.Check.{Lent, Slice, Exit}
 use Rattle.spec.specs.Check as check
-use Rattle.graph.specs.Cycles.{Roomy}
+use Rattle.graph.specs.Stands.{graph-places}
+use Rattle.graph.specs.Cycles.{work-places, Roomy}
 use Rattle.sites.specs.Own.{places}
 use Rattle.walk.specs.Walk.{Got, full, going, Tally}
 use Rattle.steps.specs.Modules.{name-places}
 use Rattle.summary.specs.Keeps.{Keeps, kept-places}
 use Rattle.collect.specs.Cycle.{Tabled}
-use Rattle.collect.specs.Face.{graph-places}
 use Rattle.drivers.specs.Emits.{Within, Emits}
 use Rattle.drivers.specs.declared.emit.Place.{Place}
 use Rattle.drivers.specs.declared.check.Checked.{Checked}
 use Rattle.drivers.specs.declared.check.Checked.the-variants as checks
 use Rattle.drivers.specs.declared.check.Answer.{Answer}
 
--- how many places the work slice of the graph's search has
-abbrev pub work-places : ℕ
-work-places = 29190
-
--- 01, Refused because of the state: the slices that a module's check works on have places for the limits that they serve
+-- 01, Refused because of the state: what a module's check works on: `own` has just the places of its tables, the others theirs or more
 pub record Enough (names own g w k : List ℕ) : Type 0 where
   pub named : name-places ≤ length names
   pub owned : length own ≡ places
@@ -45,8 +41,9 @@ pub record Checking (text kinds mods : List ℕ) (count m : ℕ) (names own g w 
   pub there : getElem? (decode text) m ≡ some x
   pub keeps : Keeps k kept []
 
--- what the check of a module, or of several, leaves: its reports behind the place p, its rounds, and the summaries kept; or a limit is
--- passed, and then a buffer that was not written is as it was; what the tables hold then is free, and the whole call sets them to 0
+-- what the check of a module, or of several, leaves: its reports behind the place p, its rounds, and the summaries kept; or a limit is passed
+-- or a constant is outside INT, and then a buffer that is only counted for is as it was, and one that is written is free. What the other tables
+-- hold is free in both cases: the whole call sets every place to 0.
 abbrev pub Tallied : Checked → Bool → Bytes → Place → Bytes → List ℕ → Got Tally → Type 0
 Tallied (checks.Done q rounds) write old p new k x =
     (t : Tally) × (x ≡ going t) × Emits write old p (t .reports) new q × (rounds ≡ t .rounds) × Keeps k (t .kept) []
@@ -69,7 +66,8 @@ answer-of a buffer = record { number = a .number; line = a .line; bytes-written 
 abbrev pub accepted : ℕ → ℕ → ℕ → Bytes → check.Answer
 accepted written reports rounds buffer = record { number = 0; line = 0; bytes-written = written; reports = reports; rounds = rounds; buffer = buffer }
 
--- 01, Refused because of the state: the seven working slices, each with the limit that it serves
+-- 01, Refused because of the state: the seven working slices, each with the places that its limits ask for: a byte for each of 256 names of 32
+-- modules; four words for each module; and what `steps`, `sites`, `graph` and `summary` say of theirs
 abbrev pub served : {A B : Type 0} → (A → ℕ → B) → A → A → A → A → A → A → A → List B
 served f kinds mods names own g w k =
     f kinds (32 * name-bound) ∷ f mods (32 * 4) ∷ f names name-places ∷ f own places ∷ f g graph-places ∷ f w work-places ∷ f k kept-places ∷ []

@@ -5,6 +5,7 @@ use crate::groups::Covered;
 use collect::Collected;
 use lines::tables;
 use lines::tables::Read;
+use steps::modules;
 ghost use mathlib.Core.Path.{_≡_};
 ghost use lib.ListN.{length, replicate};
 ghost use Rattle.spec.specs.Bytes.{Bytes};
@@ -16,11 +17,6 @@ ghost use Rattle.spec.specs.Check as check;
 ghost use Rattle.walk.specs.Walk.{check-one, check-fused};
 ghost use Rattle.collect.specs.Cycle.{Tabled};
 ghost use Rattle.drivers.specs.Check.{Enough, Checking, Tallied, FewRounds, first-place, answer-of, accepted, lent-places, exit-of, slices};
-
-// The places of the name table, and of the tables of a module's own check.
-const NAMES: usize = 6616;
-
-const OWN: usize = 11016;
 
 // What the check of a module, or of several, gives: the next place and the rounds taken; or a limit is passed or a constant outside INT.
 enum Checked {
@@ -200,10 +196,10 @@ fn is_short(
     if mods < tables::MODS {
         return true;
     }
-    if names < NAMES {
+    if names < modules::NAMES {
         return true;
     }
-    if own < OWN {
+    if own < sites::OWN {
         return true;
     }
     if g < graph::GRAPH {
@@ -253,7 +249,7 @@ fn check_text(
                 mods,
                 count,
                 names,
-                &mut own[..OWN],
+                &mut own[..sites::OWN],
                 g,
                 w,
                 k,

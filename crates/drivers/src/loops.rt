@@ -4,7 +4,6 @@ use crate::emit::Place;
 use graph::Cycle;
 ghost use mathlib.Core.Path.{_≡_};
 ghost use mathlib.Core.List.{List, [], _∷_};
-ghost use Prim.Native.Nat.{_≤_};
 ghost use Rattle.spec.specs.Edge.{Head};
 ghost use Rattle.spec.specs.Walk.{find-cycles};
 ghost use Rattle.spec.specs.Check.{loop-reports};

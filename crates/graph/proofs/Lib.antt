@@ -13,3 +13,4 @@ pub mod Stepping
 pub mod Steps
 pub mod Falling
 pub mod Reports
+pub mod Resetting

@@ -20,9 +20,13 @@ nodes g = nodes-below g (count g)
 abbrev pub edges : List ℕ → List (ℕ × ℕ)
 edges g = edges-below g 3074 (edge-total g)
 
+-- 01, Refused because of the state: the places of a graph: two counts, seven for each of 512 nodes and three for each of 4,096 edges
+abbrev pub graph-places : ℕ
+graph-places = 15874
+
 -- g has the nodes of the heads hs and those of xs, each once, with their STARTs; and the reads of hs, each once
 pub record Holds (g : List ℕ) (hs : List Head) (xs : List Node) : Type 0 where
-  pub sized : 15874 ≤ length g
+  pub sized : graph-places ≤ length g
   pub few : count g ≤ 512
   pub once : Once (nodes g)
   pub listed : (n : Node) → n ∈ nodes g → n ∈ (xs ++ all-nodes hs)

@@ -9,7 +9,7 @@ use native.Mathlib.Omega.{arith}
 use lib.ListN.{length, drop, getD, length-append}
 use lib.Dec.{eqb, ltb}
 use borrow.Author.Tests.{lt-ltb, ltb-true, ltb-false}
-use Rattle.spec.specs.Bytes.{Bytes, bytes, show-number, show-rest, show-form}
+use Rattle.spec.specs.Bytes.{Bytes, bytes, show-rest, show-form}
 use Rattle.spec.specs.Syntax.{name-bound, number-bound, Kind, Stmt, Stmts, set, default, loop, when, on, Header}
 use Rattle.spec.specs.Show.{show-stmt, show-stmts, show-item}
 use Rattle.spec.specs.Refusal.{stmt-depth, stmts-depth, stmt-in-range, stmts-in-range, item-depth, item-in-range}
@@ -19,7 +19,7 @@ use Rattle.spec.specs.Site.{kind-of, driving, set-misuse, line-sites, line-cons
 use Rattle.spec.specs.Block.{Pair, is-reg, is-mem, pair-if, stmt-pairs, stmts-pairs, line-pairs, has-pair, line-regs, line-mems}
 use Rattle.spec.specs.Check.{pair-limit}
 use Rattle.spec.proofs.Nodes.{and-parts}
-use Rattle.spec.proofs.Parts.{Part, word-part, number-part, form-part}
+use Rattle.spec.proofs.Parts.{word-part, number-part, form-part}
 use Rattle.spec.proofs.Shown.{stmt-shown, stmts-shown}
 use Rattle.lines.specs.Parts.{part-end, piece, next-end, follows}
 use Rattle.sites.specs.Own as table

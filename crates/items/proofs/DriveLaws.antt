@@ -1,22 +1,21 @@
 -- Constants, extents and driven names: one law for each way of `constant_at`, `lvalue_extent`, `drive_output` and `drive`.
 -- Assumes nothing.
 use mathlib.Core.Path.{_≡_, refl, sym, _∙_, ap}
-use mathlib.Core.Bool.{Bool, true, false, _||_, or-true, or-false, true≢false}
+use mathlib.Core.Bool.{Bool, true, false, _||_, or-true, true≢false}
 use mathlib.Core.List.{List, [], _∷_, _++_, append-nil}
-use mathlib.Core.Option.{Option, some, none}
-use Prim.Native.Nat.{ℕ, zero, suc, _+_, _-_, _≤_, _<_}
+use mathlib.Core.Option.{some}
+use Prim.Native.Nat.{ℕ, zero, suc, _+_, _-_, _≤_}
 use native.Mathlib.Omega.{arith}
 use lib.ListN.{length, drop, getD, length-append}
 use lib.Dec.{ltb}
-use lib.IntN.{ℤ, pos, negsuc}
+use lib.IntN.{negsuc}
 use borrow.Author.Tests.{lt-ltb, ltb-true, ltb-false}
-use Rattle.spec.specs.Bytes.{Bytes, show-number, show-rest}
-use Rattle.spec.specs.Syntax.{name-bound, Kind, in-kind, out-kind, wire-kind, reg-kind, mem-kind, inst-kind, Expr, Index, whole, at-bit, high-low, LValue, drive, Header}
+use Rattle.spec.specs.Bytes.{Bytes, show-rest}
+use Rattle.spec.specs.Syntax.{out-kind, Expr, Index, whole, at-bit, high-low, LValue, drive, Header}
 use Rattle.spec.specs.Show.{show-expr, show-index}
 use Rattle.spec.specs.Decode.{decode-expr}
 use Rattle.spec.specs.Refusal.{expr-depth, index-depth}
 use Rattle.spec.specs.Value.{Value, known, missing, outside, Names, value, is-outside}
-use Rattle.spec.specs.Site as site
 use Rattle.spec.specs.Site.{Site, kind-of, bit-extent, range-extent, lvalue-extent, Driving, an-output, a-wire, a-reg, a-mem, nothing, driving, drive-site, drive-misuse, drive-constants, line-sites, index-constants, line-constants, any-outside, line-misuses, line-outputs, Misused}
 use Rattle.spec.specs.Block.{line-pairs, line-regs, line-mems}
 use Rattle.spec.proofs.Shown.{expr-shown}
@@ -35,7 +34,7 @@ use Rattle.sites.specs.declared.Stored.the-variants as stored
 use Rattle.runs.specs.Run.{ShowsItem}
 use Rattle.runs.proofs.Inside.{placed}
 use Rattle.edges.specs.Reads.{kind-word, KindsOf}
-use Rattle.walk.specs.Walk.{Own, own-line, over-own, add-all, add-new, same-misused}
+use Rattle.walk.specs.Walk.{Own, own-line, over-own, add-all, same-misused}
 use Rattle.items.specs.declared.Named.{Named}
 use Rattle.items.specs.declared.Constant.{Constant}
 use Rattle.items.specs.declared.Extended as E

@@ -3,32 +3,31 @@
 -- Assumes nothing.
 use mathlib.Core.Path.{_≡_, refl, sym, _∙_, ap}
 use mathlib.Core.Bool.{Bool, true, false, true≢false}
-use mathlib.Core.List.{List, [], _∷_, append-nil, List·Memᴰ·not-nil}
-use Prim.Native.Nat.{ℕ, zero, suc, _+_, _-_, _≤_, _<_, min}
+use mathlib.Core.List.{List, [], append-nil, List·Memᴰ·not-nil}
+use Prim.Native.Nat.{ℕ, _+_, _-_, _≤_, _<_, min}
 use native.Mathlib.Omega.{arith}
-use lib.ListN.{length, drop, getD, set, length-set, List·getD-eq-default}
+use lib.ListN.{length, getD, set, length-set, List·getD-eq-default}
 use lib.Seq.{getD-set-same, getD-set-other}
 use lib.Dec.{ltb}
 use native.Mathlib.Decide.{ℕ-discrete}
 use borrow.Author.Tests.{ltb-true, ltb-false}
-use Rattle.spec.specs.Bytes.{Bytes, show-number, show-rest, show-form}
-use Rattle.spec.specs.Syntax.{name-bound, number-bound, Expr, Width, Dir, input, output, LValue, Stmts, Item, port, wire, reg, mem, const, drive, on, inst, repeat, const-if, Header}
+use Rattle.spec.specs.Bytes.{Bytes, show-form}
+use Rattle.spec.specs.Syntax.{Expr, Width, Dir, input, output, LValue, Stmts, Item, port, wire, reg, mem, const, drive, on, inst, repeat, const-if, Header}
 use Rattle.spec.specs.Show.{show-item}
 use Rattle.spec.specs.Refusal.{item-in-range}
 use Rattle.spec.specs.Value.{Names}
 use Rattle.spec.specs.Site.{line-sites, line-constants, any-outside, line-misuses, line-outputs}
 use Rattle.spec.specs.Block.{line-pairs, line-regs, line-mems}
 use Rattle.lines.specs.Parts.{part-end, follows}
-use Rattle.lines.proofs.PartLaws.{part-end-le, follows-in}
 use Rattle.sites.specs.Own as table
-use Rattle.sites.specs.Own.{Port, places, run, rows-in, site-table, pair-table, port-table, reg-table, mem-table, misuse-table, own-of, entry-names, add-output, add-reg, add-mem}
+use Rattle.sites.specs.Own.{Port, places, run, rows-in, own-of, entry-names, add-output, add-reg, add-mem}
 use Rattle.runs.specs.Run.{ShowsItem}
 use Rattle.edges.specs.Reads.{KindsOf}
 use Rattle.walk.specs.Walk.{Own, no-own, own-line, add-all, add-new, same-output, same-storage}
 use Rattle.items.specs.declared.Named.{Named}
 use Rattle.items.specs.Held.{Ports, Few, Held, OwnAfter}
 use Rattle.steps.specs.Steps.{plain}
-use Rattle.items.specs.Lines.{StandsAt, Emptied, NumberIs, NamedAt, Leaves, PortLine, RegLine, MemLine, DriveLine, OnLine, OwnLine, OutsideIs}
+use Rattle.items.specs.Lines.{StandsAt, Emptied, NumberIs, NamedAt, PortLine, RegLine, MemLine, DriveLine, OnLine, OwnLine, OutsideIs}
 use Rattle.items.proofs.Tables.{held-within, held-output, held-reg, held-mem}
 use Rattle.items.proofs.Places.{dir-out, dir-in, port-first, port-second, port-third, port-row, port-output, port-is, reg-behind, mem-behind, both-small}
 

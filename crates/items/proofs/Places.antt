@@ -1,7 +1,7 @@
 -- Where the parts of a line stand, on bytes that show one: numbers, a name and its START, a width, an LV.
 -- Assumes nothing.
 use mathlib.Core.Path.{_≡_, refl, sym, _∙_, ap}
-use mathlib.Core.Bool.{Bool, true, false, _&&_, true≢false}
+use mathlib.Core.Bool.{true, false, _&&_, true≢false}
 use mathlib.Core.List.{List, [], _∷_, _++_}
 use Prim.Native.Nat.{ℕ, zero, suc, _+_, _-_, _≤_, _<_, min}
 use native.Mathlib.Omega.{arith}
@@ -12,7 +12,7 @@ use borrow.Author.Tests.{ltb-true}
 use Rattle.spec.specs.Bytes.{Bytes, number, show-number, show-rest, show-form}
 use Rattle.spec.specs.Syntax.{name-bound, number-bound, Expr, Width, LValue, input, output, port, reg, mem, drive}
 use Rattle.spec.specs.Show.{show-expr, show-width, show-index, show-lvalue, show-item}
-use Rattle.spec.specs.Refusal.{width-in-range, index-in-range, expr-in-range, item-in-range, width-depth, index-depth, item-depth}
+use Rattle.spec.specs.Refusal.{width-in-range, index-in-range, expr-in-range, item-in-range, item-depth}
 use Rattle.spec.specs.Site.{Output}
 use Rattle.spec.proofs.Numbers.{number-show}
 use Rattle.spec.proofs.Nodes.{and-parts}
@@ -20,7 +20,7 @@ use Rattle.spec.proofs.Parts.{number-part}
 use Rattle.spec.proofs.Shown.{width-shown, lvalue-shown}
 use Rattle.lines.specs.Parts.{part-end, piece, next-end, follows}
 use Rattle.runs.specs.Run.{ShowsItem}
-use Rattle.runs.proofs.Inside.{Placed, placed}
+use Rattle.runs.proofs.Inside.{placed}
 use Rattle.sites.specs.Own.{Port}
 use Rattle.items.specs.declared.Named.{Named}
 use Rattle.items.specs.Held.{PortIs}

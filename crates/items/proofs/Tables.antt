@@ -3,31 +3,27 @@
 use mathlib.Core.Path.{_≡_, refl, sym, _∙_, ap}
 use mathlib.Core.Bool.{Bool, true, false, _||_}
 use mathlib.Core.Logic.{_⊎_, inl, inr}
-use mathlib.Core.List.{List, [], _∷_, _++_, append-nil, List·Memᴰ·head, List·Memᴰ·tail, List·Memᴰ·not-nil, List·Memᴰ·cases-cons}
-use Prim.Native.Nat.{ℕ, zero, suc, _+_, _≤_, _<_}
+use mathlib.Core.List.{List, [], _∷_, _++_, List·Memᴰ·head, List·Memᴰ·tail, List·Memᴰ·cases-cons}
+use Prim.Native.Nat.{ℕ, suc, _≤_, _<_}
 use native.Mathlib.Omega.{arith}
 use lib.ListN.{length, length-append}
 use lib.Dec.{eqb, ltb}
 use borrow.Author.Tests.{lt-ltb, le-ltb}
 use Rattle.spec.specs.Bytes.{Bytes}
-use Rattle.spec.specs.Syntax.{name-bound, Header, Item, reg, mem, port, input, output}
+use Rattle.spec.specs.Syntax.{name-bound}
 use Rattle.spec.specs.Refusal.{has-name}
-use Rattle.spec.specs.Value.{Names}
-use Rattle.spec.specs.Graph.{_∈_, Once}
+use Rattle.spec.specs.Graph.{_∈_}
 use Rattle.spec.specs.Search.{among}
 use Rattle.spec.specs.Site.{Site, Output, Misused}
-use Rattle.spec.specs.Block.{Pair, Storage, has-pair}
-use Rattle.spec.specs.Check.{pair-limit}
+use Rattle.spec.specs.Block.{Pair, Storage}
 use Rattle.spec.proofs.Numbers.{if-case}
 use Rattle.sites.specs.Own as table
-use Rattle.sites.specs.Own.{Port, rows-in, site-table, pair-table, own-of, entry-names, grown, first-kept, room, Added, added, add-site, add-pair, add-output, add-reg, add-mem, add-misuse}
-use Rattle.sites.specs.declared.Stored.{Stored}
-use Rattle.sites.specs.declared.Stored.the-variants as stored
+use Rattle.sites.specs.Own.{Port, rows-in, site-table, pair-table, own-of, entry-names, grown, first-kept, add-output, add-reg, add-mem, add-misuse}
 use Rattle.sites.proofs.Rows.{run-length, rows-limit}
-use Rattle.walk.specs.Walk.{Own, add-new, add-all, same-output, same-storage, same-misused, same-pair, over-own}
+use Rattle.walk.specs.Walk.{Own, add-new, add-all, same-output, same-storage, over-own}
 use Rattle.walk.proofs.Room.{keys, adds-keys, few-keys}
 use Rattle.items.specs.Held.{PortIs, Ports, Few, Held}
-use Rattle.items.specs.Lines.{with-block, BlockAfter}
+use Rattle.items.specs.Lines.{with-block}
 
 -- ---- a table that holds each name once
 

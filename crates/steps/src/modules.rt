@@ -9,6 +9,9 @@ ghost use Rattle.spec.specs.Value.{own-vals, name-table};
 ghost use Rattle.runs.specs.Text.{ModuleAt, items-run};
 ghost use Rattle.steps.specs.Modules.{name-places, named-by, table-by, NamesAre};
 
+// The places of a name table: two for each `val` and `const` line that a text has room for, and for each of 32 repeats, one in the other.
+pub const NAMES: usize = 6616;
+
 // The pairs of the table that are used, or a constant is outside INT.
 pub enum Named {
     Used(usize),

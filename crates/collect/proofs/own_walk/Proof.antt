@@ -4,12 +4,6 @@ use Rattle.collect.proofs.OwnLaws.{few-left, own-outside, own-full, own
 use borrow.Author.Needs.{needs}
 use Rattle.collect.proofs.own_walk.Statement.{statement}
 use Rattle.collect.proofs.own_walk.Tie as tie
-use Rattle.collect.proofs.own_walk.Reads as reads
-use Rattle.collect.proofs.own_walk.Lts as lts
-use Rattle.collect.proofs.empty.Reads as empty-reads
-use Rattle.collect.proofs.walk_module.Reads as walk-module-reads
-use Rattle.items.proofs.reset.Reads as reset-reads
-use Rattle.steps.proofs.modules.names_of_module.Reads as names-of-module-reads
 
 names-of-module-requires : tie.Need-names-of-module-requires
 names-of-module-requires c κs = search needs
@@ -23,8 +17,8 @@ enum-known-used c = search needs
 reset-requires : tie.Need-reset-requires
 reset-requires c κs = search needs
 
-empty-requires : tie.Need-empty-requires
-empty-requires c κs = search needs
+reset-requires-2 : tie.Need-reset-requires-2
+reset-requires-2 c κs = search needs
 
 walk-module-requires : tie.Need-walk-module-requires
 walk-module-requires c κs = search needs
@@ -54,7 +48,7 @@ same-length-5 : tie.Need-same-length-5
 same-length-5 c = search needs
 
 returns-2 : tie.Need-returns-2
-returns-2 c = (λ x kept C. own-full C (c .before .before .before .before .before .before .before .before .before .before .before .before .before .before .before .before .before .before .before .before .before .before .before .before .before .before .before .before .names-of-module .last .1 .1 .1 .0) (c .before .before .before .before .before .before .before .before .before .before .before .before .before .before .before .before .before .before .before .before .before .before .before .before .before .before .before .before .names-of-module .result) (c .before .before .before .before .before .before .before .before .before .before .before .before .before .before .before .before .before .before .before .before .before .before .before .before .before .before .before .before .names-of-module .ensures .1 .1) (c .before .before .before .before .before .before .before .before .before .before .before .before .before .before .before .before .before .before .before .before .before .before .before .before .used .given .1) (c .before .before .before .before .before .before .before .before .before .before .before .before .before .before .before .before .before .before .before .before .before .reset .last .0) (c .before .before .before .before .before .before .before .before .before .before .before .before .before .before .before .before .before .empty .last .0) (c .before .before .before .before .before .before .before .before .before .before .before .before .before .before .before .before .before .before .before .before .before .reset .ensures .1) (c .before .before .before .before .before .before .before .before .before .before .before .before .before .before .before .before .before .empty .ensures) (c .before .before .before .before .before .before .before .before .before .before .walk-module .last .1 .1 .1 .1 .1 .1 .1 .0) (c .before .before .before .before .before .before .before .before .before .before .walk-module .last .1 .1 .1 .1 .1 .1 .1 .1 .0) (c .before .before .before .before .before .before .before .before .before .before .walk-module .last .1 .1 .1 .1 .1 .1 .1 .1 .1 .0) (c .before .before .before .before .before .before .before .before .before .before .walk-module .result) (c .before .before .before .before .before .before .before .before .before .before .walk-module .ensures .0) (c .enum-told2 .given .1), omega arith)
+returns-2 c = (λ x kept C. own-full C (c .before .before .before .before .before .before .before .before .before .before .before .before .before .before .before .before .before .before .before .before .before .before .before .before .before .before .before .before .names-of-module .last .1 .1 .1 .0) (c .before .before .before .before .before .before .before .before .before .before .before .before .before .before .before .before .before .before .before .before .before .before .before .before .before .before .before .before .names-of-module .result) (c .before .before .before .before .before .before .before .before .before .before .before .before .before .before .before .before .before .before .before .before .before .before .before .before .before .before .before .before .names-of-module .ensures .1 .1) (c .before .before .before .before .before .before .before .before .before .before .before .before .before .before .before .before .before .before .before .before .before .before .before .before .used .given .1) (c .before .before .before .before .before .before .before .before .before .before .before .before .before .before .before .before .before .before .before .before .before .reset .last .0) (c .before .before .before .before .before .before .before .before .before .before .before .before .before .before .before .before .before .reset2 .last .0) (c .before .before .before .before .before .before .before .before .before .before .before .before .before .before .before .before .before .before .before .before .before .reset .ensures .1) (c .before .before .before .before .before .before .before .before .before .before .before .before .before .before .before .before .before .reset2 .ensures .0) (c .before .before .before .before .before .before .before .before .before .before .walk-module .last .1 .1 .1 .1 .1 .1 .1 .0) (c .before .before .before .before .before .before .before .before .before .before .walk-module .last .1 .1 .1 .1 .1 .1 .1 .1 .0) (c .before .before .before .before .before .before .before .before .before .before .walk-module .last .1 .1 .1 .1 .1 .1 .1 .1 .1 .0) (c .before .before .before .before .before .before .before .before .before .before .walk-module .result) (c .before .before .before .before .before .before .before .before .before .before .walk-module .ensures .0) (c .enum-told2 .given .1), omega arith)
 
 same-length-6 : tie.Need-same-length-6
 same-length-6 c = search needs
@@ -69,7 +63,7 @@ same-length-9 : tie.Need-same-length-9
 same-length-9 c = search needs
 
 returns-3 : tie.Need-returns-3
-returns-3 c = (λ x kept C. own-left C (c .before .before .before .before .before .before .before .before .before .before .before .before .before .before .before .before .before .before .before .before .before .before .before .before .before .before .before .before .before .names-of-module .last .1 .1 .1 .0) (c .before .before .before .before .before .before .before .before .before .before .before .before .before .before .before .before .before .before .before .before .before .before .before .before .before .before .before .before .before .names-of-module .result) (c .before .before .before .before .before .before .before .before .before .before .before .before .before .before .before .before .before .before .before .before .before .before .before .before .before .before .before .before .before .names-of-module .ensures .1 .1) (c .before .before .before .before .before .before .before .before .before .before .before .before .before .before .before .before .before .before .before .before .before .before .before .before .before .used .given .1) (c .before .before .before .before .before .before .before .before .before .before .before .before .before .before .before .before .before .before .before .before .before .before .reset .last .0) (c .before .before .before .before .before .before .before .before .before .before .before .before .before .before .before .before .before .before .empty .last .0) (c .before .before .before .before .before .before .before .before .before .before .before .before .before .before .before .before .before .before .before .before .before .before .reset .ensures .1) (c .before .before .before .before .before .before .before .before .before .before .before .before .before .before .before .before .before .before .empty .ensures) (c .before .before .before .before .before .before .before .before .before .before .before .walk-module .last .1 .1 .1 .1 .1 .1 .1 .0) (c .before .before .before .before .before .before .before .before .before .before .before .walk-module .last .1 .1 .1 .1 .1 .1 .1 .1 .0) (c .before .before .before .before .before .before .before .before .before .before .before .walk-module .last .1 .1 .1 .1 .1 .1 .1 .1 .1 .0) (c .before .before .before .before .before .before .before .before .before .before .before .walk-module .result) (c .before .before .before .before .before .before .before .before .before .before .before .walk-module .ensures .0) (c .before .left .given .1) (c .before .before .before .before .before .before .before .before .before .before .before .walk-module .last .1 .1 .1 .1 .1 .0) (c .before .before .before .before .before .before .before .before .before .before .before .walk-module .ensures .1 .0), few-left (c .before .before .before .before .before .before .before .before .before .before .before .walk-module .result) (c .before .before .before .before .before .before .before .before .before .before .before .walk-module .ensures .1 .1) (c .before .left .given .1))
+returns-3 c = (λ x kept C. own-left C (c .before .before .before .before .before .before .before .before .before .before .before .before .before .before .before .before .before .before .before .before .before .before .before .before .before .before .before .before .before .names-of-module .last .1 .1 .1 .0) (c .before .before .before .before .before .before .before .before .before .before .before .before .before .before .before .before .before .before .before .before .before .before .before .before .before .before .before .before .before .names-of-module .result) (c .before .before .before .before .before .before .before .before .before .before .before .before .before .before .before .before .before .before .before .before .before .before .before .before .before .before .before .before .before .names-of-module .ensures .1 .1) (c .before .before .before .before .before .before .before .before .before .before .before .before .before .before .before .before .before .before .before .before .before .before .before .before .before .used .given .1) (c .before .before .before .before .before .before .before .before .before .before .before .before .before .before .before .before .before .before .before .before .before .before .reset .last .0) (c .before .before .before .before .before .before .before .before .before .before .before .before .before .before .before .before .before .before .reset2 .last .0) (c .before .before .before .before .before .before .before .before .before .before .before .before .before .before .before .before .before .before .before .before .before .before .reset .ensures .1) (c .before .before .before .before .before .before .before .before .before .before .before .before .before .before .before .before .before .before .reset2 .ensures .0) (c .before .before .before .before .before .before .before .before .before .before .before .walk-module .last .1 .1 .1 .1 .1 .1 .1 .0) (c .before .before .before .before .before .before .before .before .before .before .before .walk-module .last .1 .1 .1 .1 .1 .1 .1 .1 .0) (c .before .before .before .before .before .before .before .before .before .before .before .walk-module .last .1 .1 .1 .1 .1 .1 .1 .1 .1 .0) (c .before .before .before .before .before .before .before .before .before .before .before .walk-module .result) (c .before .before .before .before .before .before .before .before .before .before .before .walk-module .ensures .0) (c .before .left .given .1) (c .before .before .before .before .before .before .before .before .before .before .before .walk-module .last .1 .1 .1 .1 .1 .0) (c .before .before .before .before .before .before .before .before .before .before .before .walk-module .ensures .1 .0), few-left (c .before .before .before .before .before .before .before .before .before .before .before .walk-module .result) (c .before .before .before .before .before .before .before .before .before .before .before .walk-module .ensures .1 .1) (c .before .left .given .1))
 
 pub own-walk-spec : {M : Type 1} → statement M
 own-walk-spec =
@@ -79,7 +73,7 @@ own-walk-spec =
     enum-told
     enum-known-used
     reset-requires
-    empty-requires
+    reset-requires-2
     walk-module-requires
     enum-told-2
     enum-known-left

@@ -23,8 +23,8 @@ module-kinds-requires c κs = search needs
 is-bound-requires : tie.Need-is-bound-requires
 is-bound-requires c κs = search needs
 
-add-collect-items : tie.Need-add-collect-items
-add-collect-items c = search needs
+add-t18 : tie.Need-add-t18
+add-t18 c = search needs
 
 collect-items-requires : tie.Need-collect-items-requires
 collect-items-requires c κs = run-fits (c .before .before .before .before .before .before .before .before .before .before .before .before .before .before .before .before .before .args .text .now) (c .before .before .before .before .before .before .before .before .before .before .before .before .before .before .before .before .before .args .mods .now) (c .before .before .before .before .before .before .before .before .before .before .before .before .before .before .before .before .before .args .m) (c .before .before .before .before .before .before .before .items-of-module .result .now) (c .before .before .before .before .before .before .run-at .result) (c .before .before .before .before .before .before .before .items-of-module .ensures) (c .before .before .before .before .before .before .run-at .ensures) (c .before .before .before .before .before .before .run-at .ok) (c .before .before .before .before .before .before .before .before .before .if1 .left)
@@ -54,7 +54,7 @@ walk-module-spec =
     run-at-requires
     module-kinds-requires
     is-bound-requires
-    add-collect-items
+    add-t18
     collect-items-requires
     same-length
     same-length-2

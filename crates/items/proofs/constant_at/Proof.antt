@@ -4,10 +4,6 @@ use Rattle.items.proofs.DriveLaws.{constant-known, constant-missing, co
 use borrow.Author.Needs.{needs}
 use Rattle.items.proofs.constant_at.Statement.{statement}
 use Rattle.items.proofs.constant_at.Tie as tie
-use Rattle.items.proofs.constant_at.Reads as reads
-use Rattle.items.proofs.constant_at.Lts as lts
-use Rattle.consteval.proofs.eval.Reads as eval-reads
-use Rattle.lines.proofs.parts.between.Reads as between-reads
 
 between-requires : tie.Need-between-requires
 between-requires c κs = search needs

@@ -7,11 +7,6 @@ use native.Mathlib.Omega.{arith}
 use borrow.Author.Needs.{needs}
 use Rattle.items.proofs.named_at.Statement.{statement}
 use Rattle.items.proofs.named_at.Tie as tie
-use Rattle.items.proofs.named_at.Reads as reads
-use Rattle.items.proofs.named_at.Lts as lts
-use Rattle.items.proofs.number.Reads as number-reads
-use Rattle.lines.proofs.parts.more.Reads as more-reads
-use Rattle.lines.proofs.parts.part_end.Reads as part-end-reads
 
 more-requires : tie.Need-more-requires
 more-requires c κs = search needs

@@ -3,10 +3,6 @@ use Rattle.items.proofs.Places.{number-is, number-large}
 use borrow.Author.Needs.{needs}
 use Rattle.items.proofs.number.Statement.{statement}
 use Rattle.items.proofs.number.Tie as tie
-use Rattle.items.proofs.number.Reads as reads
-use Rattle.items.proofs.number.Lts as lts
-use Rattle.lines.proofs.numbers.value.Reads as value-reads
-use Rattle.lines.proofs.parts.between.Reads as between-reads
 
 between-requires : tie.Need-between-requires
 between-requires c κs = search needs

@@ -6,8 +6,6 @@ use lib.ListN.{length, length-set}
 use native.Mathlib.Omega.{arith}
 use Rattle.items.proofs.reset.Statement.{statement}
 use Rattle.items.proofs.reset.Tie as tie
-use Rattle.items.proofs.reset.Reads as reads
-use Rattle.items.proofs.reset.Lts as lts
 
 abbrev Inv-loop : tie.InvT-loop
 Inv-loop own₀ i₀ own i = (i ≤ 7) × Cleared own₀ own i

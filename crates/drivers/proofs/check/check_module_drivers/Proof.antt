@@ -4,10 +4,6 @@ use Rattle.drivers.proofs.CheckLaws.{few-left, one-full, one-wide, one-
 use borrow.Author.Needs.{needs}
 use Rattle.drivers.proofs.check.check_module_drivers.Statement.{statement}
 use Rattle.drivers.proofs.check.check_module_drivers.Tie as tie
-use Rattle.drivers.proofs.check.check_module_drivers.Reads as reads
-use Rattle.drivers.proofs.check.check_module_drivers.Lts as lts
-use Rattle.collect.proofs.collect_module.Reads as collect-module-reads
-use Rattle.drivers.proofs.groups.report_module.Reads as report-module-reads
 
 collect-module-requires : tie.Need-collect-module-requires
 collect-module-requires c κs = search needs
@@ -28,7 +24,7 @@ enum-known-q : tie.Need-enum-known-q
 enum-known-q c = search needs
 
 sub-t39 : tie.Need-sub-t39
-sub-t39 c = few-left (c .before .before .before .before .before .before .before .before .before .before .before .before .before .before .before .before .before .before .before .before .before .before .before .before .before .before .collect-module .result) (c .before .before .before .before .before .before .before .before .before .before .before .before .before .before .before .before .before .before .before .before .before .before .before .before .before .before .collect-module .ensures .1 .rounds) (c .before .before .before .before .before .before .before .before .before .before .before .before .before .before .before .before .used .given .1)
+sub-t39 c = few-left (c .before .before .before .before .before .before .before .before .before .before .before .before .before .before .before .before .before .before .before .before .before .before .before .before .before .before .collect-module .result) (c .before .before .before .before .before .before .before .before .before .before .before .before .before .before .before .before .before .before .before .before .before .before .before .before .before .before .collect-module .ensures .1 .0) (c .before .before .before .before .before .before .before .before .before .before .before .before .before .before .before .before .used .given .1)
 
 same-length : tie.Need-same-length
 same-length c = search needs

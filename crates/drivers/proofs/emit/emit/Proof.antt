@@ -3,12 +3,6 @@ use Rattle.drivers.proofs.EmitLaws.{line-counted, line-wrote, line-some
 use borrow.Author.Needs.{needs}
 use Rattle.drivers.proofs.emit.emit.Statement.{statement}
 use Rattle.drivers.proofs.emit.emit.Tie as tie
-use Rattle.drivers.proofs.emit.emit.Reads as reads
-use Rattle.drivers.proofs.emit.emit.Lts as lts
-use Rattle.drivers.proofs.emit.behind.Reads as behind-reads
-use Rattle.drivers.proofs.emit.one_more.Reads as one-more-reads
-use Rattle.report.proofs.count_report.Reads as count-report-reads
-use Rattle.report.proofs.put_report.Reads as put-report-reads
 
 count-report-requires : tie.Need-count-report-requires
 count-report-requires c κs = search needs

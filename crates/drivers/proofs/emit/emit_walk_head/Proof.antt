@@ -4,11 +4,6 @@ use Rattle.drivers.proofs.EmitLaws.{piece-counted, piece-wrote}
 use borrow.Author.Needs.{needs}
 use Rattle.drivers.proofs.emit.emit_walk_head.Statement.{statement}
 use Rattle.drivers.proofs.emit.emit_walk_head.Tie as tie
-use Rattle.drivers.proofs.emit.emit_walk_head.Reads as reads
-use Rattle.drivers.proofs.emit.emit_walk_head.Lts as lts
-use Rattle.drivers.proofs.emit.behind.Reads as behind-reads
-use Rattle.report.proofs.count_walk_head.Reads as count-walk-head-reads
-use Rattle.report.proofs.put_walk_head.Reads as put-walk-head-reads
 
 count-walk-head-requires : tie.Need-count-walk-head-requires
 count-walk-head-requires c κs = search needs

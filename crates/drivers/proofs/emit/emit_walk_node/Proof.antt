@@ -4,11 +4,6 @@ use Rattle.drivers.proofs.EmitLaws.{piece-counted, piece-wrote}
 use borrow.Author.Needs.{needs}
 use Rattle.drivers.proofs.emit.emit_walk_node.Statement.{statement}
 use Rattle.drivers.proofs.emit.emit_walk_node.Tie as tie
-use Rattle.drivers.proofs.emit.emit_walk_node.Reads as reads
-use Rattle.drivers.proofs.emit.emit_walk_node.Lts as lts
-use Rattle.drivers.proofs.emit.behind.Reads as behind-reads
-use Rattle.report.proofs.count_walk_node.Reads as count-walk-node-reads
-use Rattle.report.proofs.put_walk_node.Reads as put-walk-node-reads
 
 count-walk-node-requires : tie.Need-count-walk-node-requires
 count-walk-node-requires c κs = search needs

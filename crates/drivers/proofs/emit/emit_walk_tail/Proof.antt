@@ -4,12 +4,6 @@ use Rattle.drivers.proofs.EmitLaws.{line-counted, line-wrote}
 use borrow.Author.Needs.{needs}
 use Rattle.drivers.proofs.emit.emit_walk_tail.Statement.{statement}
 use Rattle.drivers.proofs.emit.emit_walk_tail.Tie as tie
-use Rattle.drivers.proofs.emit.emit_walk_tail.Reads as reads
-use Rattle.drivers.proofs.emit.emit_walk_tail.Lts as lts
-use Rattle.drivers.proofs.emit.behind.Reads as behind-reads
-use Rattle.drivers.proofs.emit.one_more.Reads as one-more-reads
-use Rattle.report.proofs.count_walk_tail.Reads as count-walk-tail-reads
-use Rattle.report.proofs.put_walk_tail.Reads as put-walk-tail-reads
 
 count-walk-tail-requires : tie.Need-count-walk-tail-requires
 count-walk-tail-requires c κs = search needs

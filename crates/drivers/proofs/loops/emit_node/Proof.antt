@@ -3,11 +3,6 @@ use Rattle.drivers.proofs.LoopLaws.{node-appended}
 use borrow.Author.Needs.{needs}
 use Rattle.drivers.proofs.loops.emit_node.Statement.{statement}
 use Rattle.drivers.proofs.loops.emit_node.Tie as tie
-use Rattle.drivers.proofs.loops.emit_node.Reads as reads
-use Rattle.drivers.proofs.loops.emit_node.Lts as lts
-use Rattle.drivers.proofs.emit.emit_walk_node.Reads as emit-walk-node-reads
-use Rattle.drivers.proofs.loops.walk_node.Reads as walk-node-reads
-use Rattle.graph.proofs.node_of.Reads as node-of-reads
 
 node-of-requires : tie.Need-node-of-requires
 node-of-requires c κs = search needs

@@ -8,13 +8,6 @@ use native.Mathlib.Omega.{arith}
 use Rattle.drivers.proofs.LoopLaws.{left-bytes, Lining, line-node, line-whole}
 use Rattle.drivers.proofs.loops.report_loop.Statement.{statement}
 use Rattle.drivers.proofs.loops.report_loop.Tie as tie
-use Rattle.drivers.proofs.loops.report_loop.Reads as reads
-use Rattle.drivers.proofs.loops.report_loop.Lts as lts
-use Rattle.drivers.proofs.emit.emit_walk_head.Reads as emit-walk-head-reads
-use Rattle.drivers.proofs.emit.emit_walk_tail.Reads as emit-walk-tail-reads
-use Rattle.drivers.proofs.loops.emit_node.Reads as emit-node-reads
-use Rattle.graph.proofs.path_node.Reads as path-node-reads
-use Rattle.graph.proofs.start_of.Reads as start-of-reads
 
 abbrev Inv-loop : tie.InvT-loop
 Inv-loop g w m from to buf₀ write first q₀ i₀ buf q i = Lining write buf₀ q₀ (left-bytes g w i₀ to first) (left-bytes g w i to first) buf q × (length buf ≡ length buf₀)

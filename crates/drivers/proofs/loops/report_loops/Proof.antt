@@ -12,11 +12,6 @@ use Rattle.graph.specs.Cycles.{Awaits}
 use Rattle.drivers.proofs.LoopLaws.{Looping, loops-start, loops-out, loops-done, loops-found}
 use Rattle.drivers.proofs.loops.report_loops.Statement.{statement}
 use Rattle.drivers.proofs.loops.report_loops.Tie as tie
-use Rattle.drivers.proofs.loops.report_loops.Reads as reads
-use Rattle.drivers.proofs.loops.report_loops.Lts as lts
-use Rattle.drivers.proofs.loops.report_loop.Reads as report-loop-reads
-use Rattle.graph.proofs.begin.Reads as begin-reads
-use Rattle.graph.proofs.next_cycle.Reads as next-cycle-reads
 
 abbrev Inv-loop : tie.InvT-loop
 Inv-loop g w₀ m buf₀ write q₀ left₀ w buf q left = ((hs : List Head) → Stands g hs → Awaits g w₀ (find-cycles hs) → Looping g w hs m left write buf₀ q₀ buf q) × (length w ≡ length w₀) × (length buf ≡ length buf₀)

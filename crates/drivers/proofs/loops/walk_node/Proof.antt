@@ -5,8 +5,6 @@ use Rattle.report.specs.Line.{unbiased}
 use borrow.Author.Needs.{needs}
 use Rattle.drivers.proofs.loops.walk_node.Statement.{statement}
 use Rattle.drivers.proofs.loops.walk_node.Tie as tie
-use Rattle.drivers.proofs.loops.walk_node.Reads as reads
-use Rattle.drivers.proofs.loops.walk_node.Lts as lts
 
 enum-known-n : tie.Need-enum-known-n
 enum-known-n c = search needs
