@@ -34,6 +34,7 @@ pub fn is_bound(mods: &[u32], m: u32) -> bool
     0 < edges::word(mods, m as usize * 4)
 }
 
+// Is the value outside INT?
 pub fn is_outside(v: Value) -> bool
     ensures { λ r. ⌜ r ≡ is-outside (worth v) ⌝ }
 {

@@ -83,6 +83,7 @@ fn check_modules(
         → Enough (now (names .entry)) (now (own .entry)) (now (g .entry)) (now (w .entry)) (now (k .entry))
         → Tallied r write (now (buf .entry)) first-place (now (buf .exit)) (now (k .exit)) (check-fused (decode (now (text .entry))))) ⌝ }
 {
+    // No accepted text has more: this only bounds the sum of the rounds.
     if 32 < count {
         return Checked::Full;
     }
@@ -259,6 +260,7 @@ fn check_text(
     }
 }
 
+// Makes every byte 0.
 fn clear_bytes(s: &mut [u8])
     ensures { λ _. ⌜ now (s .exit) ≡ replicate (length (now (s .entry))) 0 ⌝ }
 {

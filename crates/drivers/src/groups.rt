@@ -41,6 +41,7 @@ pub enum Covered {
     Outside,
 }
 
+// The detail of a report on a misuse.
 fn misuse_detail(k: Misuse) -> Detail
     ensures { λ r. ⌜ detail-of r ≡ misused (misuse-of k) ⌝ }
 {

@@ -31,7 +31,7 @@ fn tell(numbers: &mut [u64], number: u32, line: u32, bytes: usize, reports: usiz
 // `numbers` has the answer: number, line, bytes, reports, rounds, as many as it has room for. The other slices are working memory, which
 // may hold anything and is zero afterwards: `kinds` of 8,192 places or more, `mods` of 128, `names` of 6,616, `own` of 11,016, `g` of
 // 15,874, `w` of 29,190, `k` of 2,145; with fewer the number is 20. With 16,898 for `g` nodes are found faster.
-// The deepest text takes 4,017 KiB of stack (docs/STACK.md, bench/README.md): a thread has to have that much.
+// The deepest text that was tried takes less than 4 MiB of stack (bench/README.md): a thread has to have that much.
 #[no_mangle]
 pub extern "C" fn drivercheck_check(
     text: &[u8],
