@@ -109,7 +109,8 @@ abbrev pub one-of : ℕ → Bytes → Mode → Single → Names → ℕ → Got 
 one-of fuel text mo w names left =
     then-go (step-of fuel text mo (w .header) (w .busy) names (w .item) (w .state)) (λ st. walk-inner (w .item) (step-of fuel text mo (w .header) (w .busy)) names left st)
 
--- 01, The collected item: the walk over the rounds of a repeat that holds these items; its variable n has the values from `low` on
+-- 01, The collected item: the walk over the rounds of a repeat that holds these items, which are spent already; its variable n has the values from
+-- that of the word `low` on
 abbrev pub turns-of : ℕ → Bytes → Mode → World → (n low rounds : ℕ) → Names → ℕ → Got (Walked State)
 turns-of fuel text mo w n low rounds names left =
     walk-rounds (λ names′ left′ st. walk-items (w .items) (step-of fuel text mo (w .header) (w .busy)) names′ left′ st) n (signed low) rounds names left (w .state)

@@ -32,8 +32,8 @@ pub record ModuleGiven (text kinds mods : List ℕ) (count m : ℕ) (names own g
   pub graphed : graph-places ≤ length g
   pub keeps : Keeps k kept []
 
--- 01, The collected item: the rounds left and the state of the walk, which the words hold, and before it the module's name table; or the walk
--- is full. What stands behind the names that are used, and behind the count of a table, is free.
+-- 01, The value; The collected item; The site; The block; The edge: the module's name table, the rounds left, and the state of the walk, which the
+-- words hold: own tables, graph and summaries; or the walk is full. What stands behind the names that are used, and behind the count of a table, is free.
 abbrev pub Collects : Collected → (text names own g k : List ℕ) → Module → Got (Walked State) → Type 0
 Collects (collected.Left used left) text names own g k x y =
     (st : State) × (y ≡ going (walked left st)) × Holding (mode true (x .bound)) text own g k [] st × (names-of names used ≡ name-table (own-vals x) x .names)
@@ -49,8 +49,8 @@ abbrev pub left-of : Collected → ℕ
 left-of (collected.Left used left) = left
 left-of collected.Full = 0
 
--- 01, Worthless checks: what every slice that is lent to be written becomes, whatever it held: it keeps its length, and where the number is 20
--- each place of it is 0
+-- 01, Worthless checks; Refused because of the state: what every slice that is lent to be written becomes, whatever it held: it keeps its length,
+-- and where the number is 20 each place of it is 0. Elsewhere `Collects` says what it holds, and of a module that is not given so it is free.
 pub record LentAfter (r : Collected) (names own g k names′ own′ g′ k′ : List ℕ) : Type 0 where
   pub sizes : (length names′ ≡ length names) × (length own′ ≡ length own) × (length g′ ≡ length g) × (length k′ ≡ length k)
   pub emptied : number-of r ≡ 20

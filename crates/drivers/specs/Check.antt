@@ -41,9 +41,9 @@ pub record Checking (text kinds mods : List ℕ) (count m : ℕ) (names own g w 
   pub there : getElem? (decode text) m ≡ some x
   pub keeps : Keeps k kept []
 
--- what the check of a module, or of several, leaves: its reports behind the place p, its rounds, and the summaries kept; or a limit is passed
--- or a constant is outside INT, and then a buffer that is only counted for is as it was, and one that is written is free. What the other tables
--- hold is free in both cases: the whole call sets every place to 0.
+-- 01, Refused because of the state; The report: what the check of a module, or of several, leaves: its reports behind the place p, its rounds, and
+-- the summaries kept; or a limit is passed or a constant is outside INT, and then, where p is a place of the buffer, one that is only counted for
+-- is as it was, and one that is written is free, and so are the words k. The other tables are free in both cases: the whole call sets them to 0.
 abbrev pub Tallied : Checked → Bool → Bytes → Place → Bytes → List ℕ → Got Tally → Type 0
 Tallied (checks.Done q rounds) write old p new k x =
     (t : Tally) × (x ≡ going t) × Emits write old p (t .reports) new q × (rounds ≡ t .rounds) × Keeps k (t .kept) []
