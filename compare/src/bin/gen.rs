@@ -8,7 +8,7 @@ use std::path::Path;
 use std::process::ExitCode;
 
 const USAGE: &str = "usage: gen PROFILE SEED FROM COUNT | gen --one PROFILE SEED I | gen --list \
-                     | gen --vectors DIR";
+                     | gen --vectors DIR | gen --sample PROFILE SEED COUNT";
 
 fn main() -> ExitCode {
     let args: Vec<String> = std::env::args().skip(1).collect();
@@ -36,6 +36,7 @@ fn run(args: &[&str], out: &mut impl Write) -> Result<(), String> {
             out.write_all(&text).map_err(unwritten)
         }
         ["--vectors", dir] => vectors(dir, out),
+        ["--sample", profile, seed, count] => sample(profile, number(seed)?, number(count)?, out),
         [profile, seed, from, count] if !profile.starts_with("--") => {
             many(profile, number(seed)?, number(from)?, number(count)?, out)
         }
@@ -92,4 +93,12 @@ fn vectors(dir: &str, out: &mut impl Write) -> Result<(), String> {
         writeln!(out, "{name}: {} cases, {} bytes", cases.len(), bytes.len()).map_err(unwritten)?;
     }
     Ok(())
+}
+
+/// A `.cases` file with the answers of the Rust.
+fn sample(profile: &str, seed: u64, count: u64, out: &mut impl Write) -> Result<(), String> {
+    one(profile, seed, 0)?;
+    let count = usize::try_from(count).map_err(|_| "COUNT is too large")?;
+    let cases = gen::vectors::sampled(profile, seed, count)?;
+    out.write_all(&write_cases(&cases)).map_err(unwritten)
 }

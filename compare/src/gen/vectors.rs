@@ -130,15 +130,21 @@ fn add_line(case: &mut Case, line: &str) {
 fn generated_cases() -> Result<Vec<Case>, String> {
     let mut out = Vec::new();
     for profile in SAMPLED {
-        let mut taken = 0;
-        for i in 0.. {
-            if taken == SAMPLE {
-                break;
-            }
-            if let Some(case) = sample(profile, i, taken)? {
-                out.push(case);
-                taken += 1;
-            }
+        out.extend(sampled(profile, SEED, SAMPLE)?);
+    }
+    Ok(out)
+}
+
+/// The first `count` texts of a profile that are accepted and to which the Rust always gives one
+/// answer, with that answer.
+pub fn sampled(profile: &str, seed: u64, count: usize) -> Result<Vec<Case>, String> {
+    let mut out = Vec::new();
+    for i in 0.. {
+        if out.len() == count {
+            break;
+        }
+        if let Some(case) = sample(profile, seed, i, out.len())? {
+            out.push(case);
         }
     }
     Ok(out)
@@ -146,8 +152,8 @@ fn generated_cases() -> Result<Vec<Case>, String> {
 
 /// Text `i` where it is accepted and the Rust always gives it one answer. One in six may be
 /// without reports.
-fn sample(profile: &str, i: u64, taken: usize) -> Result<Option<Case>, String> {
-    let text = super::text(profile, SEED, i).unwrap_or_default();
+fn sample(profile: &str, seed: u64, i: u64, taken: usize) -> Result<Option<Case>, String> {
+    let text = super::text(profile, seed, i).unwrap_or_default();
     let model = model::answer(&text, model::PROGRAM_BUFFER);
     let quiet = model.reports == 0 && taken % 6 != 5;
     if model.number != 0 || quiet || text.len() > 2500 || model::ties(&text).contains(&true) {
@@ -159,7 +165,7 @@ fn sample(profile: &str, i: u64, taken: usize) -> Result<Option<Case>, String> {
             return Ok(None);
         }
     }
-    let name = format!("{profile}-{SEED}-{i}");
+    let name = format!("{profile}-{seed}-{i}");
     if answer != model.text {
         return Err(format!(
             "{name}\nmodel:\n{}Rust:\n{}",

@@ -1,30 +1,30 @@
 -- A module's own walk from the slices as they are lent: its tables emptied, one law for each way of the code. Assumes nothing.
-use mathlib.Core.Path.{_≡_, sym, ap, _∙_, subst}
+use mathlib.Core.Path.{_≡_, sym, _∙_, subst}
 use mathlib.Core.Bool.{true}
 use mathlib.Core.List.{List, []}
 use Prim.Native.Nat.{ℕ, _≤_}
 use native.Mathlib.Omega.{arith}
-use lib.ListN.{length, replicate}
+use lib.ListN.{length}
 use Rattle.spec.specs.Bytes.{Bytes}
 use Rattle.spec.specs.Syntax.{Module}
 use Rattle.spec.specs.Refusal.{decode}
 use Rattle.spec.specs.Value.{Table, own-vals, name-table}
 use Rattle.spec.specs.Summary.{Kept}
 use Rattle.graph.specs.Stands.{graph-places, Stands}
+use Rattle.graph.specs.Zeros.{Zeros}
 use Rattle.sites.specs.Own.{places}
 use Rattle.runs.specs.Text.{ModuleAt}
 use Rattle.runs.proofs.Text.{module-at}
-use Rattle.walk.specs.Walk.{Got, full, Walked, State, no-own, own-walk, walk-module}
-use Rattle.steps.specs.Modules.{name-places, NamesAre}
+use Rattle.walk.specs.Walk.{full, no-own, own-walk, walk-module}
+use Rattle.steps.specs.Modules.{name-places, named-by, table-by, NamesAre}
 use Rattle.steps.specs.declared.modules.Named.{Named}
 use Rattle.steps.specs.declared.modules.Named.the-variants as named
 use Rattle.items.specs.Held.{Held}
 use Rattle.collect.specs.declared.Walked as W
 use Rattle.collect.specs.declared.Walked.the-variants as walks
-use Rattle.collect.specs.declared.Collected.{Collected}
 use Rattle.collect.specs.declared.Collected.the-variants as collected
 use Rattle.collect.specs.Cycle.{mode, Ends, Framed, RoundsWithin}
-use Rattle.collect.specs.Face.{WalkGiven, ModuleGiven, Collects, left-of, LentAfter}
+use Rattle.collect.specs.Face.{WalkGiven, ModuleGiven, Collects, LentAfter}
 use Rattle.collect.proofs.Going.{names-framed}
 
 -- ---- a module
@@ -80,36 +80,16 @@ module _ {text kinds mods : List ℕ} {count m : ℕ} {names own g k : List ℕ}
             subst (λ (y : W.Walked). Ends y (mode true (x .bound)) text own″ g″ k″ [] (own-walk (decode text) x kept)) q (walk x kept given) in
             (ends .0, ends .1, ends .2, names-framed used names′ names″ framed ∙ filled .0)
 
--- ---- the answer of a module's collection
-
-module _ (text names own g k : List ℕ) (x : Module) (y : Got (Walked State)) (a : Collected) (h : Collects a text names own g k x y) where
-  pub collects-left : {used left : ℕ} → a ≡ collected.Left used left → Collects (collected.Left used left) text names own g k x y
-  collects-left e = subst (λ (b : Collected). Collects b text names own g k x y) e h
-
-  pub collects-full : a ≡ collected.Full → y ≡ full
-  collects-full e = subst (λ (b : Collected). Collects b text names own g k x y) e h
+-- ---- what the slices become
 
 abbrev pub Sizes : List ℕ → List ℕ → List ℕ → List ℕ → List ℕ → List ℕ → List ℕ → List ℕ → Type 0
 Sizes names own g k names′ own′ g′ k′ = (length names′ ≡ length names) × (length own′ ≡ length own) × (length g′ ≡ length g) × (length k′ ≡ length k)
 
-pub left-few : (a : Collected) {used left : ℕ} → left-of a ≤ 4096 → a ≡ collected.Left used left → left ≤ 4096
-left-few a h e = subst (λ (b : Collected). left-of b ≤ 4096) e h
+module _ (text mods : List ℕ) (m : ℕ) (names own g k names′ own′ g′ k′ : List ℕ) (s : Sizes names own g k names′ own′ g′ k′) where
+  pub lent-left : (used left : ℕ) (r : Named) (table : List ℕ) → r ≡ named-by text mods m names → table ≡ table-by text mods m names → r ≡ named.Used used
+      → Framed used table names′ → LentAfter (collected.Left used left) text mods m names own g k names′ own′ g′ k′
+  lent-left used left r table a t e f =
+      record { sizes = s; named = (sym a ∙ e, subst (λ (y : List ℕ). Framed used y names′) t f); emptied = λ z. absurd (omega arith) }
 
-module _ (names own g k names′ own′ g′ k′ : List ℕ) (s : Sizes names own g k names′ own′ g′ k′) where
-  pub lent-left : (used left : ℕ) → LentAfter (collected.Left used left) names own g k names′ own′ g′ k′
-  lent-left used left = record { sizes = s; emptied = λ z. absurd (omega arith) }
-
-  -- each slice is cleared after the walk left it with its length
-  pub lent-full : (names₁ own₁ g₁ k₁ : List ℕ) → Sizes names own g k names₁ own₁ g₁ k₁
-      → names′ ≡ replicate (length names₁) 0 → own′ ≡ replicate (length own₁) 0 → g′ ≡ replicate (length g₁) 0 → k′ ≡ replicate (length k₁) 0
-      → LentAfter collected.Full names own g k names′ own′ g′ k′
-  lent-full names₁ own₁ g₁ k₁ t a b c d =
-      record {
-        sizes = s;
-        emptied = λ _. (
-          a ∙ ap (λ (n : ℕ). replicate n 0) (t .0),
-          b ∙ ap (λ (n : ℕ). replicate n 0) (t .1),
-          c ∙ ap (λ (n : ℕ). replicate n 0) (t .2),
-          d ∙ ap (λ (n : ℕ). replicate n 0) (t .3),
-        );
-      }
+  pub lent-full : Zeros names′ → Zeros own′ × Zeros g′ × Zeros k′ → LentAfter collected.Full text mods m names own g k names′ own′ g′ k′
+  lent-full n z = record { sizes = s; named = n; emptied = λ _. (n, z .0, z .1, z .2) }

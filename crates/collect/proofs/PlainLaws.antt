@@ -9,13 +9,13 @@ use lib.ListN.{getD}
 use Rattle.spec.specs.Bytes.{Bytes, show-form}
 use Rattle.spec.specs.Syntax.{Item, port, wire, reg, mem, const, drive, on, inst, repeat, const-if, Header}
 use Rattle.spec.specs.Show.{show-item}
-use Rattle.spec.specs.Value.{Names}
+use Rattle.spec.specs.Value.{Value, Names}
 use Rattle.spec.specs.Site.{line-constants, any-outside}
-use Rattle.spec.specs.Edge.{Head, no-heads, line-heads}
+use Rattle.spec.specs.Edge.{Head, Summary, no-heads, line-heads}
 use Rattle.graph.specs.Stands.{Stands}
 use Rattle.graph.proofs.Stands.{stands-within}
 use Rattle.edges.specs.Reads.{KindsOf, HeadAll}
-use Rattle.edges.specs.Lines.{WireHeads, DriveHeads}
+use Rattle.edges.specs.Lines.{WireHeads, DriveHeads, InstHeads}
 use Rattle.runs.specs.Run.{ShowsItem}
 use Rattle.steps.specs.Steps.{plain}
 use Rattle.items.specs.Held.{OwnAfter}
@@ -85,6 +85,13 @@ module _ (x : Bytes) (d : ℕ) (ks : List ℕ) (names : Names) (g : List ℕ) wh
       go (inst i) p t = absurd (false≢true t)
       go (repeat n l h is) p t = absurd (false≢true t)
       go (const-if c is js) p t = absurd (false≢true t)
+
+  -- what a call said that was tested
+  pub heads-said : (b c : Bool) (g′ : List ℕ) → b ≡ c → LineHeads b x d ks names g g′ → LineHeads c x d ks names g g′
+  heads-said b c g′ e f = subst (λ (y : Bool). LineHeads y x d ks names g g′) e f
+
+  pub outputs-said : (v : Value) (s : Summary) (b c : Bool) (g′ : List ℕ) → b ≡ c → InstHeads b v s x d ks names g g′ → InstHeads c v s x d ks names g g′
+  outputs-said v s b c g′ e f = subst (λ (y : Bool). InstHeads y v s x d ks names g g′) e f
 
 -- ---- `plain_line`
 

@@ -14,6 +14,7 @@ use Rattle.spec.specs.Summary.{Kept}
 use Rattle.consteval.specs.Worth.{signed}
 use Rattle.lines.specs.Tables.{put-kinds, put-mods}
 use Rattle.graph.specs.Stands.{Stands}
+use Rattle.graph.specs.Zeros.{Zeros}
 use Rattle.edges.specs.Reads.{KindsOf}
 use Rattle.runs.specs.Run.{ShowsItem, RunOf}
 use Rattle.walk.specs.Walk.{Got, full, going, then-go, Walked, walked, walk-rounds, walk-inner, Own, over-own, State, Walking, Answered, Asking, line-step, walk-items, ask-walk}
@@ -125,7 +126,17 @@ abbrev pub RoundsWithin : W.Walked → ℕ → Type 0
 RoundsWithin (walks.Left l) left = l ≤ left
 RoundsWithin walks.Full left = Unit {0}
 
--- the names that are used stay as they are
+-- 01, Refused because of the state: lent working memory is zero: where a walk is full every place of the tables that it fills is 0
+abbrev pub FullEmpties : W.Walked → (own g k : List ℕ) → Type 0
+FullEmpties (walks.Left l) own g k = Unit {0}
+FullEmpties walks.Full own g k = Zeros own × Zeros g × Zeros k
+
+-- 01, Refused because of the state: the same for a line that fills two tables, false where it is full
+abbrev pub LineEmpties : Bool → (a b : List ℕ) → Type 0
+LineEmpties true a b = Unit {0}
+LineEmpties false a b = Zeros a × Zeros b
+
+-- 01, The collected item: the variable's old value returns afterwards: the names that are used stay as they are, full or not
 pub record Framed (used : ℕ) (old new : List ℕ) : Type 0 where
   pub size : length new ≡ length old
   pub same : (i : ℕ) → i < used + used → getD new i 0 ≡ getD old i 0
@@ -151,3 +162,9 @@ abbrev pub AskedFor : A.Asked → List ℕ → ℕ → List ℕ → Got Answered
 AskedFor asked.Empty k m busy x = (a : Answered) × (x ≡ going a) × (a .summary ≡ []) × Keeps k (a .kept) busy
 AskedFor asked.Kept k m busy x = (a : Answered) × (x ≡ going a) × Alike (pairs-of k m) (a .summary) × Keeps k (a .kept) busy × (m < 32)
 AskedFor asked.Full k m busy x = x ≡ full
+
+-- 01, Refused because of the state: where a limit is passed every place of the table of summaries is 0
+abbrev pub AskedEmpties : A.Asked → List ℕ → Type 0
+AskedEmpties asked.Empty k = Unit {0}
+AskedEmpties asked.Kept k = Unit {0}
+AskedEmpties asked.Full k = Zeros k

@@ -5,7 +5,7 @@ use mathlib.Core.Bool.{true, false}
 use mathlib.Core.List.{List, []}
 use mathlib.Core.Option.{some}
 use Prim.Native.Nat.{ℕ, _+_, _/_, _≤_}
-use lib.ListN.{length, getElem?, replicate}
+use lib.ListN.{length, getElem?}
 use Rattle.spec.specs.Syntax.{Module}
 use Rattle.spec.specs.Decode.{depth-limit}
 use Rattle.spec.specs.Refusal.{decode}
@@ -13,14 +13,16 @@ use Rattle.spec.specs.Value.{own-vals, name-table}
 use Rattle.spec.specs.Summary.{Kept}
 use Rattle.consteval.specs.Worth.{names-of}
 use Rattle.graph.specs.Stands.{graph-places, Stands}
+use Rattle.graph.specs.Zeros.{Zeros}
 use Rattle.sites.specs.Own.{places}
 use Rattle.walk.specs.Walk.{Got, full, going, Walked, walked, State, no-own}
-use Rattle.steps.specs.Modules.{name-places}
+use Rattle.steps.specs.Modules.{name-places, named-by, table-by}
+use Rattle.steps.specs.declared.modules.Named.the-variants as named
 use Rattle.items.specs.Held.{Held}
 use Rattle.summary.specs.Keeps.{Keeps}
 use Rattle.collect.specs.declared.Collected.{Collected}
 use Rattle.collect.specs.declared.Collected.the-variants as collected
-use Rattle.collect.specs.Cycle.{Tabled, Holding, mode}
+use Rattle.collect.specs.Cycle.{Tabled, Holding, mode, Framed}
 
 -- 01, Refused because of the state: module x is number m of an accepted text; `own` has just the places of its tables, and names, graph and
 -- summaries have theirs or more; the words k hold the summaries kept so far, and what the others hold does not matter
@@ -49,12 +51,18 @@ abbrev pub left-of : Collected → ℕ
 left-of (collected.Left used left) = left
 left-of collected.Full = 0
 
+-- 01, The value: the names that filling module m's table from its lines gives, whatever the slice held; the walk leaves them as they are
+abbrev pub NamesAfter : Collected → (text mods : List ℕ) → ℕ → (names names′ : List ℕ) → Type 0
+NamesAfter (collected.Left used left) text mods m names names′ = (named-by text mods m names ≡ named.Used used) × Framed used (table-by text mods m names) names′
+NamesAfter collected.Full text mods m names names′ = Zeros names′
+
 -- 01, Worthless checks; Refused because of the state: what every slice that is lent to be written becomes, whatever it held: it keeps its length,
--- and where the number is 20 each place of it is 0. Elsewhere `Collects` says what it holds, and of a module that is not given so it is free.
-pub record LentAfter (r : Collected) (names own g k names′ own′ g′ k′ : List ℕ) : Type 0 where
+-- and where the number is 20 each place of it is 0. Elsewhere the names in use are those of the module's lines, `Collects` says what the others hold,
+-- and of a module that is not given so that is free.
+pub record LentAfter (r : Collected) (text mods : List ℕ) (m : ℕ) (names own g k names′ own′ g′ k′ : List ℕ) : Type 0 where
   pub sizes : (length names′ ≡ length names) × (length own′ ≡ length own) × (length g′ ≡ length g) × (length k′ ≡ length k)
-  pub emptied : number-of r ≡ 20
-      → (names′ ≡ replicate (length names) 0) × (own′ ≡ replicate (length own) 0) × (g′ ≡ replicate (length g) 0) × (k′ ≡ replicate (length k) 0)
+  pub named : NamesAfter r text mods m names names′
+  pub emptied : number-of r ≡ 20 → Zeros names′ × Zeros own′ × Zeros g′ × Zeros k′
 
 -- 01, The collected item: where the walk over the items of module x begins: its name table stands, with room for the variables of open repeats, and its tables are empty
 pub record WalkGiven (text kinds mods : List ℕ) (count m : ℕ) (names : List ℕ) (used : ℕ) (own g k : List ℕ) (x : Module) (kept : Kept) : Type 0 where

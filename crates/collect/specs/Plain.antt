@@ -1,7 +1,7 @@
 -- What a collected line leaves that holds no items and asks for no summary. 01: The site; The block; The edge.
 -- Assumes nothing: these are definitions and statements.
 use mathlib.Core.Path.{_≡_}
-use mathlib.Core.Bool.{Bool, true}
+use mathlib.Core.Bool.{Bool, true, false}
 use mathlib.Core.List.{List, []}
 use Prim.Native.Nat.{ℕ}
 use Rattle.spec.specs.Bytes.{Bytes}
@@ -9,6 +9,7 @@ use Rattle.spec.specs.Syntax.{Item, Header}
 use Rattle.spec.specs.Value.{Names}
 use Rattle.spec.specs.Edge.{Head, line-heads}
 use Rattle.graph.specs.Stands.{Stands}
+use Rattle.graph.specs.Zeros.{Zeros}
 use Rattle.edges.specs.Reads.{KindsOf, HeadAll}
 use Rattle.runs.specs.Run.{ShowsItem}
 use Rattle.steps.specs.Steps.{plain}
@@ -27,3 +28,9 @@ abbrev pub PlainLine : Bool → Bytes → ℕ → ℕ → List ℕ → Bool → 
 PlainLine r x from d ks checking bound names own g own′ g′ =
     (text : Bytes) (i : Item) → ShowsItem x d i → plain i ≡ true → StandsAt text from x → (header : List Header) → KindsOf ks header
     → (o : Own) → OwnIs checking text own o → (hs : List Head) → Stands g hs → PlainEnds r (mode checking bound) text own′ g′ header names i o hs
+
+-- 01, The edge; Refused because of the state: the outputs of an instance leave the summaries as they are; where a limit is passed every place of
+-- graph and summaries is 0
+abbrev pub InstLeaves : Bool → (g k k′ : List ℕ) → Type 0
+InstLeaves true g k k′ = k′ ≡ k
+InstLeaves false g k k′ = Zeros g × Zeros k′

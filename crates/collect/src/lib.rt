@@ -27,7 +27,7 @@ ghost use Rattle.steps.specs.declared.Head as heads;
 ghost use Rattle.steps.specs.declared.Head.the-variants as head;
 ghost use Rattle.summary.specs.Keeps.{Keeps};
 ghost use Rattle.collect.specs.Face.{WalkGiven, ModuleGiven, Collects, left-of, LentAfter};
-ghost use Rattle.collect.specs.Cycle.{Mode, World, Given, Single, OneGiven, mode, Ends, walk-of, one-of, turns-of, step-of, Framed, RoundsWithin, Stepped, Tabled, AskedFor};
+ghost use Rattle.collect.specs.Cycle.{Mode, World, Given, Single, OneGiven, mode, Ends, walk-of, one-of, turns-of, step-of, Framed, RoundsWithin, FullEmpties, LineEmpties, Stepped, Tabled, AskedFor, AskedEmpties};
 
 // What collecting a module gives: a limit is passed or a constant is outside INT; else how many names its table has, and the rounds left.
 pub enum Collected {
@@ -88,6 +88,7 @@ fn collect_items(
         → Ends r (mode (pass .checking) (pass .bound)) (now (text .entry)) (now (own .exit)) (now (g .exit)) (now (k .exit)) (w .busy)
         (walk-of (pass .fuel) (now (text .entry)) (mode (pass .checking) (pass .bound)) w (names-of (now (names .entry)) (pass .used)) left)) ⌝ }
     ensures { λ r. ⌜ Framed (pass .used) (now (names .entry)) (now (names .exit)) × RoundsWithin r left ⌝ }
+    ensures { λ r. ⌜ FullEmpties r (now (own .exit)) (now (g .exit)) (now (k .exit)) ⌝ }
 {
     let mut at: usize = 0;
     let mut left = left;
@@ -127,6 +128,7 @@ fn collect_item(
         → Ends r (mode (pass .checking) (pass .bound)) (now (text .entry)) (now (own .exit)) (now (g .exit)) (now (k .exit)) (w .busy)
         (one-of (pass .fuel) (now (text .entry)) (mode (pass .checking) (pass .bound)) w (names-of (now (names .entry)) (pass .used)) left)) ⌝ }
     ensures { λ r. ⌜ Framed (pass .used) (now (names .entry)) (now (names .exit)) × RoundsWithin r left ⌝ }
+    ensures { λ r. ⌜ FullEmpties r (now (own .exit)) (now (g .exit)) (now (k .exit)) ⌝ }
 {
     match steps::head_of(x) {
         Head::Plain => {
@@ -144,6 +146,7 @@ fn collect_item(
             ) {
                 Walked::Left(left)
             } else {
+                graph::clear(k);
                 Walked::Full
             }
         }
@@ -151,6 +154,7 @@ fn collect_item(
             if inst_edges(text, kinds, mods, x, pass, ks, names, g, k) {
                 Walked::Left(left)
             } else {
+                graph::clear(own);
                 Walked::Full
             }
         }
@@ -180,8 +184,10 @@ fn repeat_items(
         → Ends r (mode (pass .checking) (pass .bound)) (now (text .entry)) (now (own .exit)) (now (g .exit)) (now (k .exit)) (w .busy)
         (one-of (pass .fuel) (now (text .entry)) (mode (pass .checking) (pass .bound)) w (names-of (now (names .entry)) (pass .used)) left)) ⌝ }
     ensures { λ r. ⌜ Framed (pass .used) (now (names .entry)) (now (names .exit)) × RoundsWithin r left ⌝ }
+    ensures { λ r. ⌜ FullEmpties r (now (own .exit)) (now (g .exit)) (now (k .exit)) ⌝ }
 {
     if pass.depth == 0 {
+        places::empty(own, g, k);
         return Walked::Full;
     }
     let a = steps::body_at(x);
@@ -190,14 +196,19 @@ fn repeat_items(
     let mut deep = pass;
     deep.depth = pass.depth - 1;
     match steps::times_of(x, pass.depth, names, pass.used, left) {
-        Times::Outside => Walked::Full,
+        Times::Outside => {
+            places::empty(own, g, k);
+            Walked::Full
+        }
         Times::Never => Walked::Left(left),
         Times::Once => collect_items(text, kinds, mods, s, base, deep, left, ks, names, own, g, k),
         Times::Rounds(n, low, rounds) => {
             if left < rounds {
+                places::empty(own, g, k);
                 return Walked::Full;
             }
             if 4294967295 - low < rounds {
+                places::empty(own, g, k);
                 return Walked::Full;
             }
             let turn = Turn {
@@ -233,11 +244,13 @@ fn repeat_rounds(
         → Ends r (mode (pass .checking) (pass .bound)) (now (text .entry)) (now (own .exit)) (now (g .exit)) (now (k .exit)) (w .busy)
         (turns-of (pass .fuel) (now (text .entry)) (mode (pass .checking) (pass .bound)) w (turn .name) (turn .low) (turn .rounds) (names-of (now (names .entry)) (pass .used)) (turn .left))) ⌝ }
     ensures { λ r. ⌜ Framed (pass .used) (now (names .entry)) (now (names .exit)) × RoundsWithin r (turn .left) ⌝ }
+    ensures { λ r. ⌜ FullEmpties r (now (own .exit)) (now (g .exit)) (now (k .exit)) ⌝ }
 {
     let mut left = turn.left;
     let mut i: u32 = 0;
     while i < turn.rounds {
         if !names::push(names, pass.used, turn.name, turn.low + i) {
+            places::empty(own, g, k);
             return Walked::Full;
         }
         let mut open = pass;
@@ -274,14 +287,20 @@ fn branch_items(
         → Ends r (mode (pass .checking) (pass .bound)) (now (text .entry)) (now (own .exit)) (now (g .exit)) (now (k .exit)) (w .busy)
         (one-of (pass .fuel) (now (text .entry)) (mode (pass .checking) (pass .bound)) w (names-of (now (names .entry)) (pass .used)) left)) ⌝ }
     ensures { λ r. ⌜ Framed (pass .used) (now (names .entry)) (now (names .exit)) × RoundsWithin r left ⌝ }
+    ensures { λ r. ⌜ FullEmpties r (now (own .exit)) (now (g .exit)) (now (k .exit)) ⌝ }
 {
     if pass.depth < 2 {
+        places::empty(own, g, k);
         return Walked::Full;
     }
     match steps::branch_of(x, pass.depth, names, pass.used) {
-        Chosen::Outside => Walked::Full,
+        Chosen::Outside => {
+            places::empty(own, g, k);
+            Walked::Full
+        }
         Chosen::Run(a, b) => {
             if x.len() <= a {
+                places::empty(own, g, k);
                 return Walked::Full;
             }
             let s = parts::between(x, a, b);
@@ -310,19 +329,25 @@ fn inst_edges(
         (now (ks .entry)) (now (names .entry)) (pass .used) own (now (g .entry)) (now (k .entry)) w
         → Stepped r mo (now (text .entry)) own (now (g .exit)) (now (k .exit)) (w .busy)
         (step-of (pass .fuel) (now (text .entry)) mo (w .header) (w .busy) (names-of (now (names .entry)) (pass .used)) (w .item) (w .state))) ⌝ }
+    ensures { λ r. ⌜ LineEmpties r (now (g .exit)) (now (k .exit)) ⌝ }
 {
     let index = edges::inst_index(x, pass.depth, names, pass.used);
     if places::is_outside(index) {
+        graph::clear(g);
+        graph::clear(k);
         return false;
     }
     let m = edges::inst_module(x);
     match comb_summary(text, kinds, mods, m, pass, k) {
-        Asked::Full => false,
-        Asked::Empty => edges::inst_heads(x, pass.depth, index, k, 0, 0, ks, names, pass.used, g),
+        Asked::Full => {
+            graph::clear(g);
+            false
+        }
+        Asked::Empty => plain::inst_line(x, pass.depth, index, k, 0, 0, ks, names, pass.used, g),
         Asked::Kept => {
             let first = summary::first(k, m);
             let pairs = summary::count(k, m);
-            edges::inst_heads(
+            plain::inst_line(
                 x,
                 pass.depth,
                 index,
@@ -342,6 +367,7 @@ fn inst_edges(
 fn comb_summary(text: &[u8], kinds: &[u8], mods: &[u32], m: u32, pass: Pass, k: &mut [u32]) -> Asked
     ensures { λ r. ⌜ ((kept : Kept) (busy : List ℕ) → Tabled (now (text .entry)) (now (kinds .entry)) (now (mods .entry)) (pass .count) → Keeps (now (k .entry)) kept busy
         → AskedFor r (now (k .exit)) m busy (ask-walk (pass .fuel) (decode (now (text .entry))) busy kept m)) ⌝ }
+    ensures { λ r. ⌜ AskedEmpties r (now (k .exit)) ⌝ }
 {
     if pass.fuel == 0 {
         return Asked::Empty;
@@ -365,12 +391,15 @@ fn make_summary(text: &[u8], kinds: &[u8], mods: &[u32], m: u32, pass: Pass, k: 
     ensures { λ r. ⌜ ((kept : Kept) (busy : List ℕ) → Tabled (now (text .entry)) (now (kinds .entry)) (now (mods .entry)) (pass .count) → Keeps (now (k .entry)) kept busy
         → m < pass .count → kept-summary kept m ≡ none → has-name m busy ≡ false
         → AskedFor r (now (k .exit)) m busy (ask-walk (suc (pass .fuel)) (decode (now (text .entry))) busy kept m)) ⌝ }
+    ensures { λ r. ⌜ AskedEmpties r (now (k .exit)) ⌝ }
 {
     if 32768 < text.len() {
+        graph::clear(k);
         return Asked::Full;
     }
     let mut names = [0u32; 6616];
     let Named::Used(used) = modules::names_of_module(text, mods, m, &mut names) else {
+        graph::clear(k);
         return Asked::Full;
     };
     summary::begin(k, m);
@@ -424,11 +453,14 @@ fn walk_module(
         (now (names .entry)) used (now (own .entry)) (now (g .entry)) (now (k .entry)) x kept
         → Ends r (mode true (x .bound)) (now (text .entry)) (now (own .exit)) (now (g .exit)) (now (k .exit)) [] (own-walk (decode (now (text .entry))) x kept)) ⌝ }
     ensures { λ r. ⌜ Framed used (now (names .entry)) (now (names .exit)) × RoundsWithin r 4096 ⌝ }
+    ensures { λ r. ⌜ FullEmpties r (now (own .exit)) (now (g .exit)) (now (k .exit)) ⌝ }
 {
     if 32768 < text.len() {
+        places::empty(own, g, k);
         return Walked::Full;
     }
     if 32 < count {
+        places::empty(own, g, k);
         return Walked::Full;
     }
     let run = modules::items_of_module(text, mods, m);
@@ -459,38 +491,8 @@ fn walk_module(
     )
 }
 
-// The name table of module m, and the walk over its items: own tables and graph are empty where it begins, and k has the summaries kept so far.
-fn own_walk(
-    text: &[u8],
-    kinds: &[u8],
-    mods: &[u32],
-    count: u32,
-    m: u32,
-    names: &mut [u32],
-    own: &mut [u32],
-    g: &mut [u32],
-    k: &mut [u32],
-) -> Collected
-    ensures { λ r. ⌜ ((x : Module) (kept : Kept) → ModuleGiven (now (text .entry)) (now (kinds .entry)) (now (mods .entry)) count m
-        (now (names .entry)) (now (own .entry)) (now (g .entry)) (now (k .entry)) x kept
-        → Collects r (now (text .entry)) (now (names .exit)) (now (own .exit)) (now (g .exit)) (now (k .exit)) x (own-walk (decode (now (text .entry))) x kept)) ⌝ }
-    ensures { λ r. ⌜ left-of r ≤ 4096 ⌝ }
-{
-    match modules::names_of_module(text, mods, m, names) {
-        Named::Outside => Collected::Full,
-        Named::Used(used) => {
-            items::reset(own);
-            graph::reset(g);
-            match walk_module(text, kinds, mods, count, m, names, used, own, g, k) {
-                Walked::Full => Collected::Full,
-                Walked::Left(left) => Collected::Left(used, left),
-            }
-        }
-    }
-}
-
-// Collects module m in its own check: its name table, its own tables and its graph, and in k the summaries that its instances asked for.
-// Where it is full, every place that is lent to be written is 0 afterwards.
+// Collects module m in its own check: its name table, its own tables and its graph, which are empty where the walk begins, and in k, which has the
+// summaries kept so far, those that its instances ask for. Where it is full, every place that is lent to be written is 0 afterwards.
 pub fn collect_module(
     text: &[u8],
     kinds: &[u8],
@@ -506,17 +508,25 @@ pub fn collect_module(
         (now (names .entry)) (now (own .entry)) (now (g .entry)) (now (k .entry)) x kept
         → Collects r (now (text .entry)) (now (names .exit)) (now (own .exit)) (now (g .exit)) (now (k .exit)) x (own-walk (decode (now (text .entry))) x kept)) ⌝ }
     ensures { λ r. ⌜ left-of r ≤ 4096 ⌝ }
-    ensures { λ r. ⌜ LentAfter r (now (names .entry)) (now (own .entry)) (now (g .entry)) (now (k .entry))
+    ensures { λ r. ⌜ LentAfter r (now (text .entry)) (now (mods .entry)) m (now (names .entry)) (now (own .entry)) (now (g .entry)) (now (k .entry))
         (now (names .exit)) (now (own .exit)) (now (g .exit)) (now (k .exit)) ⌝ }
 {
-    match own_walk(text, kinds, mods, count, m, names, own, g, k) {
-        Collected::Left(used, left) => Collected::Left(used, left),
-        Collected::Full => {
+    match modules::names_of_module(text, mods, m, names) {
+        Named::Outside => {
             graph::clear(names);
-            graph::clear(own);
-            graph::clear(g);
-            graph::clear(k);
+            places::empty(own, g, k);
             Collected::Full
+        }
+        Named::Used(used) => {
+            items::reset(own);
+            graph::reset(g);
+            match walk_module(text, kinds, mods, count, m, names, used, own, g, k) {
+                Walked::Left(left) => Collected::Left(used, left),
+                Walked::Full => {
+                    graph::clear(names);
+                    Collected::Full
+                }
+            }
         }
     }
 }

@@ -1,4 +1,5 @@
-// A module of an accepted text by the tables that its reader leaves: its kinds, where the run of its items begins, whether it is bound.
+// A module of an accepted text by the tables that its reader leaves: its kinds, where the run of its items begins, whether it is bound. And what a
+// walk that is full leaves.
 use consteval::Value;
 use steps::modules;
 ghost use mathlib.Core.Path.{_≡_};
@@ -7,6 +8,7 @@ ghost use lib.ListN.{getD, take, drop};
 ghost use lib.Dec.{ltb};
 ghost use Rattle.spec.specs.Value.{is-outside};
 ghost use Rattle.consteval.specs.Worth.{worth};
+ghost use Rattle.graph.specs.Zeros.{Zeros};
 
 // How many names a module has at most.
 const NAMES: usize = 256;
@@ -43,4 +45,13 @@ pub fn is_outside(v: Value) -> bool
         Value::Missing => false,
         Value::Outside => true,
     }
+}
+
+// Every place of the tables that a walk fills becomes 0.
+pub fn empty(own: &mut [u32], g: &mut [u32], k: &mut [u32])
+    ensures { λ _. ⌜ Zeros (now (own .exit)) × Zeros (now (g .exit)) × Zeros (now (k .exit)) ⌝ }
+{
+    graph::clear(own);
+    graph::clear(g);
+    graph::clear(k);
 }

@@ -83,8 +83,8 @@ module _ (kinds : List ℕ) (i : ℕ) (g : List ℕ) (from : ℕ) {k : ℕ} (q :
       pub index-missing : v ≡ Missing → InstRead true i (indexed-reads i z p) kinds g g from
       index-missing e = rw (sym qv ∙ ap worth e) (inst-then true g no-reads (λ hs n start rs h. read-none hs n start from g rs h))
 
-      pub index-outside : v ≡ Outside → InstRead false i (indexed-reads i z p) kinds g g from
-      index-outside e = rw (sym qv ∙ ap worth e) (inst-then false g (record { nodes = []; out = true }) (λ hs n start rs h. read-out hs n start from g rs))
+      pub index-outside : (g′ : List ℕ) → v ≡ Outside → InstRead false i (indexed-reads i z p) kinds g g′ from
+      index-outside g′ e = rw (sym qv ∙ ap worth e) (inst-then false g′ (record { nodes = []; out = true }) (λ hs n start rs h. read-out hs n start from g′ rs))
 
       module _ {x : ℕ} (e : v ≡ Known x) (a : A.Added) (g′ : List ℕ) (read : (hs : List Head) (n : Node) (start : ℕ) (rs : List Node) → Heading g hs n start rs from → Read a g′ hs n start rs from (inst-out i (some (unbiased x)) p)) where
         known-here : indexed-reads i z p ≡ one-read (inst-out i (some (unbiased x)) p)

@@ -12,6 +12,7 @@ use Rattle.spec.specs.Edge.{Node, Head}
 use Rattle.graph.specs.Table.{node-words, node-at}
 use Rattle.graph.specs.Stands.{Stands, Heading, Headed, Read}
 use Rattle.graph.specs.Cycles.{Awaits, Next, words-from}
+use Rattle.graph.specs.Zeros.{ZerosAtFull}
 use Rattle.graph.specs.declared.Added as A
 use Rattle.graph.specs.declared.Added.the-variants as added
 use Rattle.graph.specs.declared.Cycle as C
@@ -23,11 +24,21 @@ use Rattle.graph_c.specs.Code.{added-of, said, Said, loop-at, Kept, Copi
 small-at : (i : ℕ) → i < 512 → added-of i ≡ added.At i
 small-at i l = rw (lt-ltb i 512 l, added-of)
 
+-- then nothing is said of zeros
+pub zeros-at : (i : ℕ) (g : List ℕ) → i < 512 → ZerosAtFull (added-of i) g
+zeros-at i g l = subst (λ (x : A.Added). ZerosAtFull x g) (sym (small-at i l)) tt
+
 module _ (a : A.Added) (g g′ : List ℕ) (n m : Node) (start : ℕ) (f : (hs : List Head) → Stands g hs → Headed a g′ hs n start) (q : n ≡ m) where
   pub head-at : (i : ℕ) → a ≡ added.At i → (hs : List Head) → Stands g hs → Headed (added-of i) g′ hs m start
   head-at i e hs H =
       let h : Heading g′ hs m start [] i = subst (λ (x : Node). Heading g′ hs x start [] i) q (subst (λ (x : A.Added). Headed x g′ hs n start) e (f hs H)) in
       subst (λ (x : A.Added). Headed x g′ hs m start) (sym (small-at i (omega (arith, h .node .within, h .stands .few)))) h
+
+  -- no graph has a node past the last
+  pub head-past : (i : ℕ) → a ≡ added.At i → 512 ≤ i → (g″ : List ℕ) (hs : List Head) → Stands g hs → Headed added.Full g″ hs m start
+  head-past i e l g″ hs H =
+      let h : Heading g′ hs n start [] i = subst (λ (x : A.Added). Headed x g′ hs n start) e (f hs H) in
+      absurd (omega (arith, h .node .within, h .stands .few))
 
   pub head-full : a ≡ added.Full → (hs : List Head) → Stands g hs → Headed added.Full g′ hs m start
   head-full e hs H = subst (λ (x : Node). Headed added.Full g′ hs x start) q (subst (λ (x : A.Added). Headed x g′ hs n start) e (f hs H))

@@ -13,6 +13,7 @@ ghost use Rattle.spec.specs.Walk.{find-cycles};
 ghost use Rattle.graph.specs.Table.{node-of, node-words, start-at};
 ghost use Rattle.graph.specs.Stands.{Stands, Heading, Headed, Read};
 ghost use Rattle.graph.specs.Cycles.{Roomy, Awaits};
+ghost use Rattle.graph.specs.Zeros.{ZerosAtFull};
 ghost use Rattle.graph_c.specs.Code.{added-of, read-of, said, Said, Copied, Kept, Taken};
 
 // The node that four numbers say.
@@ -37,7 +38,7 @@ pub extern "C" fn drivercheck_graph_clear(g: &mut [u32])
     graph::clear(g)
 }
 
-// A line with this START heads the node: its number, or 512 where that is one node too many.
+// A line with this START heads the node: its number, or 512 where that is one node too many; then the graph is emptied.
 #[no_mangle]
 pub extern "C" fn drivercheck_graph_head(
     g: &mut [u32],
@@ -48,14 +49,21 @@ pub extern "C" fn drivercheck_graph_head(
     start: u32,
 ) -> u32
     ensures { λ r. ⌜ ((hs : List Head) → Stands (now (g .entry)) hs → Headed (added-of r) (now (g .exit)) hs (node-words kind name index output) start) ⌝ }
+    ensures { λ r. ⌜ ZerosAtFull (added-of r) (now (g .exit)) ⌝ }
 {
     match graph::head(g, node(kind, name, index, output), start) {
-        Added::At(i) => i,
+        Added::At(i) => {
+            if i < 512 {
+                return i;
+            }
+            graph::clear(g);
+            512
+        }
         Added::Full => 512,
     }
 }
 
-// The node `from`, which the last line headed, reads the node: 1, or 0 where that is one node or edge too many.
+// The node `from`, which the last line headed, reads the node: 1, or 0 where that is one node or edge too many; then the graph is emptied.
 #[no_mangle]
 pub extern "C" fn drivercheck_graph_read(
     g: &mut [u32],
@@ -67,6 +75,7 @@ pub extern "C" fn drivercheck_graph_read(
 ) -> u32
     ensures { λ r. ⌜ ((hs : List Head) (h : SpecNode) (start : ℕ) (rs : List SpecNode) → Heading (now (g .entry)) hs h start rs from
         → Read (read-of r) (now (g .exit)) hs h start rs from (node-words kind name index output)) ⌝ }
+    ensures { λ r. ⌜ ZerosAtFull (read-of r) (now (g .exit)) ⌝ }
 {
     match graph::read(g, from, node(kind, name, index, output)) {
         Added::At(_) => 1,

@@ -1,21 +1,24 @@
 -- The table of summaries: what stores leave of it, one law for each function.
 -- Assumes nothing.
-use mathlib.Core.Path.{_≡_, refl, sym, _∙_}
+use mathlib.Core.Path.{_≡_, refl, sym, _∙_, ap}
 use mathlib.Core.Bool.{Bool, true, false}
+use mathlib.Core.Logic.{inl}
 use mathlib.Core.List.{List, [], _∷_}
 use mathlib.Core.Option.{some, none, Option·none-ne-some}
 use Prim.Native.Nat.{ℕ, zero, suc, _+_, _*_, _≤_, _<_}
 use native.Mathlib.Omega.{arith}
-use lib.ListN.{length, getD, set, length-set, List·getD-eq-default}
-use lib.Seq.{getD-set-same, getD-set-other, set-out}
-use lib.Dec.{eqb, ltb}
-use borrow.Author.Tests.{eqb-true, eqb-false, eq-eqb, ne-eqb, ltb-true, ltb-false}
+use lib.ListN.{length, getD, set, length-set}
+use lib.Seq.{getD-set-same, getD-set-other}
+use lib.Dec.{eqb}
+use borrow.Author.Tests.{eqb-true, eqb-false, eq-eqb, ne-eqb}
 use Rattle.spec.specs.Refusal.{has-name}
 use Rattle.spec.specs.Edge.{Summary}
 use Rattle.spec.specs.Summary.{Kept, kept-summary, triples}
+use Rattle.graph.specs.Cycles.{Zeroed}
+use Rattle.graph.proofs.Sorting.{zeroed-none, zeroed-more}
 use Rattle.edges.specs.Lines.{summary-at}
 use Rattle.walk.specs.Alike.{Alike}
-use Rattle.summary.specs.Keeps.{state-word, start-of, count-of, total-of, kept-places, first-of, pairs-of, StateIs, Keeps, Says}
+use Rattle.summary.specs.Keeps.{state-word, start-of, count-of, total-of, kept-places, first-of, pairs-of, StateIs, Keeps, Says, Emptied}
 use Rattle.summary.specs.declared.State.the-variants as states
 
 -- ---- words
@@ -120,28 +123,25 @@ began k m q kept busy h small e =
         } in
         carried s kept kept busy (m ∷ busy) refl (name-other n m busy d) (h .each n l)
 
--- `reset`: so many states are 0
-pub zero-here : (k : List ℕ) (i : ℕ) → getD (set k i 0) i 0 ≡ 0
-zero-here k i = go (ltb i (length k)) refl
-  where
-    go : (b : Bool) → ltb i (length k) ≡ b → getD (set k i 0) i 0 ≡ 0
-    go true e = getD-set-same k i 0 0 (ltb-true i (length k) e)
-    go false e = let l = ltb-false i (length k) e in rw (set-out k i 0 l) (List·getD-eq-default k 0 l)
+-- `reset`: one state more is 0
+pub zeroed-next : (k₀ k : List ℕ) (i : ℕ) → Zeroed 0 i k₀ k → {k′ : List ℕ} → k′ ≡ set k i 0 → Zeroed 0 (i + 1) k₀ k′
+zeroed-next k₀ k i Z q = zeroed-more Z (q ∙ ap (λ (j : ℕ). set k j 0) (omega arith))
 
-pub zero-more : (k : List ℕ) (i : ℕ) → ((j : ℕ) → j < i → getD k j 0 ≡ 0) → {k′ : List ℕ} → k′ ≡ set k i 0 → (j : ℕ) → j < i + 1 → getD k′ j 0 ≡ 0
-zero-more k i h q j l = rw q (go (eqb j i) refl)
-  where
-    go : (b : Bool) → eqb j i ≡ b → getD (set k i 0) j 0 ≡ 0
-    go true e = rw (eqb-true j i e) (zero-here k i)
-    go false e = let d : ¬ (j ≡ i) = eqb-false j i e in miss k i j 0 d ∙ h j (omega arith)
+-- all of them, and then the number of all pairs
+pub emptied : (k w : List ℕ) (i : ℕ) → i ≤ 32 → 32 ≤ i → Zeroed 0 i k w → {k′ : List ℕ} → k′ ≡ set w 96 0 → Emptied k k′
+emptied k w i l g Z q = let e : i ≡ 32 = omega arith in (w, rw e at Z, zeroed-more (zeroed-none 96 w) q)
 
-pub none-kept : (k : List ℕ) → kept-places ≤ length k → ((j : ℕ) → j < 32 → getD k j 0 ≡ 0) → {k′ : List ℕ} → k′ ≡ set k 96 0 → Keeps k′ [] []
+-- then no summary is kept
+pub none-kept : (k k′ : List ℕ) → Emptied k k′ → kept-places ≤ length k → Keeps k′ [] []
 unfolding kept-summary has-name triples
-none-kept k z h q =
-    rw q
-    (record {
-      sized = rw length-set z;
-      each = λ n l. let e : state-word (set k 96 0) n ≡ 0 = miss k 96 n 0 (λ d. omega arith) ∙ h n l in rw e (refl, refl);
-      total = zero-here k 96;
+none-kept k k′ E z =
+    let a = E .1 .size in
+    let b = E .2 .size in
+    record {
+      sized = omega arith;
+      each = λ n l.
+          let e : state-word k′ n ≡ 0 = E .2 .others n (inl (omega arith)) ∙ ap (λ (j : ℕ). getD (E .0) j 0) (omega arith) ∙ E .1 .zeros n l in
+          rw e (refl, refl);
+      total = E .2 .zeros 0 (omega arith);
       few = omega arith;
-    })
+    }

@@ -11,6 +11,7 @@ use Rattle.spec.specs.Syntax.{Module}
 use Rattle.spec.specs.Refusal.{has-name}
 use Rattle.spec.specs.Edge.{Head, Summary}
 use Rattle.spec.specs.Summary.{Kept, kept-summary, triples, triple-limit, module-summary}
+use Rattle.graph.specs.Cycles.{Zeroed}
 use Rattle.edges.specs.Lines.{summary-at}
 use Rattle.walk.specs.Alike.{Alike}
 use Rattle.summary.specs.declared.State as S
@@ -59,6 +60,10 @@ pub record Keeps (k : List ℕ) (kept : Kept) (busy : List ℕ) : Type 0 where
   pub each : (m : ℕ) → m < 32 → StateIs (state-word k m) k m kept busy
   pub total : total-of k ≡ triples kept
   pub few : triples kept ≤ triple-limit
+
+-- 01, Refused because of the state: the states and then the number of all pairs are 0, and every other word stays
+abbrev pub Emptied : List ℕ → List ℕ → Type 0
+Emptied k k′ = (w : List ℕ) × Zeroed 0 32 k w × Zeroed 96 1 w k′
 
 -- module m is kept, with so many pairs from that number on
 unfoldable pub recorded : List ℕ → ℕ → ℕ → ℕ → List ℕ

@@ -13,8 +13,9 @@ ghost use Rattle.spec.specs.Summary.{Kept, kept-summary, paired};
 ghost use Rattle.runs.specs.Run.{ShowsItem, RunOf};
 ghost use Rattle.graph.specs.Stands.{Stands};
 ghost use Rattle.graph.specs.Reach.{Clean, found};
+ghost use Rattle.graph.specs.Zeros.{ZerosUnless};
 ghost use Rattle.edges.specs.Reads.{KindsOf};
-ghost use Rattle.summary.specs.Keeps.{first-of, count-of, total-of, kept-places, Keeps, Says, recorded, Made};
+ghost use Rattle.summary.specs.Keeps.{first-of, count-of, total-of, kept-places, Keeps, Says, recorded, Made, Emptied};
 ghost use Rattle.summary.specs.Pairs.{Grown, Added, OutputAdded, PortIs, IsName};
 
 // A module that no line asked for yet, one that is being summarised, one whose summary is kept.
@@ -93,6 +94,7 @@ pub fn count(k: &[u32], m: u32) -> usize
 // The module m is in progress from now on.
 pub fn begin(k: &mut [u32], m: u32)
     ensures { λ _. ⌜ ((kept : Kept) (busy : List ℕ) → Keeps (now (k .entry)) kept busy → m < 32 → kept-summary kept m ≡ none → Keeps (now (k .exit)) kept (m ∷ busy)) ⌝ }
+    ensures { λ _. ⌜ now (k .exit) ≡ set (now (k .entry)) m 1 ⌝ }
 {
     put(k, m as usize, 1);
 }
@@ -100,6 +102,7 @@ pub fn begin(k: &mut [u32], m: u32)
 // No summary is kept, and no module is in progress.
 pub fn reset(k: &mut [u32])
     ensures { λ _. ⌜ (kept-places ≤ length (now (k .entry)) → Keeps (now (k .exit)) [] []) ⌝ }
+    ensures { λ _. ⌜ Emptied (now (k .entry)) (now (k .exit)) ⌝ }
 {
     let mut i: usize = 0;
     while i < MODULES {
@@ -185,11 +188,12 @@ fn keep(k: &mut [u32], m: u32, start: u32, count: u32)
 }
 
 // Makes the summary of the module m, which is in progress, from the run s of its items and its graph g, and keeps it: false where that
-// is a triple too many.
+// is a triple too many; the table is emptied then.
 pub fn summarise(s: &[u8], kinds: &[u8], g: &[u32], k: &mut [u32], m: u32) -> bool
     ensures { λ r. ⌜ ((d : ℕ) (M : Module) (heads : List Head) (kept : Kept) (busy : List ℕ)
         → RunOf d (now (s .entry)) (M .items) → KindsOf (now (kinds .entry)) (M .header) → Stands (now (g .entry)) heads → Keeps (now (k .entry)) kept (m ∷ busy) → m < 32
         → Made r (now (k .exit)) m M heads kept busy) ⌝ }
+    ensures { λ r. ⌜ ZerosUnless r (now (k .exit)) ⌝ }
 {
     let start = at(k, TOTAL);
     let mut seen = [0u8; NAMES];
@@ -207,6 +211,7 @@ pub fn summarise(s: &[u8], kinds: &[u8], g: &[u32], k: &mut [u32], m: u32) -> bo
                 }
                 seen[i] = 1;
                 if !add_output(kinds, g, &mut w, k, o) {
+                    graph::clear(k);
                     return false;
                 }
             }

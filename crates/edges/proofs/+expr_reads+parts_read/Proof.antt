@@ -10,6 +10,7 @@ use borrow.Author.Tests.{not-true, not-false}
 use Rattle.consteval.specs.Worth.{names-of}
 use Rattle.lines.proofs.PartLaws.{follows-in}
 use Rattle.edges.specs.Shows.{PartsRead}
+use Rattle.graph.proofs.Zeros.{false-zeros}
 use Rattle.edges.proofs.PartLaws.{expr-atom, expr-name, expr-shut, expr-field, expr-parts, parts-none, parts-stop, parts-more}
 use Prim.Native.Nat.{ℕ, _<_}
 use borrow.Fn.Kinds.{In}
@@ -63,7 +64,7 @@ expr-reads-byte-requires : (t : ℕ) → expr-reads-lts.Need-byte-requires (expr
 expr-reads-byte-requires t c κs = search needs
 
 expr-reads-returns : (t : ℕ) → expr-reads-lts.Need-returns (expr-reads-claims t) (expr-reads-at t) expr-reads.Post
-expr-reads-returns t c = expr-atom (c .before .before .before .before .before .before .args .e .now) (c .before .before .before .before .before .before .args .depth) (c .before .before .before .before .before .before .args .kinds .now) (names-of (c .before .before .before .before .before .before .args .names .now) (c .before .before .before .before .before .before .args .used)) (c .before .before .before .before .before .before .args .g .now) (c .before .before .before .before .before .before .args .from) (λ e. c .if1 .taken (c .before .byte .ensures ∙ e))
+expr-reads-returns t c = (expr-atom (c .before .before .before .before .before .before .args .e .now) (c .before .before .before .before .before .before .args .depth) (c .before .before .before .before .before .before .args .kinds .now) (names-of (c .before .before .before .before .before .before .args .names .now) (c .before .before .before .before .before .before .args .used)) (c .before .before .before .before .before .before .args .g .now) (c .before .before .before .before .before .before .args .from) (λ e. c .if1 .taken (c .before .byte .ensures ∙ e)), tt)
 
 expr-reads-name-of-requires : (t : ℕ) → expr-reads-lts.Need-name-of-requires (expr-reads-claims t) (expr-reads-at t) expr-reads.Post
 expr-reads-name-of-requires t c κs = search needs
@@ -78,7 +79,7 @@ expr-reads-enum-told : (t : ℕ) → expr-reads-lts.Need-enum-told (expr-reads-c
 expr-reads-enum-told t c = search needs
 
 expr-reads-returns-2 : (t : ℕ) → expr-reads-lts.Need-returns-2 (expr-reads-claims t) (expr-reads-at t) expr-reads.Post
-expr-reads-returns-2 t c = expr-shut (c .before .before .before .before .before .before .before .before .before .before .args .e .now) (c .before .before .before .before .before .before .before .before .before .before .args .depth) (c .before .before .before .before .before .before .before .before .before .before .args .kinds .now) (names-of (c .before .before .before .before .before .before .before .before .before .before .args .names .now) (c .before .before .before .before .before .before .before .before .before .before .args .used)) (c .before .before .before .before .before .before .before .before .before .before .args .g .now) (c .before .before .before .before .before .before .before .before .before .before .args .from) (c .before .before .before .name-of .result) (c .before .before .before .name-of .ensures) (sym (c .before .before .before .before .before .byte .ensures) ∙ c .before .before .before .before .if1 .left) (c .before .enum-told .given .1) (c .if2 .taken)
+expr-reads-returns-2 t c = (expr-shut (c .before .before .before .before .before .before .before .before .before .before .args .e .now) (c .before .before .before .before .before .before .before .before .before .before .args .depth) (c .before .before .before .before .before .before .before .before .before .before .args .kinds .now) (names-of (c .before .before .before .before .before .before .before .before .before .before .args .names .now) (c .before .before .before .before .before .before .before .before .before .before .args .used)) (c .before .before .before .before .before .before .before .before .before .before .args .g .now) (c .before .before .before .before .before .before .before .before .before .before .args .from) (c .before .before .before .name-of .result) (c .before .before .before .name-of .ensures) (sym (c .before .before .before .before .before .byte .ensures) ∙ c .before .before .before .before .if1 .left) (c .before .enum-told .given .1) (c .if2 .taken), tt)
 
 expr-reads-byte-requires-2 : (t : ℕ) → expr-reads-lts.Need-byte-requires-2 (expr-reads-claims t) (expr-reads-at t) expr-reads.Post
 expr-reads-byte-requires-2 t c κs = search needs
@@ -93,7 +94,7 @@ expr-reads-same-length : (t : ℕ) → expr-reads-lts.Need-same-length (expr-rea
 expr-reads-same-length t c = search needs
 
 expr-reads-returns-3 : (t : ℕ) → expr-reads-lts.Need-returns-3 (expr-reads-claims t) (expr-reads-at t) expr-reads.Post
-expr-reads-returns-3 t c = expr-field (c .before .before .before .before .before .before .before .before .before .before .before .before .before .before .before .before .args .e .now) (c .before .before .before .before .before .before .before .before .before .before .before .before .before .before .before .before .args .depth) (c .before .before .before .before .before .before .before .before .before .before .before .before .before .before .before .before .args .kinds .now) (names-of (c .before .before .before .before .before .before .before .before .before .before .before .before .before .before .before .before .args .names .now) (c .before .before .before .before .before .before .before .before .before .before .before .before .before .before .before .before .args .used)) (c .before .before .before .before .before .before .before .before .before .before .before .before .before .before .before .before .args .g .now) (c .before .before .before .before .before .before .before .before .before .before .before .before .before .before .before .before .args .from) (c .before .before .before .before .before .before .before .before .before .name-of .result) (c .before .before .before .before .before .before .before .before .before .name-of .ensures) (sym (c .before .before .before .before .before .before .before .before .before .before .before .byte .ensures) ∙ c .before .before .before .before .before .before .before .before .before .before .if1 .left) (c .before .before .before .before .before .before .before .enum-told .given .1) (sym (c .before .before .before .before .before .byte2 .ensures) ∙ c .before .before .before .before .if3 .taken) (c .before .before .field-form .result) _ (c .before .before .field-form .ensures)
+expr-reads-returns-3 t c = (expr-field (c .before .before .before .before .before .before .before .before .before .before .before .before .before .before .before .before .args .e .now) (c .before .before .before .before .before .before .before .before .before .before .before .before .before .before .before .before .args .depth) (c .before .before .before .before .before .before .before .before .before .before .before .before .before .before .before .before .args .kinds .now) (names-of (c .before .before .before .before .before .before .before .before .before .before .before .before .before .before .before .before .args .names .now) (c .before .before .before .before .before .before .before .before .before .before .before .before .before .before .before .before .args .used)) (c .before .before .before .before .before .before .before .before .before .before .before .before .before .before .before .before .args .g .now) (c .before .before .before .before .before .before .before .before .before .before .before .before .before .before .before .before .args .from) (c .before .before .before .before .before .before .before .before .before .name-of .result) (c .before .before .before .before .before .before .before .before .before .name-of .ensures) (sym (c .before .before .before .before .before .before .before .before .before .before .before .byte .ensures) ∙ c .before .before .before .before .before .before .before .before .before .before .if1 .left) (c .before .before .before .before .before .before .before .enum-told .given .1) (sym (c .before .before .before .before .before .byte2 .ensures) ∙ c .before .before .before .before .if3 .taken) (c .before .before .field-form .result) _ (c .before .before .field-form .ensures .0), c .before .before .field-form .ensures .1)
 
 expr-reads-part-end-requires : (t : ℕ) → expr-reads-lts.Need-part-end-requires (expr-reads-claims t) (expr-reads-at t) expr-reads.Post
 expr-reads-part-end-requires t c κs = search needs
@@ -108,13 +109,13 @@ expr-reads-same-length-2 : (t : ℕ) → expr-reads-lts.Need-same-length-2 (expr
 expr-reads-same-length-2 t c = search needs
 
 expr-reads-returns-4 : (t : ℕ) → expr-reads-lts.Need-returns-4 (expr-reads-claims t) (expr-reads-at t) expr-reads.Post
-expr-reads-returns-4 t c = expr-name (c .before .before .before .before .before .before .before .before .before .before .before .before .before .before .args .e .now) (c .before .before .before .before .before .before .before .before .before .before .before .before .before .before .args .depth) (c .before .before .before .before .before .before .before .before .before .before .before .before .before .before .args .kinds .now) (names-of (c .before .before .before .before .before .before .before .before .before .before .before .before .before .before .args .names .now) (c .before .before .before .before .before .before .before .before .before .before .before .before .before .before .args .used)) (c .before .before .before .before .before .before .before .before .before .before .before .before .before .before .args .g .now) (c .before .before .before .before .before .before .before .before .before .before .before .before .before .before .args .from) (c .before .before .before .before .before .before .before .name-of .result) (c .before .before .before .before .before .before .before .name-of .ensures) (c .before .before .before .before .before .n .given .1) (c .before .before .name-read .result) _ (c .before .before .name-read .ensures)
+expr-reads-returns-4 t c = (expr-name (c .before .before .before .before .before .before .before .before .before .before .before .before .before .before .args .e .now) (c .before .before .before .before .before .before .before .before .before .before .before .before .before .before .args .depth) (c .before .before .before .before .before .before .before .before .before .before .before .before .before .before .args .kinds .now) (names-of (c .before .before .before .before .before .before .before .before .before .before .before .before .before .before .args .names .now) (c .before .before .before .before .before .before .before .before .before .before .before .before .before .before .args .used)) (c .before .before .before .before .before .before .before .before .before .before .before .before .before .before .args .g .now) (c .before .before .before .before .before .before .before .before .before .before .before .before .before .before .args .from) (c .before .before .before .before .before .before .before .name-of .result) (c .before .before .before .before .before .before .before .name-of .ensures) (c .before .before .before .before .before .n .given .1) (c .before .before .name-read .result) _ (c .before .before .name-read .ensures .0), c .before .before .name-read .ensures .1)
 
 expr-reads-same-length-3 : (t : ℕ) → expr-reads-lts.Need-same-length-3 (expr-reads-claims t) (expr-reads-at t) expr-reads.Post
 expr-reads-same-length-3 t c = search needs
 
 expr-reads-returns-5 : (t : ℕ) → expr-reads-lts.Need-returns-5 (expr-reads-claims t) (expr-reads-at t) expr-reads.Post
-expr-reads-returns-5 t c = expr-parts (c .before .before .before .before .before .before .before .before .before .before .before .before .before .before .before .before .before .args .e .now) (c .before .before .before .before .before .before .before .before .before .before .before .before .before .before .before .before .before .args .depth) (c .before .before .before .before .before .before .before .before .before .before .before .before .before .before .before .before .before .args .kinds .now) (names-of (c .before .before .before .before .before .before .before .before .before .before .before .before .before .before .before .before .before .args .names .now) (c .before .before .before .before .before .before .before .before .before .before .before .before .before .before .before .before .before .args .used)) (c .before .before .before .before .before .before .before .before .before .before .before .before .before .before .before .before .before .args .g .now) (c .before .before .before .before .before .before .before .before .before .before .before .before .before .before .before .before .before .args .from) (c .before .before .before .before .before .before .before .before .before .before .name-of .result) (c .before .before .before .before .before .before .before .before .before .before .name-of .ensures) (sym (c .before .before .before .before .before .before .before .before .before .before .before .before .byte .ensures) ∙ c .before .before .before .before .before .before .before .before .before .before .before .if1 .left) (c .before .before .before .before .before .before .before .before .enum-told .given .1) (λ e. c .before .before .before .before .before .if3 .left (c .before .before .before .before .before .before .byte2 .ensures ∙ e)) (c .before .before .before .before .part-end .ensures) (c .before .before .parts-read .result) _ (c .before .before .parts-read .ensures)
+expr-reads-returns-5 t c = (expr-parts (c .before .before .before .before .before .before .before .before .before .before .before .before .before .before .before .before .before .args .e .now) (c .before .before .before .before .before .before .before .before .before .before .before .before .before .before .before .before .before .args .depth) (c .before .before .before .before .before .before .before .before .before .before .before .before .before .before .before .before .before .args .kinds .now) (names-of (c .before .before .before .before .before .before .before .before .before .before .before .before .before .before .before .before .before .args .names .now) (c .before .before .before .before .before .before .before .before .before .before .before .before .before .before .before .before .before .args .used)) (c .before .before .before .before .before .before .before .before .before .before .before .before .before .before .before .before .before .args .g .now) (c .before .before .before .before .before .before .before .before .before .before .before .before .before .before .before .before .before .args .from) (c .before .before .before .before .before .before .before .before .before .before .name-of .result) (c .before .before .before .before .before .before .before .before .before .before .name-of .ensures) (sym (c .before .before .before .before .before .before .before .before .before .before .before .before .byte .ensures) ∙ c .before .before .before .before .before .before .before .before .before .before .before .if1 .left) (c .before .before .before .before .before .before .before .before .enum-told .given .1) (λ e. c .before .before .before .before .before .if3 .left (c .before .before .before .before .before .before .byte2 .ensures ∙ e)) (c .before .before .before .before .part-end .ensures) (c .before .before .parts-read .result) _ (c .before .before .parts-read .ensures .0), c .before .before .parts-read .ensures .1)
 
 abbrev parts-read-Inv-loop : parts-read-lts.InvT-loop
 parts-read-Inv-loop e end depth kinds names used g₀ from a₀ g a = (length g ≡ length g₀) × ((r : Bool) (g′ : List ℕ) → PartsRead r (drop a e) depth kinds (names-of names used) g g′ from → PartsRead r (drop end e) depth kinds (names-of names used) g₀ g′ from)
@@ -144,19 +145,19 @@ parts-read-same-length : (t : ℕ) → parts-read-lts.Need-same-length (parts-re
 parts-read-same-length t c = search needs
 
 parts-read-returns : (t : ℕ) → parts-read-lts.Need-returns (parts-read-claims t) (parts-read-at t) parts-read.Post parts-read-Inv-loop parts-read-μ-loop
-parts-read-returns t c = c .before .before .before .before .before .before .before .before .before .loop .inv .1 false (c .before .before .before .expr-reads .last .1 .1 .1 .1 .1 .0) (parts-stop (c .before .before .before .before .before .before .before .before .before .before .before .before .before .before .args .e .now) (c .before .before .before .before .before .before .before .before .before .loop .a) (c .before .before .before .before .before .before .before .before .before .before .before .before .before .before .args .depth) (c .before .before .before .before .before .before .before .before .before .before .before .before .before .before .args .kinds .now) (names-of (c .before .before .before .before .before .before .before .before .before .before .before .before .before .before .args .names .now) (c .before .before .before .before .before .before .before .before .before .before .before .before .before .before .args .used)) (c .before .before .before .before .before .before .before .before .before .before .before .before .before .before .args .from) (sym (c .before .before .before .before .before .before .before .before .more .ensures) ∙ c .before .before .before .before .before .before .before .if1 .taken) (c .before .before .before .before .before .before .part-end .ensures) (c .before .before .before .before .before .between .ensures) (c .before .before .before .before .before .before .before .before .before .loop .g) (c .before .before .before .expr-reads .last .1 .1 .1 .1 .1 .0) (c .before .before .before .expr-reads .result) (not-true _ (c .if2 .taken)) (c .before .before .before .expr-reads .ensures))
+parts-read-returns t c = (c .before .before .before .before .before .before .before .before .before .loop .inv .1 false (c .before .before .before .expr-reads .last .1 .1 .1 .1 .1 .0) (parts-stop (c .before .before .before .before .before .before .before .before .before .before .before .before .before .before .args .e .now) (c .before .before .before .before .before .before .before .before .before .loop .a) (c .before .before .before .before .before .before .before .before .before .before .before .before .before .before .args .depth) (c .before .before .before .before .before .before .before .before .before .before .before .before .before .before .args .kinds .now) (names-of (c .before .before .before .before .before .before .before .before .before .before .before .before .before .before .args .names .now) (c .before .before .before .before .before .before .before .before .before .before .before .before .before .before .args .used)) (c .before .before .before .before .before .before .before .before .before .before .before .before .before .before .args .from) (sym (c .before .before .before .before .before .before .before .before .more .ensures) ∙ c .before .before .before .before .before .before .before .if1 .taken) (c .before .before .before .before .before .before .part-end .ensures) (c .before .before .before .before .before .between .ensures) (c .before .before .before .before .before .before .before .before .before .loop .g) (c .before .before .before .expr-reads .last .1 .1 .1 .1 .1 .0) (c .before .before .before .expr-reads .result) (not-true _ (c .if2 .taken)) (c .before .before .before .expr-reads .ensures .0)), false-zeros (c .before .before .before .expr-reads .result) _ (not-true _ (c .if2 .taken)) (c .before .before .before .expr-reads .ensures .1))
 
 parts-read-loop-less : (t : ℕ) → parts-read-lts.Need-loop-less (parts-read-claims t) (parts-read-at t) parts-read.Post parts-read-Inv-loop parts-read-μ-loop
 parts-read-loop-less t c = omega (arith, follows-in (c .before .before .before .before .before .before .before .before .before .before .before .before .before .before .args .e .now) (c .before .before .before .before .before .before .before .before .before .loop .a) (sym (c .before .before .before .before .before .before .before .before .more .ensures) ∙ c .before .before .before .before .before .before .before .if1 .taken), c .before .before .before .before .before .before .part-end .ensures)
 
 parts-read-loop-again : (t : ℕ) → parts-read-lts.Need-loop-again (parts-read-claims t) (parts-read-at t) parts-read.Post parts-read-Inv-loop parts-read-μ-loop
-parts-read-loop-again t c = (c .before .before .before .expr-reads .kept .1 .1 .1 .1 .1 .0 ∙ c .before .before .before .before .before .before .before .before .before .loop .inv .0, λ r g′ h. c .before .before .before .before .before .before .before .before .before .loop .inv .1 r g′ (parts-more (c .before .before .before .before .before .before .before .before .before .before .before .before .before .before .args .e .now) (c .before .before .before .before .before .before .before .before .before .loop .a) (c .before .before .before .before .before .before .before .before .before .before .before .before .before .before .args .depth) (c .before .before .before .before .before .before .before .before .before .before .before .before .before .before .args .kinds .now) (names-of (c .before .before .before .before .before .before .before .before .before .before .before .before .before .before .args .names .now) (c .before .before .before .before .before .before .before .before .before .before .before .before .before .before .args .used)) (c .before .before .before .before .before .before .before .before .before .before .before .before .before .before .args .from) (sym (c .before .before .before .before .before .before .before .before .more .ensures) ∙ c .before .before .before .before .before .before .before .if1 .taken) (c .before .before .before .before .before .before .part-end .ensures) (c .before .before .before .before .before .between .ensures) (c .before .before .before .before .before .before .before .before .before .loop .g) (c .before .before .before .expr-reads .last .1 .1 .1 .1 .1 .0) (c .before .before .before .expr-reads .result) (not-false _ (c .if2 .left)) (c .before .before .before .expr-reads .ensures) r g′ h))
+parts-read-loop-again t c = (c .before .before .before .expr-reads .kept .1 .1 .1 .1 .1 .0 ∙ c .before .before .before .before .before .before .before .before .before .loop .inv .0, λ r g′ h. c .before .before .before .before .before .before .before .before .before .loop .inv .1 r g′ (parts-more (c .before .before .before .before .before .before .before .before .before .before .before .before .before .before .args .e .now) (c .before .before .before .before .before .before .before .before .before .loop .a) (c .before .before .before .before .before .before .before .before .before .before .before .before .before .before .args .depth) (c .before .before .before .before .before .before .before .before .before .before .before .before .before .before .args .kinds .now) (names-of (c .before .before .before .before .before .before .before .before .before .before .before .before .before .before .args .names .now) (c .before .before .before .before .before .before .before .before .before .before .before .before .before .before .args .used)) (c .before .before .before .before .before .before .before .before .before .before .before .before .before .before .args .from) (sym (c .before .before .before .before .before .before .before .before .more .ensures) ∙ c .before .before .before .before .before .before .before .if1 .taken) (c .before .before .before .before .before .before .part-end .ensures) (c .before .before .before .before .before .between .ensures) (c .before .before .before .before .before .before .before .before .before .loop .g) (c .before .before .before .expr-reads .last .1 .1 .1 .1 .1 .0) (c .before .before .before .expr-reads .result) (not-false _ (c .if2 .left)) (c .before .before .before .expr-reads .ensures .0) r g′ h))
 
 parts-read-same-length-2 : (t : ℕ) → parts-read-lts.Need-same-length-2 (parts-read-claims t) (parts-read-at t) parts-read.Post parts-read-Inv-loop parts-read-μ-loop
 parts-read-same-length-2 t c = search needs
 
 parts-read-returns-2 : (t : ℕ) → parts-read-lts.Need-returns-2 (parts-read-claims t) (parts-read-at t) parts-read.Post parts-read-Inv-loop parts-read-μ-loop
-parts-read-returns-2 t c = c .before .before .loop .inv .1 true (c .before .before .loop .g) (parts-none (c .before .before .before .before .before .before .before .args .e .now) (c .before .before .loop .a) (c .before .before .before .before .before .before .before .args .depth) (c .before .before .before .before .before .before .before .args .kinds .now) (names-of (c .before .before .before .before .before .before .before .args .names .now) (c .before .before .before .before .before .before .before .args .used)) (c .before .before .before .before .before .before .before .args .from) (c .before .before .loop .g) (sym (c .before .more .ensures) ∙ c .if1 .left))
+parts-read-returns-2 t c = (c .before .before .loop .inv .1 true (c .before .before .loop .g) (parts-none (c .before .before .before .before .before .before .before .args .e .now) (c .before .before .loop .a) (c .before .before .before .before .before .before .before .args .depth) (c .before .before .before .before .before .before .before .args .kinds .now) (names-of (c .before .before .before .before .before .before .before .args .names .now) (c .before .before .before .before .before .before .before .args .used)) (c .before .before .before .before .before .before .before .args .from) (c .before .before .loop .g) (sym (c .before .more .ensures) ∙ c .if1 .left)), tt)
 
 pub +expr-reads+parts-read-spec : {M : Type 1} → statement M
 +expr-reads+parts-read-spec = close μ-expr-reads μ-parts-read (λ t. expr-reads-lts.spec (expr-reads-claims t)

@@ -10,6 +10,7 @@ use borrow.Author.Tests.{not-true, not-false}
 use Rattle.consteval.specs.Worth.{names-of}
 use Rattle.lines.proofs.PartLaws.{follows-in}
 use Rattle.edges.specs.Lines.{summary-at, ConnsRead}
+use Rattle.graph.proofs.Zeros.{false-zeros}
 use Rattle.edges.proofs.OutputLaws.{conns-none, conns-stop, conns-more}
 use Rattle.edges.proofs.conns_read.Statement.{statement}
 use Rattle.edges.proofs.conns_read.Tie as tie
@@ -42,19 +43,19 @@ same-length : tie.Need-same-length Inv-loop μ-loop
 same-length c = search needs
 
 returns : tie.Need-returns Inv-loop μ-loop
-returns c = c .before .before .before .before .before .before .before .before .before .loop .inv .1 false (c .before .before .before .conn-read .last .1 .1 .1 .1 .1 .1 .1 .1 .1 .0) (conns-stop (c .before .before .before .before .before .before .before .before .before .before .before .before .before .before .before .args .o) (summary-at (c .before .before .before .before .before .before .before .before .before .before .before .before .before .before .before .args .w .now) (c .before .before .before .before .before .before .before .before .before .before .before .before .before .before .before .args .first) (c .before .before .before .before .before .before .before .before .before .before .before .before .before .before .before .args .count)) (c .before .before .before .before .before .before .before .before .before .before .before .before .before .before .before .args .x .now) (c .before .before .before .before .before .before .before .before .before .loop .a) (c .before .before .before .before .before .before .before .before .before .before .before .before .before .before .before .args .depth) (c .before .before .before .before .before .before .before .before .before .before .before .before .before .before .before .args .kinds .now) (names-of (c .before .before .before .before .before .before .before .before .before .before .before .before .before .before .before .args .names .now) (c .before .before .before .before .before .before .before .before .before .before .before .before .before .before .before .args .used)) (c .before .before .before .before .before .before .before .before .before .before .before .before .before .before .before .args .from) (sym (c .before .before .before .before .before .before .before .before .more .ensures) ∙ c .before .before .before .before .before .before .before .if1 .taken) (c .before .before .before .before .before .before .part-end .ensures) (c .before .before .before .before .before .between .ensures) (c .before .before .before .before .before .before .before .before .before .loop .g) (c .before .before .before .conn-read .last .1 .1 .1 .1 .1 .1 .1 .1 .1 .0) (c .before .before .before .conn-read .result) (not-true _ (c .if2 .taken)) (c .before .before .before .conn-read .ensures))
+returns c = (c .before .before .before .before .before .before .before .before .before .loop .inv .1 false (c .before .before .before .conn-read .last .1 .1 .1 .1 .1 .1 .1 .1 .1 .0) (conns-stop (c .before .before .before .before .before .before .before .before .before .before .before .before .before .before .before .args .o) (summary-at (c .before .before .before .before .before .before .before .before .before .before .before .before .before .before .before .args .w .now) (c .before .before .before .before .before .before .before .before .before .before .before .before .before .before .before .args .first) (c .before .before .before .before .before .before .before .before .before .before .before .before .before .before .before .args .count)) (c .before .before .before .before .before .before .before .before .before .before .before .before .before .before .before .args .x .now) (c .before .before .before .before .before .before .before .before .before .loop .a) (c .before .before .before .before .before .before .before .before .before .before .before .before .before .before .before .args .depth) (c .before .before .before .before .before .before .before .before .before .before .before .before .before .before .before .args .kinds .now) (names-of (c .before .before .before .before .before .before .before .before .before .before .before .before .before .before .before .args .names .now) (c .before .before .before .before .before .before .before .before .before .before .before .before .before .before .before .args .used)) (c .before .before .before .before .before .before .before .before .before .before .before .before .before .before .before .args .from) (sym (c .before .before .before .before .before .before .before .before .more .ensures) ∙ c .before .before .before .before .before .before .before .if1 .taken) (c .before .before .before .before .before .before .part-end .ensures) (c .before .before .before .before .before .between .ensures) (c .before .before .before .before .before .before .before .before .before .loop .g) (c .before .before .before .conn-read .last .1 .1 .1 .1 .1 .1 .1 .1 .1 .0) (c .before .before .before .conn-read .result) (not-true _ (c .if2 .taken)) (c .before .before .before .conn-read .ensures .0)), false-zeros (c .before .before .before .conn-read .result) _ (not-true _ (c .if2 .taken)) (c .before .before .before .conn-read .ensures .1))
 
 loop-less : tie.Need-loop-less Inv-loop μ-loop
 loop-less c = omega (arith, follows-in (c .before .before .before .before .before .before .before .before .before .before .before .before .before .before .before .args .x .now) (c .before .before .before .before .before .before .before .before .before .loop .a) (sym (c .before .before .before .before .before .before .before .before .more .ensures) ∙ c .before .before .before .before .before .before .before .if1 .taken), c .before .before .before .before .before .before .part-end .ensures)
 
 loop-again : tie.Need-loop-again Inv-loop μ-loop
-loop-again c = (c .before .before .before .conn-read .kept .1 .1 .1 .1 .1 .1 .1 .1 .1 .0 ∙ c .before .before .before .before .before .before .before .before .before .loop .inv .0, λ r g′ h. c .before .before .before .before .before .before .before .before .before .loop .inv .1 r g′ (conns-more (c .before .before .before .before .before .before .before .before .before .before .before .before .before .before .before .args .o) (summary-at (c .before .before .before .before .before .before .before .before .before .before .before .before .before .before .before .args .w .now) (c .before .before .before .before .before .before .before .before .before .before .before .before .before .before .before .args .first) (c .before .before .before .before .before .before .before .before .before .before .before .before .before .before .before .args .count)) (c .before .before .before .before .before .before .before .before .before .before .before .before .before .before .before .args .x .now) (c .before .before .before .before .before .before .before .before .before .loop .a) (c .before .before .before .before .before .before .before .before .before .before .before .before .before .before .before .args .depth) (c .before .before .before .before .before .before .before .before .before .before .before .before .before .before .before .args .kinds .now) (names-of (c .before .before .before .before .before .before .before .before .before .before .before .before .before .before .before .args .names .now) (c .before .before .before .before .before .before .before .before .before .before .before .before .before .before .before .args .used)) (c .before .before .before .before .before .before .before .before .before .before .before .before .before .before .before .args .from) (sym (c .before .before .before .before .before .before .before .before .more .ensures) ∙ c .before .before .before .before .before .before .before .if1 .taken) (c .before .before .before .before .before .before .part-end .ensures) (c .before .before .before .before .before .between .ensures) (c .before .before .before .before .before .before .before .before .before .loop .g) (c .before .before .before .conn-read .last .1 .1 .1 .1 .1 .1 .1 .1 .1 .0) (c .before .before .before .conn-read .result) (not-false _ (c .if2 .left)) (c .before .before .before .conn-read .ensures) r g′ h))
+loop-again c = (c .before .before .before .conn-read .kept .1 .1 .1 .1 .1 .1 .1 .1 .1 .0 ∙ c .before .before .before .before .before .before .before .before .before .loop .inv .0, λ r g′ h. c .before .before .before .before .before .before .before .before .before .loop .inv .1 r g′ (conns-more (c .before .before .before .before .before .before .before .before .before .before .before .before .before .before .before .args .o) (summary-at (c .before .before .before .before .before .before .before .before .before .before .before .before .before .before .before .args .w .now) (c .before .before .before .before .before .before .before .before .before .before .before .before .before .before .before .args .first) (c .before .before .before .before .before .before .before .before .before .before .before .before .before .before .before .args .count)) (c .before .before .before .before .before .before .before .before .before .before .before .before .before .before .before .args .x .now) (c .before .before .before .before .before .before .before .before .before .loop .a) (c .before .before .before .before .before .before .before .before .before .before .before .before .before .before .before .args .depth) (c .before .before .before .before .before .before .before .before .before .before .before .before .before .before .before .args .kinds .now) (names-of (c .before .before .before .before .before .before .before .before .before .before .before .before .before .before .before .args .names .now) (c .before .before .before .before .before .before .before .before .before .before .before .before .before .before .before .args .used)) (c .before .before .before .before .before .before .before .before .before .before .before .before .before .before .before .args .from) (sym (c .before .before .before .before .before .before .before .before .more .ensures) ∙ c .before .before .before .before .before .before .before .if1 .taken) (c .before .before .before .before .before .before .part-end .ensures) (c .before .before .before .before .before .between .ensures) (c .before .before .before .before .before .before .before .before .before .loop .g) (c .before .before .before .conn-read .last .1 .1 .1 .1 .1 .1 .1 .1 .1 .0) (c .before .before .before .conn-read .result) (not-false _ (c .if2 .left)) (c .before .before .before .conn-read .ensures .0) r g′ h))
 
 same-length-2 : tie.Need-same-length-2 Inv-loop μ-loop
 same-length-2 c = search needs
 
 returns-2 : tie.Need-returns-2 Inv-loop μ-loop
-returns-2 c = c .before .before .loop .inv .1 true (c .before .before .loop .g) (conns-none (c .before .before .before .before .before .before .before .before .args .o) (summary-at (c .before .before .before .before .before .before .before .before .args .w .now) (c .before .before .before .before .before .before .before .before .args .first) (c .before .before .before .before .before .before .before .before .args .count)) (c .before .before .before .before .before .before .before .before .args .x .now) (c .before .before .loop .a) (c .before .before .before .before .before .before .before .before .args .depth) (c .before .before .before .before .before .before .before .before .args .kinds .now) (names-of (c .before .before .before .before .before .before .before .before .args .names .now) (c .before .before .before .before .before .before .before .before .args .used)) (c .before .before .before .before .before .before .before .before .args .from) (c .before .before .loop .g) (sym (c .before .more .ensures) ∙ c .if1 .left))
+returns-2 c = (c .before .before .loop .inv .1 true (c .before .before .loop .g) (conns-none (c .before .before .before .before .before .before .before .before .args .o) (summary-at (c .before .before .before .before .before .before .before .before .args .w .now) (c .before .before .before .before .before .before .before .before .args .first) (c .before .before .before .before .before .before .before .before .args .count)) (c .before .before .before .before .before .before .before .before .args .x .now) (c .before .before .loop .a) (c .before .before .before .before .before .before .before .before .args .depth) (c .before .before .before .before .before .before .before .before .args .kinds .now) (names-of (c .before .before .before .before .before .before .before .before .args .names .now) (c .before .before .before .before .before .before .before .before .args .used)) (c .before .before .before .before .before .before .before .before .args .from) (c .before .before .loop .g) (sym (c .before .more .ensures) ∙ c .if1 .left)), tt)
 
 pub conns-read-spec : {M : Type 1} → statement M
 conns-read-spec =

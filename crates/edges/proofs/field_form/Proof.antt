@@ -24,7 +24,7 @@ same-length : tie.Need-same-length
 same-length c = search needs
 
 returns : tie.Need-returns
-returns c = field-form (c .before .before .before .before .before .before .before .before .before .before .before .before .args .e .now) (c .before .before .before .before .before .before .before .before .before .before .before .before .args .depth) (c .before .before .before .before .before .before .before .before .before .before .before .before .args .kinds .now) (names-of (c .before .before .before .before .before .before .before .before .before .before .before .before .args .names .now) (c .before .before .before .before .before .before .before .before .before .before .before .before .args .used)) (c .before .before .before .before .before .before .before .before .before .before .before .before .args .g .now) (c .before .before .before .before .before .before .before .before .before .before .before .before .args .from) (c .before .before .before .before .before .before .before .next-end .ensures) (c .before .before .before .before .before .before .next-end2 .ensures) (c .before .before .before .before .before .number-at .ensures) (c .before .before .before .before .between .ensures) (c .before .before .field-read .result) _ (c .before .before .field-read .ensures)
+returns c = (field-form (c .before .before .before .before .before .before .before .before .before .before .before .before .args .e .now) (c .before .before .before .before .before .before .before .before .before .before .before .before .args .depth) (c .before .before .before .before .before .before .before .before .before .before .before .before .args .kinds .now) (names-of (c .before .before .before .before .before .before .before .before .before .before .before .before .args .names .now) (c .before .before .before .before .before .before .before .before .before .before .before .before .args .used)) (c .before .before .before .before .before .before .before .before .before .before .before .before .args .g .now) (c .before .before .before .before .before .before .before .before .before .before .before .before .args .from) (c .before .before .before .before .before .before .before .next-end .ensures) (c .before .before .before .before .before .before .next-end2 .ensures) (c .before .before .before .before .before .number-at .ensures) (c .before .before .before .before .between .ensures) (c .before .before .field-read .result) _ (c .before .before .field-read .ensures .0), c .before .before .field-read .ensures .1)
 
 pub field-form-spec : {M : Type 1} → statement M
 field-form-spec =

@@ -1,4 +1,7 @@
 -- `index_read` meets its contract, one law for each way. Assumes nothing.
+use Rattle.graph.proofs.Zeros.{full-zeros}
+use Rattle.graph.proofs.Zeros.{zeros-of}
+use lib.ListN.{length}
 use Rattle.edges.proofs.InstLaws.{inst-not, index-missing, index-outside, index-at, index-full}
 use borrow.Author.Needs.{needs}
 use Rattle.edges.proofs.index_read.Statement.{statement}
@@ -8,7 +11,7 @@ byte-requires : tie.Need-byte-requires
 byte-requires c κs = search needs
 
 returns : tie.Need-returns
-returns c = inst-not (c .before .before .before .before .before .before .args .kinds .now) (c .before .before .before .before .before .before .args .i) (c .before .before .before .before .before .before .args .g .now) (c .before .before .before .before .before .before .args .from) (c .before .byte .ensures) _ (c .if1 .taken)
+returns c = (inst-not (c .before .before .before .before .before .before .args .kinds .now) (c .before .before .before .before .before .before .args .i) (c .before .before .before .before .before .before .args .g .now) (c .before .before .before .before .before .before .args .from) (c .before .byte .ensures) _ (c .if1 .taken), tt)
 
 eval-requires : tie.Need-eval-requires
 eval-requires c κs = search needs
@@ -31,23 +34,29 @@ enum-told-3 c = search needs
 enum-told-4 : tie.Need-enum-told-4
 enum-told-4 c = search needs
 
+clear-requires : tie.Need-clear-requires
+clear-requires c κs = search needs
+
 same-length : tie.Need-same-length
 same-length c = search needs
 
 returns-2 : tie.Need-returns-2
-returns-2 c = index-at (c .before .before .before .before .before .before .before .before .before .before .before .before .before .before .before .before .args .kinds .now) (c .before .before .before .before .before .before .before .before .before .before .before .before .before .before .before .before .args .i) (c .before .before .before .before .before .before .before .before .before .before .before .before .before .before .before .before .args .g .now) (c .before .before .before .before .before .before .before .before .before .before .before .before .before .before .before .before .args .from) (c .before .before .before .before .before .before .before .before .before .before .before .byte .ensures) (c .before .before .before .before .before .before .before .before .before .before .if1 .left) (c .before .before .before .before .before .before .before .before .before .before .before .before .before .before .before .before .args .p) (c .before .before .before .before .before .before .before .before .before .eval .ensures) (c .before .before .before .before .before .before .before .v .given .1) (c .before .before .before .before .read .result) _ (c .before .before .before .before .read .ensures) (c .enum-told .given .1)
+returns-2 c = (index-at (c .before .before .before .before .before .before .before .before .before .before .before .before .before .before .before .before .args .kinds .now) (c .before .before .before .before .before .before .before .before .before .before .before .before .before .before .before .before .args .i) (c .before .before .before .before .before .before .before .before .before .before .before .before .before .before .before .before .args .g .now) (c .before .before .before .before .before .before .before .before .before .before .before .before .before .before .before .before .args .from) (c .before .before .before .before .before .before .before .before .before .before .before .byte .ensures) (c .before .before .before .before .before .before .before .before .before .before .if1 .left) (c .before .before .before .before .before .before .before .before .before .before .before .before .before .before .before .before .args .p) (c .before .before .before .before .before .before .before .before .before .eval .ensures) (c .before .before .before .before .before .before .before .v .given .1) (c .before .before .before .before .read .result) _ (c .before .before .before .before .read .ensures .0) (c .enum-told .given .1), tt)
 
 same-length-2 : tie.Need-same-length-2
 same-length-2 c = search needs
 
 returns-3 : tie.Need-returns-3
-returns-3 c = index-full (c .before .before .before .before .before .before .before .before .before .before .before .before .before .before .before .before .args .kinds .now) (c .before .before .before .before .before .before .before .before .before .before .before .before .before .before .before .before .args .i) (c .before .before .before .before .before .before .before .before .before .before .before .before .before .before .before .before .args .g .now) (c .before .before .before .before .before .before .before .before .before .before .before .before .before .before .before .before .args .from) (c .before .before .before .before .before .before .before .before .before .before .before .byte .ensures) (c .before .before .before .before .before .before .before .before .before .before .if1 .left) (c .before .before .before .before .before .before .before .before .before .before .before .before .before .before .before .before .args .p) (c .before .before .before .before .before .before .before .before .before .eval .ensures) (c .before .before .before .before .before .before .before .v .given .1) (c .before .before .before .before .read .result) _ (c .before .before .before .before .read .ensures) (c .enum-told2 .given .1)
+returns-3 c = (index-full (c .before .before .before .before .before .before .before .before .before .before .before .before .before .before .before .before .args .kinds .now) (c .before .before .before .before .before .before .before .before .before .before .before .before .before .before .before .before .args .i) (c .before .before .before .before .before .before .before .before .before .before .before .before .before .before .before .before .args .g .now) (c .before .before .before .before .before .before .before .before .before .before .before .before .before .before .before .before .args .from) (c .before .before .before .before .before .before .before .before .before .before .before .byte .ensures) (c .before .before .before .before .before .before .before .before .before .before .if1 .left) (c .before .before .before .before .before .before .before .before .before .before .before .before .before .before .before .before .args .p) (c .before .before .before .before .before .before .before .before .before .eval .ensures) (c .before .before .before .before .before .before .before .v .given .1) (c .before .before .before .before .read .result) _ (c .before .before .before .before .read .ensures .0) (c .enum-told2 .given .1), full-zeros (c .before .before .before .before .read .result) _ (c .enum-told2 .given .1) (c .before .before .before .before .read .ensures .1))
 
 returns-4 : tie.Need-returns-4
-returns-4 c = index-missing (c .before .before .before .before .before .before .before .before .before .args .kinds .now) (c .before .before .before .before .before .before .before .before .before .args .i) (c .before .before .before .before .before .before .before .before .before .args .g .now) (c .before .before .before .before .before .before .before .before .before .args .from) (c .before .before .before .before .byte .ensures) (c .before .before .before .if1 .left) (c .before .before .before .before .before .before .before .before .before .args .p) (c .before .before .eval .ensures) (c .enum-told3 .given .1)
+returns-4 c = (index-missing (c .before .before .before .before .before .before .before .before .before .args .kinds .now) (c .before .before .before .before .before .before .before .before .before .args .i) (c .before .before .before .before .before .before .before .before .before .args .g .now) (c .before .before .before .before .before .before .before .before .before .args .from) (c .before .before .before .before .byte .ensures) (c .before .before .before .if1 .left) (c .before .before .before .before .before .before .before .before .before .args .p) (c .before .before .eval .ensures) (c .enum-told3 .given .1), tt)
+
+same-length-3 : tie.Need-same-length-3
+same-length-3 c = search needs
 
 returns-5 : tie.Need-returns-5
-returns-5 c = index-outside (c .before .before .before .before .before .before .before .before .before .args .kinds .now) (c .before .before .before .before .before .before .before .before .before .args .i) (c .before .before .before .before .before .before .before .before .before .args .g .now) (c .before .before .before .before .before .before .before .before .before .args .from) (c .before .before .before .before .byte .ensures) (c .before .before .before .if1 .left) (c .before .before .before .before .before .before .before .before .before .args .p) (c .before .before .eval .ensures) (c .enum-told4 .given .1)
+returns-5 c = (index-outside (c .before .before .before .before .before .before .before .before .before .before .before .before .before .args .kinds .now) (c .before .before .before .before .before .before .before .before .before .before .before .before .before .args .i) (c .before .before .before .before .before .before .before .before .before .before .before .before .before .args .g .now) (c .before .before .before .before .before .before .before .before .before .before .before .before .before .args .from) (c .before .before .before .before .before .before .before .before .byte .ensures) (c .before .before .before .before .before .before .before .if1 .left) (c .before .before .before .before .before .before .before .before .before .before .before .before .before .args .p) (c .before .before .before .before .before .before .eval .ensures) (c .before .before .clear .last .0) (c .before .before .before .before .enum-told4 .given .1), zeros-of (length (c .before .before .before .before .before .before .before .before .before .before .before .before .before .args .g .now)) (c .before .before .clear .last .0) (c .before .before .clear .ensures))
 
 pub index-read-spec : {M : Type 1} → statement M
 index-read-spec =
@@ -62,9 +71,11 @@ index-read-spec =
     enum-told-2
     enum-told-3
     enum-told-4
+    clear-requires
     same-length
     returns-2
     same-length-2
     returns-3
     returns-4
+    same-length-3
     returns-5)

@@ -1,4 +1,5 @@
 -- `name_read` meets its contract, one law for each way. Assumes nothing.
+use Rattle.graph.proofs.Zeros.{full-zeros}
 use Rattle.edges.proofs.ExprLaws.{name-none, name-other, name-at, name-full}
 use borrow.Author.Needs.{needs}
 use Rattle.edges.proofs.name_read.Statement.{statement}
@@ -8,10 +9,10 @@ byte-requires : tie.Need-byte-requires
 byte-requires c κs = search needs
 
 returns : tie.Need-returns
-returns c = name-none (c .before .before .before .before .args .kinds .now) (c .before .before .before .before .args .n) (c .before .before .before .before .args .g .now) (c .before .before .before .before .args .from) (c .before .byte .ensures) (c .if1 .taken)
+returns c = (name-none (c .before .before .before .before .args .kinds .now) (c .before .before .before .before .args .n) (c .before .before .before .before .args .g .now) (c .before .before .before .before .args .from) (c .before .byte .ensures) (c .if1 .taken), tt)
 
 returns-2 : tie.Need-returns-2
-returns-2 c = name-other (c .before .before .before .before .before .args .kinds .now) (c .before .before .before .before .before .args .n) (c .before .before .before .before .before .args .g .now) (c .before .before .before .before .before .args .from) (c .before .before .byte .ensures) (c .if2 .taken)
+returns-2 c = (name-other (c .before .before .before .before .before .args .kinds .now) (c .before .before .before .before .before .args .n) (c .before .before .before .before .before .args .g .now) (c .before .before .before .before .before .args .from) (c .before .before .byte .ensures) (c .if2 .taken), tt)
 
 read-requires : tie.Need-read-requires
 read-requires c κs = search needs
@@ -26,13 +27,13 @@ same-length : tie.Need-same-length
 same-length c = search needs
 
 returns-3 : tie.Need-returns-3
-returns-3 c = name-at (c .before .before .before .before .before .before .before .before .before .before .before .args .kinds .now) (c .before .before .before .before .before .before .before .before .before .before .before .args .n) (c .before .before .before .before .before .before .before .before .before .before .before .args .g .now) (c .before .before .before .before .before .before .before .before .before .before .before .args .from) (c .before .before .before .before .before .before .before .before .byte .ensures) (c .before .before .before .before .before .before .before .if1 .left) (c .before .before .before .before .before .before .if2 .left) (c .before .before .before .before .read .result) _ (c .before .before .before .before .read .ensures) (c .enum-told .given .1)
+returns-3 c = (name-at (c .before .before .before .before .before .before .before .before .before .before .before .args .kinds .now) (c .before .before .before .before .before .before .before .before .before .before .before .args .n) (c .before .before .before .before .before .before .before .before .before .before .before .args .g .now) (c .before .before .before .before .before .before .before .before .before .before .before .args .from) (c .before .before .before .before .before .before .before .before .byte .ensures) (c .before .before .before .before .before .before .before .if1 .left) (c .before .before .before .before .before .before .if2 .left) (c .before .before .before .before .read .result) _ (c .before .before .before .before .read .ensures .0) (c .enum-told .given .1), tt)
 
 same-length-2 : tie.Need-same-length-2
 same-length-2 c = search needs
 
 returns-4 : tie.Need-returns-4
-returns-4 c = name-full (c .before .before .before .before .before .before .before .before .before .before .before .args .kinds .now) (c .before .before .before .before .before .before .before .before .before .before .before .args .n) (c .before .before .before .before .before .before .before .before .before .before .before .args .g .now) (c .before .before .before .before .before .before .before .before .before .before .before .args .from) (c .before .before .before .before .before .before .before .before .byte .ensures) (c .before .before .before .before .before .before .before .if1 .left) (c .before .before .before .before .before .before .if2 .left) (c .before .before .before .before .read .result) _ (c .before .before .before .before .read .ensures) (c .enum-told2 .given .1)
+returns-4 c = (name-full (c .before .before .before .before .before .before .before .before .before .before .before .args .kinds .now) (c .before .before .before .before .before .before .before .before .before .before .before .args .n) (c .before .before .before .before .before .before .before .before .before .before .before .args .g .now) (c .before .before .before .before .before .before .before .before .before .before .before .args .from) (c .before .before .before .before .before .before .before .before .byte .ensures) (c .before .before .before .before .before .before .before .if1 .left) (c .before .before .before .before .before .before .if2 .left) (c .before .before .before .before .read .result) _ (c .before .before .before .before .read .ensures .0) (c .enum-told2 .given .1), full-zeros (c .before .before .before .before .read .result) _ (c .enum-told2 .given .1) (c .before .before .before .before .read .ensures .1))
 
 pub name-read-spec : {M : Type 1} → statement M
 name-read-spec =

@@ -1,6 +1,9 @@
 -- `graph_c::drivercheck_graph_head` meets its contract: what `head` answers, as a number. Assumes nothing.
+use native.Mathlib.Omega.{arith}
+use lib.ListN.{length}
 use Rattle.graph.specs.Table.{node-of, node-words}
-use Rattle.graph_c.proofs.Laws.{head-at, head-full}
+use Rattle.graph.proofs.Zeros.{zeros-of, full-zeros}
+use Rattle.graph_c.proofs.Laws.{zeros-at, head-at, head-past, head-full}
 use borrow.Author.Needs.{needs}
 use Rattle.graph_c.proofs.drivercheck_graph_head.Statement.{statement}
 use Rattle.graph_c.proofs.drivercheck_graph_head.Tie as tie
@@ -14,20 +17,29 @@ head-requires c κs = search needs
 enum-known-i : tie.Need-enum-known-i
 enum-known-i c = search needs
 
-enum-told : tie.Need-enum-told
-enum-told c = search needs
-
 same-length : tie.Need-same-length
 same-length c = search needs
 
 returns : tie.Need-returns
-returns c = head-at (c .before .before .before .before .before .head .result) (c .before .before .before .before .before .before .before .before .before .args .g .now) (c .before .before .before .before .before .head .last .0) (node-of (c .before .before .before .before .before .before .node .result)) (node-words (c .before .before .before .before .before .before .before .before .before .args .kind) (c .before .before .before .before .before .before .before .before .before .args .name) (c .before .before .before .before .before .before .before .before .before .args .index) (c .before .before .before .before .before .before .before .before .before .args .output)) (c .before .before .before .before .before .before .before .before .before .args .start) (c .before .before .before .before .before .head .ensures) (c .before .before .before .before .before .before .node .ensures) _ (c .before .i .given .1)
+returns c = (head-at (c .before .before .before .before .before .before .head .result) (c .before .before .before .before .before .before .before .before .before .before .args .g .now) (c .before .before .before .before .before .before .head .last .0) (node-of (c .before .before .before .before .before .before .before .node .result)) (node-words (c .before .before .before .before .before .before .before .before .before .before .args .kind) (c .before .before .before .before .before .before .before .before .before .before .args .name) (c .before .before .before .before .before .before .before .before .before .before .args .index) (c .before .before .before .before .before .before .before .before .before .before .args .output)) (c .before .before .before .before .before .before .before .before .before .before .args .start) (c .before .before .before .before .before .before .head .ensures .0) (c .before .before .before .before .before .before .before .node .ensures) _ (c .before .before .i .given .1), zeros-at (c .before .before .i .given .0 .0) (c .before .before .before .before .before .before .head .last .0) (c .if1 .taken))
+
+clear-requires : tie.Need-clear-requires
+clear-requires c κs = search needs
+
+enum-told : tie.Need-enum-told
+enum-told c = search needs
 
 same-length-2 : tie.Need-same-length-2
 same-length-2 c = search needs
 
 returns-2 : tie.Need-returns-2
-returns-2 c = head-full (c .before .before .before .before .head .result) (c .before .before .before .before .before .before .before .before .args .g .now) (c .before .before .before .before .head .last .0) (node-of (c .before .before .before .before .before .node .result)) (node-words (c .before .before .before .before .before .before .before .before .args .kind) (c .before .before .before .before .before .before .before .before .args .name) (c .before .before .before .before .before .before .before .before .args .index) (c .before .before .before .before .before .before .before .before .args .output)) (c .before .before .before .before .before .before .before .before .args .start) (c .before .before .before .before .head .ensures) (c .before .before .before .before .before .node .ensures) (c .enum-told .given .1)
+returns-2 c = (head-past (c .before .before .before .before .before .before .before .before .before .before .head .result) (c .before .before .before .before .before .before .before .before .before .before .before .before .before .before .args .g .now) (c .before .before .before .before .before .before .before .before .before .before .head .last .0) (node-of (c .before .before .before .before .before .before .before .before .before .before .before .node .result)) (node-words (c .before .before .before .before .before .before .before .before .before .before .before .before .before .before .args .kind) (c .before .before .before .before .before .before .before .before .before .before .before .before .before .before .args .name) (c .before .before .before .before .before .before .before .before .before .before .before .before .before .before .args .index) (c .before .before .before .before .before .before .before .before .before .before .before .before .before .before .args .output)) (c .before .before .before .before .before .before .before .before .before .before .before .before .before .before .args .start) (c .before .before .before .before .before .before .before .before .before .before .head .ensures .0) (c .before .before .before .before .before .before .before .before .before .before .before .node .ensures) _ (c .before .before .before .before .before .before .i .given .1) (omega (arith, c .before .before .before .before .if1 .left)) (c .before .before .clear .last .0), zeros-of (length (c .before .before .before .before .before .before .before .before .before .before .head .last .0)) (c .before .before .clear .last .0) (c .before .before .clear .ensures))
+
+same-length-3 : tie.Need-same-length-3
+same-length-3 c = search needs
+
+returns-3 : tie.Need-returns-3
+returns-3 c = (head-full (c .before .before .before .before .head .result) (c .before .before .before .before .before .before .before .before .args .g .now) (c .before .before .before .before .head .last .0) (node-of (c .before .before .before .before .before .node .result)) (node-words (c .before .before .before .before .before .before .before .before .args .kind) (c .before .before .before .before .before .before .before .before .args .name) (c .before .before .before .before .before .before .before .before .args .index) (c .before .before .before .before .before .before .before .before .args .output)) (c .before .before .before .before .before .before .before .before .args .start) (c .before .before .before .before .head .ensures .0) (c .before .before .before .before .before .node .ensures) (c .enum-told .given .1), full-zeros (c .before .before .before .before .head .result) (c .before .before .before .before .head .last .0) (c .enum-told .given .1) (c .before .before .before .before .head .ensures .1))
 
 pub drivercheck-graph-head-spec : {M : Type 1} → statement M
 drivercheck-graph-head-spec =
@@ -36,8 +48,11 @@ drivercheck-graph-head-spec =
     node-requires
     head-requires
     enum-known-i
-    enum-told
     same-length
     returns
+    clear-requires
+    enum-told
     same-length-2
-    returns-2)
+    returns-2
+    same-length-3
+    returns-3)

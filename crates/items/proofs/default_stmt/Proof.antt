@@ -1,6 +1,8 @@
 -- `default_stmt` meets its contract, one law for each way. Assumes nothing.
-use mathlib.Core.Path.{refl}
+use mathlib.Core.Path.{refl, _∙_}
+use lib.ListN.{length}
 use Rattle.items.proofs.BlockLaws.{default-other, default-done, default-full}
+use Rattle.graph.proofs.Zeros.{zeros-of}
 use borrow.Author.Needs.{needs}
 use Rattle.items.proofs.default_stmt.Statement.{statement}
 use Rattle.items.proofs.default_stmt.Tie as tie
@@ -18,7 +20,7 @@ byte-requires : tie.Need-byte-requires
 byte-requires c κs = search needs
 
 returns : tie.Need-returns
-returns c = (default-other (c .before .before .before .before .before .before .before .args .s .now) (c .before .before .before .before .before .before .before .args .block) (c .before .before .before .before .before .before .before .args .kinds .now) (c .before .before .before .before .before .before .before .args .own .now) (c .before .before .before .part-end .ensures) (c .before .before .number .ensures) (c .before .byte .ensures) (c .if1 .taken), refl)
+returns c = (default-other (c .before .before .before .before .before .before .before .args .s .now) (c .before .before .before .before .before .before .before .args .block) (c .before .before .before .before .before .before .before .args .kinds .now) (c .before .before .before .before .before .before .before .args .own .now) (c .before .before .before .part-end .ensures) (c .before .before .number .ensures) (c .before .byte .ensures) (c .if1 .taken), (refl, tt))
 
 add-pair-requires : tie.Need-add-pair-requires
 add-pair-requires c κs = search needs
@@ -29,17 +31,20 @@ enum-told c = search needs
 enum-told-2 : tie.Need-enum-told-2
 enum-told-2 c = search needs
 
+clear-requires : tie.Need-clear-requires
+clear-requires c κs = search needs
+
 same-length : tie.Need-same-length
 same-length c = search needs
 
 returns-2 : tie.Need-returns-2
-returns-2 c = (default-done (c .before .before .before .before .before .before .before .before .before .before .before .before .before .args .s .now) (c .before .before .before .before .before .before .before .before .before .before .before .before .before .args .block) (c .before .before .before .before .before .before .before .before .before .before .before .before .before .args .kinds .now) (c .before .before .before .before .before .before .before .before .before .before .before .before .before .args .own .now) (c .before .before .before .before .before .before .before .before .before .part-end .ensures) (c .before .before .before .before .before .before .before .before .number .ensures) (c .before .before .before .before .before .before .before .byte .ensures) (c .before .before .before .before .before .before .if1 .left) _ (c .before .before .before .before .add-pair .ensures .1 .1) (c .before .before .before .before .add-pair .result) (c .before .before .before .before .add-pair .ensures .0) (c .enum-told .given .1), c .before .before .before .before .add-pair .ensures .1 .1)
+returns-2 c = (default-done (c .before .before .before .before .before .before .before .before .before .before .before .before .before .args .s .now) (c .before .before .before .before .before .before .before .before .before .before .before .before .before .args .block) (c .before .before .before .before .before .before .before .before .before .before .before .before .before .args .kinds .now) (c .before .before .before .before .before .before .before .before .before .before .before .before .before .args .own .now) (c .before .before .before .before .before .before .before .before .before .part-end .ensures) (c .before .before .before .before .before .before .before .before .number .ensures) (c .before .before .before .before .before .before .before .byte .ensures) (c .before .before .before .before .before .before .if1 .left) _ (c .before .before .before .before .add-pair .ensures .1 .1) (c .before .before .before .before .add-pair .result) (c .before .before .before .before .add-pair .ensures .0) (c .enum-told .given .1), (c .before .before .before .before .add-pair .ensures .1 .1, tt))
 
 same-length-2 : tie.Need-same-length-2
 same-length-2 c = search needs
 
 returns-3 : tie.Need-returns-3
-returns-3 c = (default-full (c .before .before .before .before .before .before .before .before .before .before .before .before .before .args .s .now) (c .before .before .before .before .before .before .before .before .before .before .before .before .before .args .block) (c .before .before .before .before .before .before .before .before .before .before .before .before .before .args .kinds .now) (c .before .before .before .before .before .before .before .before .before .before .before .before .before .args .own .now) (c .before .before .before .before .before .before .before .before .before .part-end .ensures) (c .before .before .before .before .before .before .before .before .number .ensures) (c .before .before .before .before .before .before .before .byte .ensures) (c .before .before .before .before .before .before .if1 .left) _ (c .before .before .before .before .add-pair .ensures .1 .1) (c .before .before .before .before .add-pair .result) (c .before .before .before .before .add-pair .ensures .0) (c .enum-told2 .given .1), c .before .before .before .before .add-pair .ensures .1 .1)
+returns-3 c = (default-full (c .before .before .before .before .before .before .before .before .before .before .before .before .before .before .before .before .before .args .s .now) (c .before .before .before .before .before .before .before .before .before .before .before .before .before .before .before .before .before .args .block) (c .before .before .before .before .before .before .before .before .before .before .before .before .before .before .before .before .before .args .kinds .now) (c .before .before .before .before .before .before .before .before .before .before .before .before .before .before .before .before .before .args .own .now) (c .before .before .before .before .before .before .before .before .before .before .before .before .before .part-end .ensures) (c .before .before .before .before .before .before .before .before .before .before .before .before .number .ensures) (c .before .before .before .before .before .before .before .before .before .before .before .byte .ensures) (c .before .before .before .before .before .before .before .before .before .before .if1 .left) (c .before .before .before .before .before .before .before .before .add-pair .last .0) (c .before .before .before .before .before .before .before .before .add-pair .ensures .1 .1) (c .before .before .before .before .before .before .before .before .add-pair .result) (c .before .before .before .before .before .before .before .before .add-pair .ensures .0) (c .before .before .before .before .enum-told2 .given .1), (c .before .before .clear .kept .0 ∙ c .before .before .before .before .before .before .before .before .add-pair .ensures .1 .1, zeros-of (length (c .before .before .before .before .before .before .before .before .add-pair .last .0)) _ (c .before .before .clear .ensures)))
 
 pub default-stmt-spec : {M : Type 1} → statement M
 default-stmt-spec =
@@ -53,6 +58,7 @@ default-stmt-spec =
     add-pair-requires
     enum-told
     enum-told-2
+    clear-requires
     same-length
     returns-2
     same-length-2

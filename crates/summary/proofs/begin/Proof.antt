@@ -11,7 +11,7 @@ same-length : tie.Need-same-length
 same-length c = search needs
 
 returns : tie.Need-returns
-returns c = began (c .before .before .before .before .before .args .k .now) (c .before .before .before .before .before .args .m) (c .before .before .put .ensures)
+returns c = (began (c .before .before .before .before .before .args .k .now) (c .before .before .before .before .before .args .m) (c .before .before .put .ensures), c .before .before .put .ensures)
 
 pub begin-spec : {M : Type 1} → statement M
 begin-spec = tie.close (tie.spec put-requires same-length returns)

@@ -1,21 +1,22 @@
 -- `reset` meets its contract: the first i states are 0. Assumes nothing.
 use borrow.Author.Needs.{needs}
 use native.Mathlib.Omega.{arith}
-use mathlib.Core.Path.{_≡_, refl, _∙_}
-use Prim.Native.Nat.{ℕ, _<_, _≤_, _-_}
-use lib.ListN.{length, getD}
-use Rattle.summary.proofs.Table.{zero-more, none-kept}
+use mathlib.Core.Path.{_∙_}
+use Prim.Native.Nat.{_≤_, _-_}
+use Rattle.graph.specs.Cycles.{Zeroed}
+use Rattle.graph.proofs.Sorting.{zeroed-none}
+use Rattle.summary.proofs.Table.{zeroed-next, emptied, none-kept}
 use Rattle.summary.proofs.reset.Statement.{statement}
 use Rattle.summary.proofs.reset.Tie as tie
 
 abbrev Inv-loop : tie.InvT-loop
-Inv-loop k₀ i₀ k i = (i ≤ 32) × (length k ≡ length k₀) × ((j : ℕ) → j < i → getD k j 0 ≡ 0)
+Inv-loop k₀ i₀ k i = (i ≤ 32) × Zeroed 0 i k₀ k
 
 abbrev μ-loop : tie.MeasureT-loop
 μ-loop k₀ i₀ k i = 32 - i
 
 loop-holds : tie.Need-loop-holds Inv-loop μ-loop
-loop-holds c = (omega arith, refl, λ j l. absurd (omega arith))
+loop-holds c = (omega arith, zeroed-none 0 (c .before .args .k .now))
 
 put-requires : tie.Need-put-requires Inv-loop μ-loop
 put-requires c κs = search needs
@@ -27,16 +28,16 @@ loop-less : tie.Need-loop-less Inv-loop μ-loop
 loop-less c = omega arith
 
 loop-again : tie.Need-loop-again Inv-loop μ-loop
-loop-again c = (omega arith, c .before .before .put .kept .0 ∙ c .before .before .before .before .before .loop .inv .1, zero-more (c .before .before .before .before .before .loop .k) (c .before .before .before .before .before .loop .i) (c .before .before .before .before .before .loop .inv .2) (c .before .before .put .ensures))
+loop-again c = (omega arith, zeroed-next (c .before .before .before .before .before .before .before .args .k .now) (c .before .before .before .before .before .loop .k) (c .before .before .before .before .before .loop .i) (c .before .before .before .before .before .loop .inv .1) (c .before .before .put .ensures))
 
 put-requires-2 : tie.Need-put-requires-2 Inv-loop μ-loop
 put-requires-2 c κs = search needs
 
 same-length : tie.Need-same-length Inv-loop μ-loop
-same-length c = c .before .before .put2 .kept .0 ∙ c .before .before .before .before .before .loop .inv .1
+same-length c = c .before .before .put2 .kept .0 ∙ c .before .before .before .before .before .loop .inv .1 .size
 
 returns : tie.Need-returns Inv-loop μ-loop
-returns c = λ z. none-kept (c .before .before .before .before .before .loop .k) (omega (arith, c .before .before .before .before .before .loop .inv .1, z)) (λ j l. c .before .before .before .before .before .loop .inv .2 j (omega (arith, c .before .before .before .before .loop-test .left, l))) (c .before .before .put2 .ensures)
+returns c = let E = emptied (c .before .before .before .before .before .before .before .args .k .now) (c .before .before .before .before .before .loop .k) (c .before .before .before .before .before .loop .i) (c .before .before .before .before .before .loop .inv .0) (c .before .before .before .before .loop-test .left) (c .before .before .before .before .before .loop .inv .1) (c .before .before .put2 .ensures) in (none-kept (c .before .before .before .before .before .before .before .args .k .now) _ E, E)
 
 pub reset-spec : {M : Type 1} → statement M
 reset-spec =

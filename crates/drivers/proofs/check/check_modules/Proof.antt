@@ -23,7 +23,7 @@ reset-requires : tie.Need-reset-requires Inv-loop μ-loop
 reset-requires c κs = search needs
 
 loop-holds : tie.Need-loop-holds Inv-loop μ-loop
-loop-holds c = (refl, refl, refl, refl, refl, refl, c .before .before .before .before .if1 .left, omega arith, λ T E. turn-start (c .before .before .before .before .before .before .before .before .before .before .before .before .before .before .args .text .now) (c .before .before .before .before .before .before .before .before .before .before .before .before .before .before .args .write) (c .before .before .before .before .before .before .before .before .before .before .before .before .before .before .args .buf .now) (c .before .before .before .before .before .before .before .before .before .before .before .before .before .before .args .k .now) (c .before .before .reset .ensures) (omega (arith, E .keeping, c .before .before .reset .kept .0)))
+loop-holds c = (refl, refl, refl, refl, refl, refl, c .before .before .before .before .if1 .left, omega arith, λ T E. turn-start (c .before .before .before .before .before .before .before .before .before .before .before .before .before .before .args .text .now) (c .before .before .before .before .before .before .before .before .before .before .before .before .before .before .args .write) (c .before .before .before .before .before .before .before .before .before .before .before .before .before .before .args .buf .now) (c .before .before .before .before .before .before .before .before .before .before .before .before .before .before .args .k .now) (c .before .before .reset .ensures .0) (omega (arith, E .keeping, c .before .before .reset .kept .0)))
 
 check-module-drivers-requires : tie.Need-check-module-drivers-requires Inv-loop μ-loop
 check-module-drivers-requires c κs = search needs
