@@ -1,5 +1,6 @@
-//! `gen`: texts from the seeded generator, and the stored vectors. Exit status 2 with a line on
-//! standard error for bad arguments, for vectors that do not agree, or where nothing can be written.
+//! `gen`: texts from the seeded generator, also with the answers of the Rust, and the stored vectors.
+//! Exit status 2 with a line on standard error for bad arguments, for answers that do not agree, or
+//! where nothing can be written.
 
 use compare::cases::{write_cases, Case};
 use compare::gen;
@@ -95,10 +96,9 @@ fn vectors(dir: &str, out: &mut impl Write) -> Result<(), String> {
     Ok(())
 }
 
-/// A `.cases` file with the answers of the Rust.
+/// A `.cases` file of accepted texts to which the Rust always gives one answer, with these answers.
 fn sample(profile: &str, seed: u64, count: u64, out: &mut impl Write) -> Result<(), String> {
-    one(profile, seed, 0)?;
     let count = usize::try_from(count).map_err(|_| "COUNT is too large")?;
-    let cases = gen::vectors::sampled(profile, seed, count)?;
+    let cases = gen::vectors::with_answers(profile, seed, count)?;
     out.write_all(&write_cases(&cases)).map_err(unwritten)
 }

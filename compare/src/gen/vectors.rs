@@ -130,30 +130,33 @@ fn add_line(case: &mut Case, line: &str) {
 fn generated_cases() -> Result<Vec<Case>, String> {
     let mut out = Vec::new();
     for profile in SAMPLED {
-        out.extend(sampled(profile, SEED, SAMPLE)?);
+        out.extend(with_answers(profile, SEED, SAMPLE)?);
     }
     Ok(out)
 }
 
 /// The first `count` texts of a profile that are accepted and to which the Rust always gives one
-/// answer, with that answer.
-pub fn sampled(profile: &str, seed: u64, count: usize) -> Result<Vec<Case>, String> {
+/// answer, with that answer. The error says where the model disagrees, or that the profile has too few.
+pub fn with_answers(profile: &str, seed: u64, count: usize) -> Result<Vec<Case>, String> {
     let mut out = Vec::new();
-    for i in 0.. {
+    let end = 100 * (count as u64 + 1);
+    for i in 0..end {
         if out.len() == count {
-            break;
+            return Ok(out);
         }
-        if let Some(case) = sample(profile, seed, i, out.len())? {
+        if let Some(case) = with_answer(profile, seed, i, out.len())? {
             out.push(case);
         }
     }
-    Ok(out)
+    Err(format!(
+        "{profile} has fewer than {count} such texts among {end}"
+    ))
 }
 
 /// Text `i` where it is accepted and the Rust always gives it one answer. One in six may be
 /// without reports.
-fn sample(profile: &str, seed: u64, i: u64, taken: usize) -> Result<Option<Case>, String> {
-    let text = super::text(profile, seed, i).unwrap_or_default();
+fn with_answer(profile: &str, seed: u64, i: u64, taken: usize) -> Result<Option<Case>, String> {
+    let text = super::text(profile, seed, i).ok_or_else(|| format!("no profile `{profile}`"))?;
     let model = model::answer(&text, model::PROGRAM_BUFFER);
     let quiet = model.reports == 0 && taken % 6 != 5;
     if model.number != 0 || quiet || text.len() > 2500 || model::ties(&text).contains(&true) {

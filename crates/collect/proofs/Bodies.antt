@@ -37,7 +37,8 @@ use Rattle.collect.specs.Cycle.{PartOf, Mode, World, Single, Given, OneG
 use Rattle.collect.proofs.Turns.{step-outside, repeat-step, const-if-step}
 use Rattle.collect.proofs.Ways.{or-none, fine}
 use Rattle.collect.proofs.Parts.{part-drop, part-piece}
-use Rattle.collect.proofs.Items.{Sized, framed-same, framed-again}
+use Rattle.collect.proofs.Items.{Sized, framed-same, framed-again, sized-again}
+use Rattle.collect.proofs.Leaving.{own-same}
 use Rattle.collect.proofs.Going.{names-framed}
 
 -- ---- the names
@@ -239,7 +240,7 @@ module _ (fuel : ℕ) (mo : Mode) (text kinds mods : List ℕ) (count : ℕ) (s 
     pub inside : i ≤ total
     pub fewer : left ≤ left₀
     pub framed : Framed used names₀ names
-    pub sized : Sized own₀ g₀ k₀ own g k
+    pub sized : Sized (mo .own) own₀ g₀ k₀ own g k
     pub walking : (w : World) (G : Entered w) → (st : State) × Holding mo text own g k (w .busy) st × (every w ≡ walk-rounds (each w) n (signed (low + i)) (total - i) (names-of names₀ used) left st)
 
   pub rounds-start : Rounds 0 left₀ names₀ own₀ g₀ k₀
@@ -248,7 +249,7 @@ module _ (fuel : ℕ) (mo : Mode) (text kinds mods : List ℕ) (count : ℕ) (s 
         inside = omega arith;
         fewer = omega arith;
         framed = framed-same;
-        sized = record { own-size = refl; g-size = refl; k-size = refl };
+        sized = record { kept = own-same (mo .own) own₀; own-size = refl; g-size = refl; k-size = refl };
         walking = λ w G.
             let z : low ≡ low + 0 = omega arith in
             let y : total ≡ total - 0 = omega arith in (
@@ -321,16 +322,15 @@ module _ (fuel : ℕ) (mo : Mode) (text kinds mods : List ℕ) (count : ℕ) (s 
         pub rounds-framed : Framed (used + 1) put names′ → Framed used names₀ names′
         rounds-framed frame = framed-again push-framed (framed-less frame)
 
-        pub rounds-next : (l : ℕ) → b ≡ walks.Left l → RoundsWithin b left → Framed (used + 1) put names′ → Sized own g k own′ g′ k′ → Rounds (i + 1) l names′ own′ g′ k′
+        pub rounds-next : (l : ℕ) → b ≡ walks.Left l → RoundsWithin b left → Framed (used + 1) put names′ → Sized (mo .own) own g k own′ g′ k′ → Rounds (i + 1) l names′ own′ g′ k′
         rounds-next l e few′ frame size =
             let c = subst (λ (y : W.Walked). RoundsWithin y left) e few′ in
             let p = o .fewer in
-            let q = o .sized in
             record {
               inside = omega arith;
               fewer = omega arith;
               framed = rounds-framed frame;
-              sized = record { own-size = size .own-size ∙ q .own-size; g-size = size .g-size ∙ q .g-size; k-size = size .k-size ∙ q .k-size };
+              sized = sized-again (mo .own) (o .sized) size;
               walking = λ w G.
                   let E = as-body (walks.Left l) e w G in
                   let z : low + i + 1 ≡ low + (i + 1) = omega arith in (

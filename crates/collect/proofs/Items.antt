@@ -20,13 +20,15 @@ use Rattle.steps.specs.declared.Head as H
 use Rattle.steps.specs.declared.Head.the-variants as head
 use Rattle.collect.specs.declared.Walked as W
 use Rattle.collect.specs.declared.Walked.the-variants as walks
-use Rattle.collect.specs.Cycle.{PartOf, Mode, World, Single, Given, OneGiven, Ends, RoundsWithin, Stepped, Framed, PlainEnds, step-of, walk-of, one-of}
+use Rattle.collect.specs.Cycle.{PartOf, Mode, World, Single, Given, OneGiven, Ends, RoundsWithin, OwnKept, Stepped, Framed, PlainEnds, step-of, walk-of, one-of}
 use Rattle.collect.specs.Plain.{PlainLine}
 use Rattle.collect.proofs.Parts.{end-within, part-piece, stands-here}
+use Rattle.collect.proofs.Leaving.{own-same, own-again}
 use Rattle.collect.proofs.Going.{Going, one, going-end, going-next, going-full, plain-ends, inst-ends, step-full, names-framed}
 
--- a walk keeps the lengths of the tables
-pub record Sized (own₀ g₀ k₀ own g k : List ℕ) : Type 0 where
+-- a walk keeps the lengths of the tables, and a summary's walk the words that stand in the place of own tables
+pub record Sized (checking : Bool) (own₀ g₀ k₀ own g k : List ℕ) : Type 0 where
+  pub kept : OwnKept checking own₀ own
   pub own-size : length own ≡ length own₀
   pub g-size : length g ≡ length g₀
   pub k-size : length k ≡ length k₀
@@ -42,8 +44,8 @@ pub within-more : (r : W.Walked) (a b : ℕ) → a ≤ b → RoundsWithin r a �
 within-more (walks.Left l) a b h w = omega arith
 within-more walks.Full a b h w = tt
 
-sized-again : {a b c d e f g h i : List ℕ} → Sized a b c d e f → Sized d e f g h i → Sized a b c g h i
-sized-again p q = record { own-size = q .own-size ∙ p .own-size; g-size = q .g-size ∙ p .g-size; k-size = q .k-size ∙ p .k-size }
+pub sized-again : (checking : Bool) {a b c d e f g h i : List ℕ} → Sized checking a b c d e f → Sized checking d e f g h i → Sized checking a b c g h i
+sized-again checking p q = record { kept = own-again checking _ _ _ (p .kept) (q .kept); own-size = q .own-size ∙ p .own-size; g-size = q .g-size ∙ p .g-size; k-size = q .k-size ∙ p .k-size }
 
 -- each item has a head
 some-head : (i : Item) → (h : H.Head) × HeadIs h i
@@ -64,7 +66,7 @@ pub record On (fuel : ℕ) (mo : Mode) (text kinds mods : List ℕ) (count : ℕ
   pub inside : at ≤ length s
   pub fewer : left ≤ left₀
   pub framed : Framed used names₀ names
-  pub sized : Sized own₀ g₀ k₀ own g k
+  pub sized : Sized (mo .own) own₀ g₀ k₀ own g k
   pub walking : (w : World) → Given mo text kinds mods count s base depth ks names₀ used own₀ g₀ k₀ w
       → Going fuel mo text s at depth (names-of names₀ used) left own g k (w .header) (w .busy) (walk-of fuel text mo w (names-of names₀ used) left₀)
 
@@ -75,7 +77,7 @@ module _ (fuel : ℕ) (mo : Mode) (text kinds mods : List ℕ) (count : ℕ) (s 
         inside = omega arith;
         fewer = omega arith;
         framed = framed-same;
-        sized = record { own-size = refl; g-size = refl; k-size = refl };
+        sized = record { kept = own-same (mo .own) own₀; own-size = refl; g-size = refl; k-size = refl };
         walking = λ w G. record { items = w .items; state = w .state; run = G .run; holding = G .holding; same = refl };
       }
 
@@ -124,7 +126,7 @@ module _ (fuel : ℕ) (mo : Mode) (text kinds mods : List ℕ) (count : ℕ) (s 
           }
 
       -- the item is walked, and those behind it are left
-      next : (l : ℕ) (names′ own′ g′ k′ : List ℕ) → l ≤ left → Framed used names names′ → Sized own g k own′ g′ k′
+      next : (l : ℕ) (names′ own′ g′ k′ : List ℕ) → l ≤ left → Framed used names names′ → Sized (mo .own) own g k own′ g′ k′
           → ((w : World) (G : Entered w) → Ends (walks.Left l) mo text own′ g′ k′ (w .busy) (one-of fuel text mo (single w G) (names-of names₀ used) left))
           → On fuel mo text kinds mods count s base depth ks names₀ used left₀ own₀ g₀ k₀ end l names′ own′ g′ k′
       next l names′ own′ g′ k′ few frame size ends =
@@ -133,7 +135,7 @@ module _ (fuel : ℕ) (mo : Mode) (text kinds mods : List ℕ) (count : ℕ) (s 
             inside = after .1;
             fewer = omega arith;
             framed = framed-again (o .framed) frame;
-            sized = sized-again (o .sized) size;
+            sized = sized-again (mo .own) (o .sized) size;
             walking = λ w G.
                 subst
                 (λ (e : ℕ). Going fuel mo text s e depth (names-of names₀ used) l own′ g′ k′ (w .header) (w .busy) (walk w)) (sym here)
@@ -156,7 +158,7 @@ module _ (fuel : ℕ) (mo : Mode) (text kinds mods : List ℕ) (count : ℕ) (s 
           subst (λ (ns : Names). Ends a mo text own′ g′ k′ (w .busy) (one-of fuel text mo (single w G) ns left)) names-same
           (f (h .0) (single w G) (given (h .0) w G (h .1)))
 
-      pub item-next : (l : ℕ) (names′ own′ g′ k′ : List ℕ) (a : W.Walked) → a ≡ walks.Left l → RoundsWithin a left → Framed used names names′ → Sized own g k own′ g′ k′
+      pub item-next : (l : ℕ) (names′ own′ g′ k′ : List ℕ) (a : W.Walked) → a ≡ walks.Left l → RoundsWithin a left → Framed used names names′ → Sized (mo .own) own g k own′ g′ k′
           → Answers a own′ g′ k′ → On fuel mo text kinds mods count s base depth ks names₀ used left₀ own₀ g₀ k₀ end l names′ own′ g′ k′
       item-next l names′ own′ g′ k′ a e few frame size f =
           next l names′ own′ g′ k′ (subst (λ (y : W.Walked). RoundsWithin y left) e few) frame size

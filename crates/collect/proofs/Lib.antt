@@ -9,4 +9,4 @@ pub mod Asking
 pub mod PlainLaws
 pub mod FaceLaws
 pub mod OwnLaws
-pub mod Emptied
+pub mod Leaving

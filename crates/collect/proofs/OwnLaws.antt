@@ -10,8 +10,8 @@ use Rattle.spec.specs.Syntax.{Module}
 use Rattle.spec.specs.Refusal.{decode}
 use Rattle.spec.specs.Value.{Table, own-vals, name-table}
 use Rattle.spec.specs.Summary.{Kept}
+use Rattle.spec.specs.Cleared.{Cleared}
 use Rattle.graph.specs.Stands.{graph-places, Stands}
-use Rattle.graph.specs.Zeros.{Zeros}
 use Rattle.sites.specs.Own.{places}
 use Rattle.runs.specs.Text.{ModuleAt}
 use Rattle.runs.proofs.Text.{module-at}
@@ -89,7 +89,7 @@ module _ (text mods : List ℕ) (m : ℕ) (names own g k names′ own′ g′ k�
   pub lent-left : (used left : ℕ) (r : Named) (table : List ℕ) → r ≡ named-by text mods m names → table ≡ table-by text mods m names → r ≡ named.Used used
       → Framed used table names′ → LentAfter (collected.Left used left) text mods m names own g k names′ own′ g′ k′
   lent-left used left r table a t e f =
-      record { sizes = s; named = (sym a ∙ e, subst (λ (y : List ℕ). Framed used y names′) t f); emptied = λ z. absurd (omega arith) }
+      record { sizes = s; named = (sym a ∙ e, subst (λ (y : List ℕ). Framed used y names′) t f); cleared = λ z. absurd (omega arith) }
 
-  pub lent-full : Zeros names′ → Zeros own′ × Zeros g′ × Zeros k′ → LentAfter collected.Full text mods m names own g k names′ own′ g′ k′
-  lent-full n z = record { sizes = s; named = n; emptied = λ _. (n, z .0, z .1, z .2) }
+  pub lent-full : Cleared names′ → Cleared own′ × Cleared g′ × Cleared k′ → LentAfter collected.Full text mods m names own g k names′ own′ g′ k′
+  lent-full n z = record { sizes = s; named = n; cleared = λ _. z }

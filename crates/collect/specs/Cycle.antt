@@ -1,4 +1,4 @@
--- What the walk over a module's items needs of the text, and what it leaves. 01: The collected item; The edge.
+-- What the walk over a module's items needs of the text, and what it leaves. 01: The collected item; The edge; Refused because of the state.
 -- Assumes nothing: these are definitions and statements.
 use mathlib.Core.Path.{_≡_}
 use mathlib.Core.Bool.{Bool, true, false}
@@ -8,13 +8,13 @@ use lib.ListN.{length, take, drop, getD, replicate}
 use Rattle.spec.specs.Bytes.{Bytes}
 use Rattle.spec.specs.Syntax.{Item, Items, Header}
 use Rattle.spec.specs.Refusal.{refusal, well-formed, decode}
+use Rattle.spec.specs.Cleared.{Cleared}
 use Rattle.spec.specs.Value.{Names}
 use Rattle.spec.specs.Edge.{Head}
 use Rattle.spec.specs.Summary.{Kept}
 use Rattle.consteval.specs.Worth.{signed}
 use Rattle.lines.specs.Tables.{put-kinds, put-mods}
 use Rattle.graph.specs.Stands.{Stands}
-use Rattle.graph.specs.Zeros.{Zeros}
 use Rattle.edges.specs.Reads.{KindsOf}
 use Rattle.runs.specs.Run.{ShowsItem, RunOf}
 use Rattle.walk.specs.Walk.{Got, full, going, then-go, Walked, walked, walk-rounds, walk-inner, Own, over-own, State, Walking, Answered, Asking, line-step, walk-items, ask-walk}
@@ -126,17 +126,18 @@ abbrev pub RoundsWithin : W.Walked → ℕ → Type 0
 RoundsWithin (walks.Left l) left = l ≤ left
 RoundsWithin walks.Full left = Unit {0}
 
--- 01, Refused because of the state: lent working memory is zero: where a walk is full every place of the tables that it fills is 0
-abbrev pub FullEmpties : W.Walked → (own g k : List ℕ) → Type 0
-FullEmpties (walks.Left l) own g k = Unit {0}
-FullEmpties walks.Full own g k = Zeros own × Zeros g × Zeros k
+-- 01, The edge: a summary's walk has no own tables (false): the words that stand in their place stay as they are
+abbrev pub OwnKept : Bool → (own own′ : List ℕ) → Type 0
+OwnKept true own own′ = Unit {0}
+OwnKept false own own′ = own′ ≡ own
 
--- 01, Refused because of the state: the same for a line that fills two tables, false where it is full
-abbrev pub LineEmpties : Bool → (a b : List ℕ) → Type 0
-LineEmpties true a b = Unit {0}
-LineEmpties false a b = Zeros a × Zeros b
+-- 01, Refused because of the state; Worthless checks: what every table becomes that a walk fills, whatever was lent: where it is full every place is 0
+abbrev pub WalkLeaves : W.Walked → Bool → (own own′ g′ k′ : List ℕ) → Type 0
+WalkLeaves (walks.Left l) checking own own′ g′ k′ = OwnKept checking own own′
+WalkLeaves walks.Full checking own own′ g′ k′ = Cleared own′ × Cleared g′ × Cleared k′
 
--- 01, The collected item: the variable's old value returns afterwards: the names that are used stay as they are, full or not
+-- 01, The collected item: the variable's old value returns afterwards: the names that are used stay as they are, full or not; what stands behind them
+-- is free
 pub record Framed (used : ℕ) (old new : List ℕ) : Type 0 where
   pub size : length new ≡ length old
   pub same : (i : ℕ) → i < used + used → getD new i 0 ≡ getD old i 0
@@ -157,14 +158,14 @@ PlainEnds true mo text own g header names i o hs =
     × OwnIs (mo .own) text own o′ × Stands g hs′
 PlainEnds false mo text own g header names i o hs = (ask : Asking) (kept : Kept) → line-step ask (walking-of mo header) names i (state-of o hs kept) ≡ full
 
--- what asking for the summary of module m leaves: nothing is known of it, its pairs stand in the table, or a limit is passed
+-- what asking for the summary of module m leaves: nothing is known of it, its pairs stand in the table, or a limit is passed or a constant is outside INT
 abbrev pub AskedFor : A.Asked → List ℕ → ℕ → List ℕ → Got Answered → Type 0
 AskedFor asked.Empty k m busy x = (a : Answered) × (x ≡ going a) × (a .summary ≡ []) × Keeps k (a .kept) busy
 AskedFor asked.Kept k m busy x = (a : Answered) × (x ≡ going a) × Alike (pairs-of k m) (a .summary) × Keeps k (a .kept) busy × (m < 32)
 AskedFor asked.Full k m busy x = x ≡ full
 
--- 01, Refused because of the state: where a limit is passed every place of the table of summaries is 0
-abbrev pub AskedEmpties : A.Asked → List ℕ → Type 0
-AskedEmpties asked.Empty k = Unit {0}
-AskedEmpties asked.Kept k = Unit {0}
-AskedEmpties asked.Full k = Zeros k
+-- 01, Refused because of the state; Worthless checks: where a limit is passed or a constant is outside INT, every place of the table of summaries is 0
+abbrev pub AskLeaves : A.Asked → List ℕ → Type 0
+AskLeaves asked.Empty k = Unit {0}
+AskLeaves asked.Kept k = Unit {0}
+AskLeaves asked.Full k = Cleared k

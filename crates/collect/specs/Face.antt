@@ -11,9 +11,9 @@ use Rattle.spec.specs.Decode.{depth-limit}
 use Rattle.spec.specs.Refusal.{decode}
 use Rattle.spec.specs.Value.{own-vals, name-table}
 use Rattle.spec.specs.Summary.{Kept}
+use Rattle.spec.specs.Cleared.{Cleared}
 use Rattle.consteval.specs.Worth.{names-of}
 use Rattle.graph.specs.Stands.{graph-places, Stands}
-use Rattle.graph.specs.Zeros.{Zeros}
 use Rattle.sites.specs.Own.{places}
 use Rattle.walk.specs.Walk.{Got, full, going, Walked, walked, State, no-own}
 use Rattle.steps.specs.Modules.{name-places, named-by, table-by}
@@ -51,18 +51,20 @@ abbrev pub left-of : Collected → ℕ
 left-of (collected.Left used left) = left
 left-of collected.Full = 0
 
--- 01, The value: the names that filling module m's table from its lines gives, whatever the slice held; the walk leaves them as they are
+-- 01, The value; Refused because of the state: where the number is not 20 the names in use are those that filling the table from the lines of module m
+-- gives; else every place is 0
 abbrev pub NamesAfter : Collected → (text mods : List ℕ) → ℕ → (names names′ : List ℕ) → Type 0
-NamesAfter (collected.Left used left) text mods m names names′ = (named-by text mods m names ≡ named.Used used) × Framed used (table-by text mods m names) names′
-NamesAfter collected.Full text mods m names names′ = Zeros names′
+NamesAfter (collected.Left used left) text mods m names names′ =
+    (named-by text mods m names ≡ named.Used used) × Framed used (table-by text mods m names) names′
+NamesAfter collected.Full text mods m names names′ = Cleared names′
 
 -- 01, Worthless checks; Refused because of the state: what every slice that is lent to be written becomes, whatever it held: it keeps its length,
--- and where the number is 20 each place of it is 0. Elsewhere the names in use are those of the module's lines, `Collects` says what the others hold,
--- and of a module that is not given so that is free.
+-- and where the number is 20 each place of it is 0. Elsewhere `Collects` says what own tables, graph and summaries hold; where `ModuleGiven` does not
+-- hold that is free, and so are the words behind the names in use.
 pub record LentAfter (r : Collected) (text mods : List ℕ) (m : ℕ) (names own g k names′ own′ g′ k′ : List ℕ) : Type 0 where
   pub sizes : (length names′ ≡ length names) × (length own′ ≡ length own) × (length g′ ≡ length g) × (length k′ ≡ length k)
   pub named : NamesAfter r text mods m names names′
-  pub emptied : number-of r ≡ 20 → Zeros names′ × Zeros own′ × Zeros g′ × Zeros k′
+  pub cleared : number-of r ≡ 20 → Cleared own′ × Cleared g′ × Cleared k′
 
 -- 01, The collected item: where the walk over the items of module x begins: its name table stands, with room for the variables of open repeats, and its tables are empty
 pub record WalkGiven (text kinds mods : List ℕ) (count m : ℕ) (names : List ℕ) (used : ℕ) (own g k : List ℕ) (x : Module) (kept : Kept) : Type 0 where

@@ -1,4 +1,5 @@
--- What a collected line leaves that holds no items and asks for no summary. 01: The site; The block; The edge.
+-- What a collected line leaves, without the items that it holds and the summary that it asks for. 01: The site; The block; The edge; Refused because
+-- of the state.
 -- Assumes nothing: these are definitions and statements.
 use mathlib.Core.Path.{_≡_}
 use mathlib.Core.Bool.{Bool, true, false}
@@ -7,15 +8,15 @@ use Prim.Native.Nat.{ℕ}
 use Rattle.spec.specs.Bytes.{Bytes}
 use Rattle.spec.specs.Syntax.{Item, Header}
 use Rattle.spec.specs.Value.{Names}
+use Rattle.spec.specs.Cleared.{Cleared}
 use Rattle.spec.specs.Edge.{Head, line-heads}
 use Rattle.graph.specs.Stands.{Stands}
-use Rattle.graph.specs.Zeros.{Zeros}
 use Rattle.edges.specs.Reads.{KindsOf, HeadAll}
 use Rattle.runs.specs.Run.{ShowsItem}
 use Rattle.steps.specs.Steps.{plain}
 use Rattle.items.specs.Lines.{StandsAt}
 use Rattle.walk.specs.Walk.{Own}
-use Rattle.collect.specs.Cycle.{OwnIs, PlainEnds, mode}
+use Rattle.collect.specs.Cycle.{OwnIs, OwnKept, PlainEnds, mode}
 
 -- 01, The edge: what it heads and reads
 abbrev pub LineHeads : Bool → Bytes → ℕ → List ℕ → Names → List ℕ → List ℕ → Type 0
@@ -29,8 +30,13 @@ PlainLine r x from d ks checking bound names own g own′ g′ =
     (text : Bytes) (i : Item) → ShowsItem x d i → plain i ≡ true → StandsAt text from x → (header : List Header) → KindsOf ks header
     → (o : Own) → OwnIs checking text own o → (hs : List Head) → Stands g hs → PlainEnds r (mode checking bound) text own′ g′ header names i o hs
 
--- 01, The edge; Refused because of the state: the outputs of an instance leave the summaries as they are; where a limit is passed every place of
--- graph and summaries is 0
-abbrev pub InstLeaves : Bool → (g k k′ : List ℕ) → Type 0
-InstLeaves true g k k′ = k′ ≡ k
-InstLeaves false g k k′ = Zeros g × Zeros k′
+-- 01, Refused because of the state; Worthless checks: what the tables become, whatever was lent: where the line is full every place is 0
+abbrev pub PlainLeaves : Bool → Bool → (own own′ g′ : List ℕ) → Type 0
+PlainLeaves true checking own own′ g′ = OwnKept checking own own′
+PlainLeaves false checking own own′ g′ = Cleared own′ × Cleared g′
+
+-- 01, The edge; Refused because of the state: the outputs of an instance leave the summaries as they are; where a limit is passed or an index is
+-- outside INT, every place of graph and summaries is 0
+abbrev pub InstLeaves : Bool → (g′ k k′ : List ℕ) → Type 0
+InstLeaves true g′ k k′ = k′ ≡ k
+InstLeaves false g′ k k′ = Cleared g′ × Cleared k′

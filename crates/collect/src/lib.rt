@@ -3,7 +3,6 @@
 mod places;
 mod plain;
 
-use consteval::Value;
 use consteval::names;
 use lines::parts;
 use steps::Chosen;
@@ -22,12 +21,13 @@ ghost use Rattle.consteval.specs.Worth.{names-of};
 ghost use Rattle.spec.specs.Refusal.{decode, has-name};
 ghost use Rattle.spec.specs.Syntax.{Module};
 ghost use Rattle.spec.specs.Summary.{Kept, kept-summary};
+ghost use Rattle.spec.specs.Cleared.{ClearedUnless};
 ghost use Rattle.walk.specs.Walk.{ask-walk, own-walk};
 ghost use Rattle.steps.specs.declared.Head as heads;
 ghost use Rattle.steps.specs.declared.Head.the-variants as head;
 ghost use Rattle.summary.specs.Keeps.{Keeps};
 ghost use Rattle.collect.specs.Face.{WalkGiven, ModuleGiven, Collects, left-of, LentAfter};
-ghost use Rattle.collect.specs.Cycle.{Mode, World, Given, Single, OneGiven, mode, Ends, walk-of, one-of, turns-of, step-of, Framed, RoundsWithin, FullEmpties, LineEmpties, Stepped, Tabled, AskedFor, AskedEmpties};
+ghost use Rattle.collect.specs.Cycle.{Mode, World, Given, Single, OneGiven, mode, Ends, walk-of, one-of, turns-of, step-of, Framed, RoundsWithin, WalkLeaves, Stepped, Tabled, AskedFor, AskLeaves};
 
 // What collecting a module gives: a limit is passed or a constant is outside INT; else how many names its table has, and the rounds left.
 pub enum Collected {
@@ -41,7 +41,7 @@ enum Walked {
     Full,
 }
 
-// What asking for a summary gives: nothing is known of the module, its pairs stand in the table, or a limit is passed.
+// What asking for a summary gives: nothing is known of the module, its pairs stand in the table, or a limit is passed or a constant outside INT.
 enum Asked {
     Empty,
     Kept,
@@ -88,7 +88,7 @@ fn collect_items(
         → Ends r (mode (pass .checking) (pass .bound)) (now (text .entry)) (now (own .exit)) (now (g .exit)) (now (k .exit)) (w .busy)
         (walk-of (pass .fuel) (now (text .entry)) (mode (pass .checking) (pass .bound)) w (names-of (now (names .entry)) (pass .used)) left)) ⌝ }
     ensures { λ r. ⌜ Framed (pass .used) (now (names .entry)) (now (names .exit)) × RoundsWithin r left ⌝ }
-    ensures { λ r. ⌜ FullEmpties r (now (own .exit)) (now (g .exit)) (now (k .exit)) ⌝ }
+    ensures { λ r. ⌜ WalkLeaves r (pass .checking) (now (own .entry)) (now (own .exit)) (now (g .exit)) (now (k .exit)) ⌝ }
 {
     let mut at: usize = 0;
     let mut left = left;
@@ -128,7 +128,7 @@ fn collect_item(
         → Ends r (mode (pass .checking) (pass .bound)) (now (text .entry)) (now (own .exit)) (now (g .exit)) (now (k .exit)) (w .busy)
         (one-of (pass .fuel) (now (text .entry)) (mode (pass .checking) (pass .bound)) w (names-of (now (names .entry)) (pass .used)) left)) ⌝ }
     ensures { λ r. ⌜ Framed (pass .used) (now (names .entry)) (now (names .exit)) × RoundsWithin r left ⌝ }
-    ensures { λ r. ⌜ FullEmpties r (now (own .exit)) (now (g .exit)) (now (k .exit)) ⌝ }
+    ensures { λ r. ⌜ WalkLeaves r (pass .checking) (now (own .entry)) (now (own .exit)) (now (g .exit)) (now (k .exit)) ⌝ }
 {
     match steps::head_of(x) {
         Head::Plain => {
@@ -184,10 +184,10 @@ fn repeat_items(
         → Ends r (mode (pass .checking) (pass .bound)) (now (text .entry)) (now (own .exit)) (now (g .exit)) (now (k .exit)) (w .busy)
         (one-of (pass .fuel) (now (text .entry)) (mode (pass .checking) (pass .bound)) w (names-of (now (names .entry)) (pass .used)) left)) ⌝ }
     ensures { λ r. ⌜ Framed (pass .used) (now (names .entry)) (now (names .exit)) × RoundsWithin r left ⌝ }
-    ensures { λ r. ⌜ FullEmpties r (now (own .exit)) (now (g .exit)) (now (k .exit)) ⌝ }
+    ensures { λ r. ⌜ WalkLeaves r (pass .checking) (now (own .entry)) (now (own .exit)) (now (g .exit)) (now (k .exit)) ⌝ }
 {
     if pass.depth == 0 {
-        places::empty(own, g, k);
+        places::clear_tables(own, g, k);
         return Walked::Full;
     }
     let a = steps::body_at(x);
@@ -197,18 +197,18 @@ fn repeat_items(
     deep.depth = pass.depth - 1;
     match steps::times_of(x, pass.depth, names, pass.used, left) {
         Times::Outside => {
-            places::empty(own, g, k);
+            places::clear_tables(own, g, k);
             Walked::Full
         }
         Times::Never => Walked::Left(left),
         Times::Once => collect_items(text, kinds, mods, s, base, deep, left, ks, names, own, g, k),
         Times::Rounds(n, low, rounds) => {
             if left < rounds {
-                places::empty(own, g, k);
+                places::clear_tables(own, g, k);
                 return Walked::Full;
             }
             if 4294967295 - low < rounds {
-                places::empty(own, g, k);
+                places::clear_tables(own, g, k);
                 return Walked::Full;
             }
             let turn = Turn {
@@ -244,13 +244,13 @@ fn repeat_rounds(
         → Ends r (mode (pass .checking) (pass .bound)) (now (text .entry)) (now (own .exit)) (now (g .exit)) (now (k .exit)) (w .busy)
         (turns-of (pass .fuel) (now (text .entry)) (mode (pass .checking) (pass .bound)) w (turn .name) (turn .low) (turn .rounds) (names-of (now (names .entry)) (pass .used)) (turn .left))) ⌝ }
     ensures { λ r. ⌜ Framed (pass .used) (now (names .entry)) (now (names .exit)) × RoundsWithin r (turn .left) ⌝ }
-    ensures { λ r. ⌜ FullEmpties r (now (own .exit)) (now (g .exit)) (now (k .exit)) ⌝ }
+    ensures { λ r. ⌜ WalkLeaves r (pass .checking) (now (own .entry)) (now (own .exit)) (now (g .exit)) (now (k .exit)) ⌝ }
 {
     let mut left = turn.left;
     let mut i: u32 = 0;
     while i < turn.rounds {
         if !names::push(names, pass.used, turn.name, turn.low + i) {
-            places::empty(own, g, k);
+            places::clear_tables(own, g, k);
             return Walked::Full;
         }
         let mut open = pass;
@@ -287,20 +287,20 @@ fn branch_items(
         → Ends r (mode (pass .checking) (pass .bound)) (now (text .entry)) (now (own .exit)) (now (g .exit)) (now (k .exit)) (w .busy)
         (one-of (pass .fuel) (now (text .entry)) (mode (pass .checking) (pass .bound)) w (names-of (now (names .entry)) (pass .used)) left)) ⌝ }
     ensures { λ r. ⌜ Framed (pass .used) (now (names .entry)) (now (names .exit)) × RoundsWithin r left ⌝ }
-    ensures { λ r. ⌜ FullEmpties r (now (own .exit)) (now (g .exit)) (now (k .exit)) ⌝ }
+    ensures { λ r. ⌜ WalkLeaves r (pass .checking) (now (own .entry)) (now (own .exit)) (now (g .exit)) (now (k .exit)) ⌝ }
 {
     if pass.depth < 2 {
-        places::empty(own, g, k);
+        places::clear_tables(own, g, k);
         return Walked::Full;
     }
     match steps::branch_of(x, pass.depth, names, pass.used) {
         Chosen::Outside => {
-            places::empty(own, g, k);
+            places::clear_tables(own, g, k);
             Walked::Full
         }
         Chosen::Run(a, b) => {
             if x.len() <= a {
-                places::empty(own, g, k);
+                places::clear_tables(own, g, k);
                 return Walked::Full;
             }
             let s = parts::between(x, a, b);
@@ -329,7 +329,7 @@ fn inst_edges(
         (now (ks .entry)) (now (names .entry)) (pass .used) own (now (g .entry)) (now (k .entry)) w
         → Stepped r mo (now (text .entry)) own (now (g .exit)) (now (k .exit)) (w .busy)
         (step-of (pass .fuel) (now (text .entry)) mo (w .header) (w .busy) (names-of (now (names .entry)) (pass .used)) (w .item) (w .state))) ⌝ }
-    ensures { λ r. ⌜ LineEmpties r (now (g .exit)) (now (k .exit)) ⌝ }
+    ensures { λ r. ⌜ ClearedUnless r (now (g .exit)) × ClearedUnless r (now (k .exit)) ⌝ }
 {
     let index = edges::inst_index(x, pass.depth, names, pass.used);
     if places::is_outside(index) {
@@ -367,7 +367,7 @@ fn inst_edges(
 fn comb_summary(text: &[u8], kinds: &[u8], mods: &[u32], m: u32, pass: Pass, k: &mut [u32]) -> Asked
     ensures { λ r. ⌜ ((kept : Kept) (busy : List ℕ) → Tabled (now (text .entry)) (now (kinds .entry)) (now (mods .entry)) (pass .count) → Keeps (now (k .entry)) kept busy
         → AskedFor r (now (k .exit)) m busy (ask-walk (pass .fuel) (decode (now (text .entry))) busy kept m)) ⌝ }
-    ensures { λ r. ⌜ AskedEmpties r (now (k .exit)) ⌝ }
+    ensures { λ r. ⌜ AskLeaves r (now (k .exit)) ⌝ }
 {
     if pass.fuel == 0 {
         return Asked::Empty;
@@ -391,7 +391,7 @@ fn make_summary(text: &[u8], kinds: &[u8], mods: &[u32], m: u32, pass: Pass, k: 
     ensures { λ r. ⌜ ((kept : Kept) (busy : List ℕ) → Tabled (now (text .entry)) (now (kinds .entry)) (now (mods .entry)) (pass .count) → Keeps (now (k .entry)) kept busy
         → m < pass .count → kept-summary kept m ≡ none → has-name m busy ≡ false
         → AskedFor r (now (k .exit)) m busy (ask-walk (suc (pass .fuel)) (decode (now (text .entry))) busy kept m)) ⌝ }
-    ensures { λ r. ⌜ AskedEmpties r (now (k .exit)) ⌝ }
+    ensures { λ r. ⌜ AskLeaves r (now (k .exit)) ⌝ }
 {
     if 32768 < text.len() {
         graph::clear(k);
@@ -406,7 +406,6 @@ fn make_summary(text: &[u8], kinds: &[u8], mods: &[u32], m: u32, pass: Pass, k: 
     let mut g = [0u32; 16898];
     let mut own = [0u32; 1];
     let run = modules::items_of_module(text, mods, m);
-    let base = places::run_at(mods, m);
     let ks = places::module_kinds(kinds, m);
     let mut pass = pass;
     pass.depth = 32;
@@ -418,7 +417,7 @@ fn make_summary(text: &[u8], kinds: &[u8], mods: &[u32], m: u32, pass: Pass, k: 
         kinds,
         mods,
         run,
-        base,
+        places::run_at(mods, m),
         pass,
         4096,
         ks,
@@ -453,14 +452,14 @@ fn walk_module(
         (now (names .entry)) used (now (own .entry)) (now (g .entry)) (now (k .entry)) x kept
         → Ends r (mode true (x .bound)) (now (text .entry)) (now (own .exit)) (now (g .exit)) (now (k .exit)) [] (own-walk (decode (now (text .entry))) x kept)) ⌝ }
     ensures { λ r. ⌜ Framed used (now (names .entry)) (now (names .exit)) × RoundsWithin r 4096 ⌝ }
-    ensures { λ r. ⌜ FullEmpties r (now (own .exit)) (now (g .exit)) (now (k .exit)) ⌝ }
+    ensures { λ r. ⌜ WalkLeaves r true (now (own .entry)) (now (own .exit)) (now (g .exit)) (now (k .exit)) ⌝ }
 {
     if 32768 < text.len() {
-        places::empty(own, g, k);
+        places::clear_tables(own, g, k);
         return Walked::Full;
     }
     if 32 < count {
-        places::empty(own, g, k);
+        places::clear_tables(own, g, k);
         return Walked::Full;
     }
     let run = modules::items_of_module(text, mods, m);
@@ -491,7 +490,7 @@ fn walk_module(
     )
 }
 
-// Collects module m in its own check: its name table, its own tables and its graph, which are empty where the walk begins, and in k, which has the
+// Collects module m in its own check: its name table; its own tables and its graph, both empty where the walk begins; and in k, which holds the
 // summaries kept so far, those that its instances ask for. Where it is full, every place that is lent to be written is 0 afterwards.
 pub fn collect_module(
     text: &[u8],
@@ -514,7 +513,7 @@ pub fn collect_module(
     match modules::names_of_module(text, mods, m, names) {
         Named::Outside => {
             graph::clear(names);
-            places::empty(own, g, k);
+            places::clear_tables(own, g, k);
             Collected::Full
         }
         Named::Used(used) => {

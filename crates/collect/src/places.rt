@@ -1,5 +1,5 @@
-// A module of an accepted text by the tables that its reader leaves: its kinds, where the run of its items begins, whether it is bound. And what a
-// walk that is full leaves.
+// A module of an accepted text by the tables that its reader leaves: its kinds, where the run of its items begins, whether it is bound.
+// `clear_tables` is for a walk that is full.
 use consteval::Value;
 use steps::modules;
 ghost use mathlib.Core.Path.{_≡_};
@@ -7,8 +7,8 @@ ghost use Prim.Native.Nat.{_+_, _-_, _*_};
 ghost use lib.ListN.{getD, take, drop};
 ghost use lib.Dec.{ltb};
 ghost use Rattle.spec.specs.Value.{is-outside};
+ghost use Rattle.spec.specs.Cleared.{Cleared};
 ghost use Rattle.consteval.specs.Worth.{worth};
-ghost use Rattle.graph.specs.Zeros.{Zeros};
 
 // How many names a module has at most.
 const NAMES: usize = 256;
@@ -48,8 +48,8 @@ pub fn is_outside(v: Value) -> bool
 }
 
 // Every place of the tables that a walk fills becomes 0.
-pub fn empty(own: &mut [u32], g: &mut [u32], k: &mut [u32])
-    ensures { λ _. ⌜ Zeros (now (own .exit)) × Zeros (now (g .exit)) × Zeros (now (k .exit)) ⌝ }
+pub fn clear_tables(own: &mut [u32], g: &mut [u32], k: &mut [u32])
+    ensures { λ _. ⌜ Cleared (now (own .exit)) × Cleared (now (g .exit)) × Cleared (now (k .exit)) ⌝ }
 {
     graph::clear(own);
     graph::clear(g);

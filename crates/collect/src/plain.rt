@@ -1,17 +1,16 @@
 // What a collected line leaves in the tables, without the items that it holds and the summary that it asks for. Where a line is full, the tables
-// that are lent to it to be written are emptied.
+// that are lent to it to be written are cleared.
 use consteval::Value;
 use lines::parts;
 ghost use Rattle.consteval.specs.Worth.{names-of, worth};
-ghost use Rattle.graph.specs.Zeros.{ZerosUnless};
+ghost use Rattle.spec.specs.Cleared.{ClearedUnless};
 ghost use Rattle.edges.specs.Lines.{summary-at, InstHeads};
-ghost use Rattle.collect.specs.Cycle.{LineEmpties};
-ghost use Rattle.collect.specs.Plain.{LineHeads, PlainLine, InstLeaves};
+ghost use Rattle.collect.specs.Plain.{LineHeads, PlainLine, PlainLeaves, InstLeaves};
 
 // What the line x heads and reads, by the first byte of its word.
 fn line_heads(x: &[u8], depth: u32, ks: &[u8], names: &[u32], used: usize, g: &mut [u32]) -> bool
     ensures { λ r. ⌜ LineHeads r (now (x .entry)) depth (now (ks .entry)) (names-of (now (names .entry)) used) (now (g .entry)) (now (g .exit)) ⌝ }
-    ensures { λ r. ⌜ ZerosUnless r (now (g .exit)) ⌝ }
+    ensures { λ r. ⌜ ClearedUnless r (now (g .exit)) ⌝ }
 {
     let c = parts::byte(x, 1);
     if c == b'w' {
@@ -39,18 +38,18 @@ pub fn plain_line(
 ) -> bool
     ensures { λ r. ⌜ PlainLine r (now (x .entry)) from depth (now (ks .entry)) checking bound (names-of (now (names .entry)) used)
         (now (own .entry)) (now (g .entry)) (now (own .exit)) (now (g .exit)) ⌝ }
-    ensures { λ r. ⌜ LineEmpties r (now (own .exit)) (now (g .exit)) ⌝ }
+    ensures { λ r. ⌜ PlainLeaves r checking (now (own .entry)) (now (own .exit)) (now (g .exit)) ⌝ }
 {
     if checking {
         if !items::own_line(x, from, bound, depth, ks, names, used, own) {
             graph::clear(g);
             return false;
         }
-        if line_heads(x, depth, ks, names, used, g) {
-            return true;
+        if !line_heads(x, depth, ks, names, used, g) {
+            graph::clear(own);
+            return false;
         }
-        graph::clear(own);
-        return false;
+        return true;
     }
     if items::drive_outside(x, depth, ks, names, used) {
         graph::clear(own);

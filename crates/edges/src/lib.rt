@@ -17,16 +17,16 @@ ghost use Rattle.spec.specs.Decode.{decode-expr};
 ghost use Rattle.spec.specs.Value.{value};
 ghost use Rattle.spec.specs.Edge.{inst-out, indexed-reads, reaches, index-of, has-output};
 ghost use Rattle.graph.specs.Table.{node-of};
-ghost use Rattle.graph.specs.Zeros.{ZerosUnless};
+ghost use Rattle.spec.specs.Cleared.{ClearedUnless};
 ghost use Rattle.consteval.specs.Worth.{names-of, worth};
 ghost use Rattle.lines.specs.Parts.{piece, next-end};
 ghost use Rattle.edges.specs.Shows.{NameRead, NamedBy, ShowsExpr, InstRead, FieldRead, FieldFormRead, ExprRead, PartsRead, one-read};
 ghost use Rattle.edges.specs.Lines.{WireHeads, DriveHeads, summary-at, IndexIs, ModuleIs, ConnRead, ConnsRead, OutputHead, InstHeads};
 
-// The node `from`, which the last line headed, reads the name n, by its kind: false where a limit is passed, and then the graph is emptied.
+// The node `from`, which the last line headed, reads the name n, by its kind: false where a limit is passed, and then the graph is cleared.
 pub fn name_read(kinds: &[u8], n: u32, g: &mut [u32], from: u32) -> bool
     ensures { λ r. ⌜ NameRead r n (now (kinds .entry)) (now (g .entry)) (now (g .exit)) from ⌝ }
-    ensures { λ r. ⌜ ZerosUnless r (now (g .exit)) ⌝ }
+    ensures { λ r. ⌜ ClearedUnless r (now (g .exit)) ⌝ }
 {
     let k = parts::byte(kinds, n as usize);
     if k == 0 {
@@ -68,10 +68,10 @@ pub fn name_of(x: &[u8]) -> Named
     Named::Is(v as u32)
 }
 
-// The node `from` reads the output p of the instance i, if i is one. At a limit the graph is emptied.
+// The node `from` reads the output p of the instance i, if i is one. At a limit the graph is cleared.
 pub fn output_read(kinds: &[u8], i: u32, p: u32, g: &mut [u32], from: u32) -> bool
     ensures { λ r. ⌜ InstRead r i (one-read (inst-out i none p)) (now (kinds .entry)) (now (g .entry)) (now (g .exit)) from ⌝ }
-    ensures { λ r. ⌜ ZerosUnless r (now (g .exit)) ⌝ }
+    ensures { λ r. ⌜ ClearedUnless r (now (g .exit)) ⌝ }
 {
     if parts::byte(kinds, i as usize) < 6 {
         return true;
@@ -82,7 +82,7 @@ pub fn output_read(kinds: &[u8], i: u32, p: u32, g: &mut [u32], from: u32) -> bo
     }
 }
 
-// The same with an index e, which is evaluated and not read: false also where it is outside INT. Where it says false the graph is emptied.
+// The same with an index e, which is evaluated and not read: false also where it is outside INT. Where it says false the graph is cleared.
 pub fn index_read(
     kinds: &[u8],
     i: u32,
@@ -96,7 +96,7 @@ pub fn index_read(
 ) -> bool
     ensures { λ r. ⌜ InstRead r i (indexed-reads i (value (names-of (now (names .entry)) used) (decode-expr depth (now (e .entry)))) p)
         (now (kinds .entry)) (now (g .entry)) (now (g .exit)) from ⌝ }
-    ensures { λ r. ⌜ ZerosUnless r (now (g .exit)) ⌝ }
+    ensures { λ r. ⌜ ClearedUnless r (now (g .exit)) ⌝ }
 {
     if parts::byte(kinds, i as usize) < 6 {
         return true;
@@ -114,7 +114,7 @@ pub fn index_read(
     }
 }
 
-// The node `from` reads `(f x p)`: an output of an instance, or nothing. Where it says false the graph is emptied.
+// The node `from` reads `(f x p)`: an output of an instance, or nothing. Where it says false the graph is cleared.
 pub fn field_read(
     x: &[u8],
     p: u32,
@@ -126,7 +126,7 @@ pub fn field_read(
     from: u32,
 ) -> bool
     ensures { λ r. ⌜ FieldRead r (now (x .entry)) p depth (now (kinds .entry)) (names-of (now (names .entry)) used) (now (g .entry)) (now (g .exit)) from ⌝ }
-    ensures { λ r. ⌜ ZerosUnless r (now (g .exit)) ⌝ }
+    ensures { λ r. ⌜ ClearedUnless r (now (g .exit)) ⌝ }
 {
     match name_of(x) {
         Named::Is(i) => output_read(kinds, i, p, g, from),
@@ -200,7 +200,7 @@ fn field_form(
     from: u32,
 ) -> bool
     ensures { λ r. ⌜ FieldFormRead r (now (e .entry)) depth (now (kinds .entry)) (names-of (now (names .entry)) used) (now (g .entry)) (now (g .exit)) from ⌝ }
-    ensures { λ r. ⌜ ZerosUnless r (now (g .exit)) ⌝ }
+    ensures { λ r. ⌜ ClearedUnless r (now (g .exit)) ⌝ }
 {
     let a = next_end(e, 2);
     let p = number_at(e, a, next_end(e, a));
@@ -217,7 +217,7 @@ fn field_form(
 }
 
 // The node `from` reads what the expression e reads: false where a limit is passed or an index is outside INT, and then
-// the graph is emptied.
+// the graph is cleared.
 pub fn expr_reads(
     e: &[u8],
     depth: u32,
@@ -228,7 +228,7 @@ pub fn expr_reads(
     from: u32,
 ) -> bool
     ensures { λ r. ⌜ ExprRead r (now (e .entry)) depth (now (kinds .entry)) (names-of (now (names .entry)) used) (now (g .entry)) (now (g .exit)) from ⌝ }
-    ensures { λ r. ⌜ ZerosUnless r (now (g .exit)) ⌝ }
+    ensures { λ r. ⌜ ClearedUnless r (now (g .exit)) ⌝ }
 {
     if parts::byte(e, 0) != b'(' {
         return true;
@@ -260,7 +260,7 @@ fn parts_read(
     from: u32,
 ) -> bool
     ensures { λ r. ⌜ PartsRead r (drop end (now (e .entry))) depth (now (kinds .entry)) (names-of (now (names .entry)) used) (now (g .entry)) (now (g .exit)) from ⌝ }
-    ensures { λ r. ⌜ ZerosUnless r (now (g .exit)) ⌝ }
+    ensures { λ r. ⌜ ClearedUnless r (now (g .exit)) ⌝ }
 {
     let mut a = end;
     while parts::more(e, a) {
@@ -281,7 +281,7 @@ fn under(depth: u32, k: u32) -> u32
 }
 
 // The `wire` line x heads its signal, which reads its expression. The name stands behind the 5 bytes of `(wire`, START behind the
-// expression. Where it says false the graph is emptied.
+// expression. Where it says false the graph is cleared.
 pub fn wire_heads(
     x: &[u8],
     depth: u32,
@@ -291,7 +291,7 @@ pub fn wire_heads(
     g: &mut [u32],
 ) -> bool
     ensures { λ r. ⌜ WireHeads r (now (x .entry)) depth (now (kinds .entry)) (names-of (now (names .entry)) used) (now (g .entry)) (now (g .exit)) ⌝ }
-    ensures { λ r. ⌜ ZerosUnless r (now (g .exit)) ⌝ }
+    ensures { λ r. ⌜ ClearedUnless r (now (g .exit)) ⌝ }
 {
     let a = next_end(x, 5);
     let b = next_end(x, a);
@@ -314,7 +314,7 @@ pub fn wire_heads(
 }
 
 // The `drive` line x heads its signal, an output or a wire by its kind (2, 3): it reads the expression, then the indexes. The LV stands
-// behind the 6 bytes of `(drive`, its name behind the 3 of `(lv`. Where it says false the graph is emptied.
+// behind the 6 bytes of `(drive`, its name behind the 3 of `(lv`. Where it says false the graph is cleared.
 pub fn drive_heads(
     x: &[u8],
     depth: u32,
@@ -324,7 +324,7 @@ pub fn drive_heads(
     g: &mut [u32],
 ) -> bool
     ensures { λ r. ⌜ DriveHeads r (now (x .entry)) depth (now (kinds .entry)) (names-of (now (names .entry)) used) (now (g .entry)) (now (g .exit)) ⌝ }
-    ensures { λ r. ⌜ ZerosUnless r (now (g .exit)) ⌝ }
+    ensures { λ r. ⌜ ClearedUnless r (now (g .exit)) ⌝ }
 {
     let a = next_end(x, 6);
     let lv = parts::between(x, 6, a);
@@ -453,7 +453,7 @@ fn conn_read(
     from: u32,
 ) -> bool
     ensures { λ r. ⌜ ConnRead r o (summary-at (now (w .entry)) first count) (now (c .entry)) depth (now (kinds .entry)) (names-of (now (names .entry)) used) (now (g .entry)) (now (g .exit)) from ⌝ }
-    ensures { λ r. ⌜ ZerosUnless r (now (g .exit)) ⌝ }
+    ensures { λ r. ⌜ ClearedUnless r (now (g .exit)) ⌝ }
 {
     let a = next_end(c, 5);
     if !reaches(w, first, count, o, number_at(c, 5, a)) {
@@ -486,7 +486,7 @@ fn conns_read(
     from: u32,
 ) -> bool
     ensures { λ r. ⌜ ConnsRead r o (summary-at (now (w .entry)) first count) (drop end (now (x .entry))) depth (now (kinds .entry)) (names-of (now (names .entry)) used) (now (g .entry)) (now (g .exit)) from ⌝ }
-    ensures { λ r. ⌜ ZerosUnless r (now (g .exit)) ⌝ }
+    ensures { λ r. ⌜ ClearedUnless r (now (g .exit)) ⌝ }
 {
     let mut a = end;
     while parts::more(x, a) {
@@ -526,7 +526,7 @@ fn output_head(
     g: &mut [u32],
 ) -> bool
     ensures { λ r. ⌜ OutputHead r o (worth index) (summary-at (now (w .entry)) first count) (now (x .entry)) depth (now (kinds .entry)) (names-of (now (names .entry)) used) (now (g .entry)) (now (g .exit)) ⌝ }
-    ensures { λ r. ⌜ ZerosUnless r (now (g .exit)) ⌝ }
+    ensures { λ r. ⌜ ClearedUnless r (now (g .exit)) ⌝ }
 {
     let a = next_end(x, 5);
     let c = next_end(x, next_end(x, a));
@@ -552,7 +552,7 @@ fn output_head(
 }
 
 // The `inst` line x heads every output in the summary of its module, `count` pairs of w from `first` on: an output with its last pair.
-// Where it says false the graph is emptied.
+// Where it says false the graph is cleared.
 pub fn inst_heads(
     x: &[u8],
     depth: u32,
@@ -566,7 +566,7 @@ pub fn inst_heads(
     g: &mut [u32],
 ) -> bool
     ensures { λ r. ⌜ InstHeads r (worth index) (summary-at (now (w .entry)) first count) (now (x .entry)) depth (now (kinds .entry)) (names-of (now (names .entry)) used) (now (g .entry)) (now (g .exit)) ⌝ }
-    ensures { λ r. ⌜ ZerosUnless r (now (g .exit)) ⌝ }
+    ensures { λ r. ⌜ ClearedUnless r (now (g .exit)) ⌝ }
 {
     let mut p = first;
     let mut left = count;

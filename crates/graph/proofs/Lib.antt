@@ -14,4 +14,4 @@ pub mod Steps
 pub mod Falling
 pub mod Reports
 pub mod Resetting
-pub mod Zeros
+pub mod Cleared

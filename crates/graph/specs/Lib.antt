@@ -3,4 +3,3 @@ pub mod Stands
 pub mod Reach
 pub mod Machine
 pub mod Cycles
-pub mod Zeros

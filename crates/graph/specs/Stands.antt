@@ -9,6 +9,7 @@ use Rattle.spec.specs.Graph.{_∈_, Once}
 use Rattle.spec.specs.Search.{among}
 use Rattle.spec.specs.Edge.{Node, same-node, Head, all-nodes, head-nodes, all-reads, edges-from, over-graph}
 use Rattle.spec.specs.Walk.{start-of}
+use Rattle.spec.specs.Cleared.{Cleared}
 use Rattle.graph.specs.Table.{count, edge-total, node-at, start-at, headed-at, nodes-below, source, target, edges-below, out, Linked}
 use Rattle.graph.specs.declared.Added as A
 use Rattle.graph.specs.declared.Added.the-variants as added
@@ -70,3 +71,8 @@ Headed added.Full g hs n start = over-graph (hs ++ head-of n start [] ∷ []) �
 abbrev pub Read : A.Added → List ℕ → List Head → Node → ℕ → List Node → ℕ → Node → Type 0
 Read (added.At j) g hs n start rs i m = Heading g hs n start (rs ++ m ∷ []) i
 Read added.Full g hs n start rs i m = over-graph (hs ++ head-of n start (rs ++ m ∷ []) ∷ []) ≡ true
+
+-- 01, Refused because of the state; Worthless checks: where a limit is passed every place of the graph is 0, whatever was lent
+abbrev pub ClearedAtFull : A.Added → List ℕ → Type 0
+ClearedAtFull (added.At i) g = Unit {0}
+ClearedAtFull added.Full g = Cleared g

@@ -10,9 +10,8 @@ use lib.Dec.{eqb}
 use borrow.Author.Tests.{lt-ltb, eqb-true, eqb-false}
 use Rattle.spec.specs.Edge.{Node, Head}
 use Rattle.graph.specs.Table.{node-words, node-at}
-use Rattle.graph.specs.Stands.{Stands, Heading, Headed, Read}
+use Rattle.graph.specs.Stands.{Stands, Heading, Headed, Read, ClearedAtFull}
 use Rattle.graph.specs.Cycles.{Awaits, Next, words-from}
-use Rattle.graph.specs.Zeros.{ZerosAtFull}
 use Rattle.graph.specs.declared.Added as A
 use Rattle.graph.specs.declared.Added.the-variants as added
 use Rattle.graph.specs.declared.Cycle as C
@@ -24,9 +23,9 @@ use Rattle.graph_c.specs.Code.{added-of, said, Said, loop-at, Kept, Copi
 small-at : (i : ℕ) → i < 512 → added-of i ≡ added.At i
 small-at i l = rw (lt-ltb i 512 l, added-of)
 
--- then nothing is said of zeros
-pub zeros-at : (i : ℕ) (g : List ℕ) → i < 512 → ZerosAtFull (added-of i) g
-zeros-at i g l = subst (λ (x : A.Added). ZerosAtFull x g) (sym (small-at i l)) tt
+-- then nothing is cleared
+pub node-uncleared : (i : ℕ) (g : List ℕ) → i < 512 → ClearedAtFull (added-of i) g
+node-uncleared i g l = subst (λ (x : A.Added). ClearedAtFull x g) (sym (small-at i l)) tt
 
 module _ (a : A.Added) (g g′ : List ℕ) (n m : Node) (start : ℕ) (f : (hs : List Head) → Stands g hs → Headed a g′ hs n start) (q : n ≡ m) where
   pub head-at : (i : ℕ) → a ≡ added.At i → (hs : List Head) → Stands g hs → Headed (added-of i) g′ hs m start

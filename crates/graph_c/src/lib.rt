@@ -11,9 +11,8 @@ ghost use lib.ListN.{length, set, replicate};
 ghost use Rattle.spec.specs.Edge.{Node as SpecNode, Head};
 ghost use Rattle.spec.specs.Walk.{find-cycles};
 ghost use Rattle.graph.specs.Table.{node-of, node-words, start-at};
-ghost use Rattle.graph.specs.Stands.{Stands, Heading, Headed, Read};
+ghost use Rattle.graph.specs.Stands.{Stands, Heading, Headed, Read, ClearedAtFull};
 ghost use Rattle.graph.specs.Cycles.{Roomy, Awaits};
-ghost use Rattle.graph.specs.Zeros.{ZerosAtFull};
 ghost use Rattle.graph_c.specs.Code.{added-of, read-of, said, Said, Copied, Kept, Taken};
 
 // The node that four numbers say.
@@ -38,7 +37,7 @@ pub extern "C" fn drivercheck_graph_clear(g: &mut [u32])
     graph::clear(g)
 }
 
-// A line with this START heads the node: its number, or 512 where that is one node too many; then the graph is emptied.
+// A line with this START heads the node: its number, or 512 where that is one node too many; then the graph is cleared.
 #[no_mangle]
 pub extern "C" fn drivercheck_graph_head(
     g: &mut [u32],
@@ -49,13 +48,14 @@ pub extern "C" fn drivercheck_graph_head(
     start: u32,
 ) -> u32
     ensures { λ r. ⌜ ((hs : List Head) → Stands (now (g .entry)) hs → Headed (added-of r) (now (g .exit)) hs (node-words kind name index output) start) ⌝ }
-    ensures { λ r. ⌜ ZerosAtFull (added-of r) (now (g .exit)) ⌝ }
+    ensures { λ r. ⌜ ClearedAtFull (added-of r) (now (g .exit)) ⌝ }
 {
     match graph::head(g, node(kind, name, index, output), start) {
         Added::At(i) => {
             if i < 512 {
                 return i;
             }
+            // Only a slice that stands for no graph has more nodes.
             graph::clear(g);
             512
         }
@@ -63,7 +63,7 @@ pub extern "C" fn drivercheck_graph_head(
     }
 }
 
-// The node `from`, which the last line headed, reads the node: 1, or 0 where that is one node or edge too many; then the graph is emptied.
+// The node `from`, which the last line headed, reads the node: 1, or 0 where that is one node or edge too many; then the graph is cleared.
 #[no_mangle]
 pub extern "C" fn drivercheck_graph_read(
     g: &mut [u32],
@@ -75,7 +75,7 @@ pub extern "C" fn drivercheck_graph_read(
 ) -> u32
     ensures { λ r. ⌜ ((hs : List Head) (h : SpecNode) (start : ℕ) (rs : List SpecNode) → Heading (now (g .entry)) hs h start rs from
         → Read (read-of r) (now (g .exit)) hs h start rs from (node-words kind name index output)) ⌝ }
-    ensures { λ r. ⌜ ZerosAtFull (read-of r) (now (g .exit)) ⌝ }
+    ensures { λ r. ⌜ ClearedAtFull (read-of r) (now (g .exit)) ⌝ }
 {
     match graph::read(g, from, node(kind, name, index, output)) {
         Added::At(_) => 1,

@@ -14,7 +14,7 @@ ghost use Rattle.spec.specs.Value.{value};
 ghost use Rattle.consteval.specs.Worth.{names-of};
 ghost use Rattle.lines.specs.Parts.{piece};
 ghost use Rattle.sites.specs.Own.{places};
-ghost use Rattle.graph.specs.Zeros.{ZerosUnless};
+ghost use Rattle.spec.specs.Cleared.{ClearedUnless};
 ghost use Rattle.walk.specs.Walk.{no-own};
 ghost use Rattle.items.specs.Held.{Held};
 ghost use Rattle.items.specs.Lines.{Emptied, NumberIs, NamedAt, ConstantIs, ExtentAt, SetAfter, DefaultAfter, StmtAfter, StmtsAfter, PortLine, RegLine, MemLine, DriveOutput, DriveLine, OnLine, OwnLine, OutsideIs};
@@ -211,7 +211,7 @@ fn drive_output(
 ) -> bool
     ensures { λ r. ⌜ DriveOutput r (now (lv .entry)) l bound depth (names-of (now (names .entry)) used) (now (own .entry)) (now (own .exit)) ⌝ }
     ensures { λ _. ⌜ length (now (own .exit)) ≡ length (now (own .entry)) ⌝ }
-    ensures { λ r. ⌜ ZerosUnless r (now (own .exit)) ⌝ }
+    ensures { λ r. ⌜ ClearedUnless r (now (own .exit)) ⌝ }
 {
     let end = l.end;
     match lvalue_extent(lv, end, bound, depth, names, used) {
@@ -248,7 +248,7 @@ fn drive(
 ) -> bool
     ensures { λ r. ⌜ DriveLine r (now (x .entry)) bound depth (now (kinds .entry)) (names-of (now (names .entry)) used) (now (own .entry)) (now (own .exit)) ⌝ }
     ensures { λ _. ⌜ length (now (own .exit)) ≡ length (now (own .entry)) ⌝ }
-    ensures { λ r. ⌜ ZerosUnless r (now (own .exit)) ⌝ }
+    ensures { λ r. ⌜ ClearedUnless r (now (own .exit)) ⌝ }
 {
     let lv = parts::between(x, 6, parts::part_end(x, 7));
     let l = named_at(lv, 3);
@@ -275,7 +275,7 @@ fn drive(
 fn set_stmt(s: &[u8], block: u32, kinds: &[u8], own: &mut [u32]) -> bool
     ensures { λ r. ⌜ SetAfter r (now (s .entry)) block (now (kinds .entry)) (now (own .entry)) (now (own .exit)) ⌝ }
     ensures { λ _. ⌜ length (now (own .exit)) ≡ length (now (own .entry)) ⌝ }
-    ensures { λ r. ⌜ ZerosUnless r (now (own .exit)) ⌝ }
+    ensures { λ r. ⌜ ClearedUnless r (now (own .exit)) ⌝ }
 {
     let l = named_at(s, 4);
     let k = parts::byte(kinds, l.name as usize);
@@ -302,7 +302,7 @@ fn set_stmt(s: &[u8], block: u32, kinds: &[u8], own: &mut [u32]) -> bool
 fn default_stmt(s: &[u8], block: u32, kinds: &[u8], own: &mut [u32]) -> bool
     ensures { λ r. ⌜ DefaultAfter r (now (s .entry)) block (now (kinds .entry)) (now (own .entry)) (now (own .exit)) ⌝ }
     ensures { λ _. ⌜ length (now (own .exit)) ≡ length (now (own .entry)) ⌝ }
-    ensures { λ r. ⌜ ZerosUnless r (now (own .exit)) ⌝ }
+    ensures { λ r. ⌜ ClearedUnless r (now (own .exit)) ⌝ }
 {
     let n = number(s, 8, parts::part_end(s, 9));
     if parts::byte(kinds, n as usize) != 4 {
@@ -321,7 +321,7 @@ fn default_stmt(s: &[u8], block: u32, kinds: &[u8], own: &mut [u32]) -> bool
 fn block_stmt(s: &[u8], block: u32, depth: u32, kinds: &[u8], own: &mut [u32]) -> bool
     ensures { λ r. ⌜ StmtAfter r (now (s .entry)) block depth (now (kinds .entry)) (now (own .entry)) (now (own .exit)) ⌝ }
     ensures { λ _. ⌜ length (now (own .exit)) ≡ length (now (own .entry)) ⌝ }
-    ensures { λ r. ⌜ ZerosUnless r (now (own .exit)) ⌝ }
+    ensures { λ r. ⌜ ClearedUnless r (now (own .exit)) ⌝ }
 {
     if depth == 0 {
         return true;
@@ -351,7 +351,7 @@ fn block_stmt(s: &[u8], block: u32, depth: u32, kinds: &[u8], own: &mut [u32]) -
 fn block_stmts(s: &[u8], end: usize, block: u32, depth: u32, kinds: &[u8], own: &mut [u32]) -> bool
     ensures { λ r. ⌜ StmtsAfter r (now (s .entry)) end block depth (now (kinds .entry)) (now (own .entry)) (now (own .exit)) ⌝ }
     ensures { λ _. ⌜ length (now (own .exit)) ≡ length (now (own .entry)) ⌝ }
-    ensures { λ r. ⌜ ZerosUnless r (now (own .exit)) ⌝ }
+    ensures { λ r. ⌜ ClearedUnless r (now (own .exit)) ⌝ }
 {
     let mut e = end;
     while parts::more(s, e) {
@@ -368,7 +368,7 @@ fn block_stmts(s: &[u8], end: usize, block: u32, depth: u32, kinds: &[u8], own: 
 fn on_block(x: &[u8], depth: u32, kinds: &[u8], own: &mut [u32]) -> bool
     ensures { λ r. ⌜ OnLine r (now (x .entry)) depth (now (kinds .entry)) (now (own .entry)) (now (own .exit)) ⌝ }
     ensures { λ _. ⌜ length (now (own .exit)) ≡ length (now (own .entry)) ⌝ }
-    ensures { λ r. ⌜ ZerosUnless r (now (own .exit)) ⌝ }
+    ensures { λ r. ⌜ ClearedUnless r (now (own .exit)) ⌝ }
 {
     let a = parts::part_end(x, 4);
     let block = number(x, 3, a);
@@ -376,7 +376,7 @@ fn on_block(x: &[u8], depth: u32, kinds: &[u8], own: &mut [u32]) -> bool
 }
 
 // What the collected line x adds to the tables of its module's own check, by the first byte of its word; the line begins at `base` of
-// the text. False where a constant is outside INT or a limit is passed; the tables are emptied then.
+// the text. False where a constant is outside INT or a limit is passed; the tables are cleared then.
 pub fn own_line(
     x: &[u8],
     base: u32,
@@ -389,7 +389,7 @@ pub fn own_line(
 ) -> bool
     ensures { λ r. ⌜ OwnLine r (now (x .entry)) base bound depth (now (kinds .entry)) (names-of (now (names .entry)) used) (now (own .entry)) (now (own .exit)) ⌝ }
     ensures { λ _. ⌜ length (now (own .exit)) ≡ length (now (own .entry)) ⌝ }
-    ensures { λ r. ⌜ ZerosUnless r (now (own .exit)) ⌝ }
+    ensures { λ r. ⌜ ClearedUnless r (now (own .exit)) ⌝ }
 {
     let c = parts::byte(x, 1);
     if c == b'd' {

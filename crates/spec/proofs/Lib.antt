@@ -36,3 +36,4 @@ pub mod Situations
 pub mod SoundSummaries
 pub mod Summaries
 pub mod Triples
+pub mod Cleared

@@ -28,3 +28,4 @@ pub mod Refusals
 pub mod Rest
 pub mod Situations
 pub mod Summaries
+pub mod Cleared

@@ -18,7 +18,7 @@ use Rattle.graph.specs.Cycles.{Zeroed}
 use Rattle.graph.proofs.Sorting.{zeroed-none, zeroed-more}
 use Rattle.edges.specs.Lines.{summary-at}
 use Rattle.walk.specs.Alike.{Alike}
-use Rattle.summary.specs.Keeps.{state-word, start-of, count-of, total-of, kept-places, first-of, pairs-of, StateIs, Keeps, Says, Emptied}
+use Rattle.summary.specs.Keeps.{state-word, start-of, count-of, total-of, kept-places, first-of, pairs-of, StateIs, Keeps, Says, Reset}
 use Rattle.summary.specs.declared.State.the-variants as states
 
 -- ---- words
@@ -128,11 +128,11 @@ pub zeroed-next : (k₀ k : List ℕ) (i : ℕ) → Zeroed 0 i k₀ k → {k′ 
 zeroed-next k₀ k i Z q = zeroed-more Z (q ∙ ap (λ (j : ℕ). set k j 0) (omega arith))
 
 -- all of them, and then the number of all pairs
-pub emptied : (k w : List ℕ) (i : ℕ) → i ≤ 32 → 32 ≤ i → Zeroed 0 i k w → {k′ : List ℕ} → k′ ≡ set w 96 0 → Emptied k k′
+pub emptied : (k w : List ℕ) (i : ℕ) → i ≤ 32 → 32 ≤ i → Zeroed 0 i k w → {k′ : List ℕ} → k′ ≡ set w 96 0 → Reset k k′
 emptied k w i l g Z q = let e : i ≡ 32 = omega arith in (w, rw e at Z, zeroed-more (zeroed-none 96 w) q)
 
 -- then no summary is kept
-pub none-kept : (k k′ : List ℕ) → Emptied k k′ → kept-places ≤ length k → Keeps k′ [] []
+pub none-kept : (k k′ : List ℕ) → Reset k k′ → kept-places ≤ length k → Keeps k′ [] []
 unfolding kept-summary has-name triples
 none-kept k k′ E z =
     let a = E .1 .size in

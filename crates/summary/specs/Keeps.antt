@@ -61,9 +61,9 @@ pub record Keeps (k : List ℕ) (kept : Kept) (busy : List ℕ) : Type 0 where
   pub total : total-of k ≡ triples kept
   pub few : triples kept ≤ triple-limit
 
--- 01, Refused because of the state: the states and then the number of all pairs are 0, and every other word stays
-abbrev pub Emptied : List ℕ → List ℕ → Type 0
-Emptied k k′ = (w : List ℕ) × Zeroed 0 32 k w × Zeroed 96 1 w k′
+-- 01, The edge: before the first summary is asked for: the states and then the number of all pairs are 0, and every other word stays
+abbrev pub Reset : List ℕ → List ℕ → Type 0
+Reset k k′ = (w : List ℕ) × Zeroed 0 32 k w × Zeroed 96 1 w k′
 
 -- module m is kept, with so many pairs from that number on
 unfoldable pub recorded : List ℕ → ℕ → ℕ → ℕ → List ℕ

@@ -13,9 +13,9 @@ ghost use Rattle.spec.specs.Summary.{Kept, kept-summary, paired};
 ghost use Rattle.runs.specs.Run.{ShowsItem, RunOf};
 ghost use Rattle.graph.specs.Stands.{Stands};
 ghost use Rattle.graph.specs.Reach.{Clean, found};
-ghost use Rattle.graph.specs.Zeros.{ZerosUnless};
+ghost use Rattle.spec.specs.Cleared.{ClearedUnless};
 ghost use Rattle.edges.specs.Reads.{KindsOf};
-ghost use Rattle.summary.specs.Keeps.{first-of, count-of, total-of, kept-places, Keeps, Says, recorded, Made, Emptied};
+ghost use Rattle.summary.specs.Keeps.{first-of, count-of, total-of, kept-places, Keeps, Says, recorded, Made, Reset};
 ghost use Rattle.summary.specs.Pairs.{Grown, Added, OutputAdded, PortIs, IsName};
 
 // A module that no line asked for yet, one that is being summarised, one whose summary is kept.
@@ -102,7 +102,7 @@ pub fn begin(k: &mut [u32], m: u32)
 // No summary is kept, and no module is in progress.
 pub fn reset(k: &mut [u32])
     ensures { λ _. ⌜ (kept-places ≤ length (now (k .entry)) → Keeps (now (k .exit)) [] []) ⌝ }
-    ensures { λ _. ⌜ Emptied (now (k .entry)) (now (k .exit)) ⌝ }
+    ensures { λ _. ⌜ Reset (now (k .entry)) (now (k .exit)) ⌝ }
 {
     let mut i: usize = 0;
     while i < MODULES {
@@ -188,12 +188,12 @@ fn keep(k: &mut [u32], m: u32, start: u32, count: u32)
 }
 
 // Makes the summary of the module m, which is in progress, from the run s of its items and its graph g, and keeps it: false where that
-// is a triple too many; the table is emptied then.
+// is a triple too many; the table is cleared then.
 pub fn summarise(s: &[u8], kinds: &[u8], g: &[u32], k: &mut [u32], m: u32) -> bool
     ensures { λ r. ⌜ ((d : ℕ) (M : Module) (heads : List Head) (kept : Kept) (busy : List ℕ)
         → RunOf d (now (s .entry)) (M .items) → KindsOf (now (kinds .entry)) (M .header) → Stands (now (g .entry)) heads → Keeps (now (k .entry)) kept (m ∷ busy) → m < 32
         → Made r (now (k .exit)) m M heads kept busy) ⌝ }
-    ensures { λ r. ⌜ ZerosUnless r (now (k .exit)) ⌝ }
+    ensures { λ r. ⌜ ClearedUnless r (now (k .exit)) ⌝ }
 {
     let start = at(k, TOTAL);
     let mut seen = [0u8; NAMES];

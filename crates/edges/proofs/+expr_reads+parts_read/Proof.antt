@@ -10,7 +10,7 @@ use borrow.Author.Tests.{not-true, not-false}
 use Rattle.consteval.specs.Worth.{names-of}
 use Rattle.lines.proofs.PartLaws.{follows-in}
 use Rattle.edges.specs.Shows.{PartsRead}
-use Rattle.graph.proofs.Zeros.{false-zeros}
+use Rattle.spec.proofs.Cleared.{false-cleared}
 use Rattle.edges.proofs.PartLaws.{expr-atom, expr-name, expr-shut, expr-field, expr-parts, parts-none, parts-stop, parts-more}
 use Prim.Native.Nat.{ℕ, _<_}
 use borrow.Fn.Kinds.{In}
@@ -145,7 +145,7 @@ parts-read-same-length : (t : ℕ) → parts-read-lts.Need-same-length (parts-re
 parts-read-same-length t c = search needs
 
 parts-read-returns : (t : ℕ) → parts-read-lts.Need-returns (parts-read-claims t) (parts-read-at t) parts-read.Post parts-read-Inv-loop parts-read-μ-loop
-parts-read-returns t c = (c .before .before .before .before .before .before .before .before .before .loop .inv .1 false (c .before .before .before .expr-reads .last .1 .1 .1 .1 .1 .0) (parts-stop (c .before .before .before .before .before .before .before .before .before .before .before .before .before .before .args .e .now) (c .before .before .before .before .before .before .before .before .before .loop .a) (c .before .before .before .before .before .before .before .before .before .before .before .before .before .before .args .depth) (c .before .before .before .before .before .before .before .before .before .before .before .before .before .before .args .kinds .now) (names-of (c .before .before .before .before .before .before .before .before .before .before .before .before .before .before .args .names .now) (c .before .before .before .before .before .before .before .before .before .before .before .before .before .before .args .used)) (c .before .before .before .before .before .before .before .before .before .before .before .before .before .before .args .from) (sym (c .before .before .before .before .before .before .before .before .more .ensures) ∙ c .before .before .before .before .before .before .before .if1 .taken) (c .before .before .before .before .before .before .part-end .ensures) (c .before .before .before .before .before .between .ensures) (c .before .before .before .before .before .before .before .before .before .loop .g) (c .before .before .before .expr-reads .last .1 .1 .1 .1 .1 .0) (c .before .before .before .expr-reads .result) (not-true _ (c .if2 .taken)) (c .before .before .before .expr-reads .ensures .0)), false-zeros (c .before .before .before .expr-reads .result) _ (not-true _ (c .if2 .taken)) (c .before .before .before .expr-reads .ensures .1))
+parts-read-returns t c = (c .before .before .before .before .before .before .before .before .before .loop .inv .1 false (c .before .before .before .expr-reads .last .1 .1 .1 .1 .1 .0) (parts-stop (c .before .before .before .before .before .before .before .before .before .before .before .before .before .before .args .e .now) (c .before .before .before .before .before .before .before .before .before .loop .a) (c .before .before .before .before .before .before .before .before .before .before .before .before .before .before .args .depth) (c .before .before .before .before .before .before .before .before .before .before .before .before .before .before .args .kinds .now) (names-of (c .before .before .before .before .before .before .before .before .before .before .before .before .before .before .args .names .now) (c .before .before .before .before .before .before .before .before .before .before .before .before .before .before .args .used)) (c .before .before .before .before .before .before .before .before .before .before .before .before .before .before .args .from) (sym (c .before .before .before .before .before .before .before .before .more .ensures) ∙ c .before .before .before .before .before .before .before .if1 .taken) (c .before .before .before .before .before .before .part-end .ensures) (c .before .before .before .before .before .between .ensures) (c .before .before .before .before .before .before .before .before .before .loop .g) (c .before .before .before .expr-reads .last .1 .1 .1 .1 .1 .0) (c .before .before .before .expr-reads .result) (not-true _ (c .if2 .taken)) (c .before .before .before .expr-reads .ensures .0)), false-cleared (c .before .before .before .expr-reads .result) _ (not-true _ (c .if2 .taken)) (c .before .before .before .expr-reads .ensures .1))
 
 parts-read-loop-less : (t : ℕ) → parts-read-lts.Need-loop-less (parts-read-claims t) (parts-read-at t) parts-read.Post parts-read-Inv-loop parts-read-μ-loop
 parts-read-loop-less t c = omega (arith, follows-in (c .before .before .before .before .before .before .before .before .before .before .before .before .before .before .args .e .now) (c .before .before .before .before .before .before .before .before .before .loop .a) (sym (c .before .before .before .before .before .before .before .before .more .ensures) ∙ c .before .before .before .before .before .before .before .if1 .taken), c .before .before .before .before .before .before .part-end .ensures)

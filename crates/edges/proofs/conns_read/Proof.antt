@@ -10,7 +10,7 @@ use borrow.Author.Tests.{not-true, not-false}
 use Rattle.consteval.specs.Worth.{names-of}
 use Rattle.lines.proofs.PartLaws.{follows-in}
 use Rattle.edges.specs.Lines.{summary-at, ConnsRead}
-use Rattle.graph.proofs.Zeros.{false-zeros}
+use Rattle.spec.proofs.Cleared.{false-cleared}
 use Rattle.edges.proofs.OutputLaws.{conns-none, conns-stop, conns-more}
 use Rattle.edges.proofs.conns_read.Statement.{statement}
 use Rattle.edges.proofs.conns_read.Tie as tie
@@ -43,7 +43,7 @@ same-length : tie.Need-same-length Inv-loop μ-loop
 same-length c = search needs
 
 returns : tie.Need-returns Inv-loop μ-loop
-returns c = (c .before .before .before .before .before .before .before .before .before .loop .inv .1 false (c .before .before .before .conn-read .last .1 .1 .1 .1 .1 .1 .1 .1 .1 .0) (conns-stop (c .before .before .before .before .before .before .before .before .before .before .before .before .before .before .before .args .o) (summary-at (c .before .before .before .before .before .before .before .before .before .before .before .before .before .before .before .args .w .now) (c .before .before .before .before .before .before .before .before .before .before .before .before .before .before .before .args .first) (c .before .before .before .before .before .before .before .before .before .before .before .before .before .before .before .args .count)) (c .before .before .before .before .before .before .before .before .before .before .before .before .before .before .before .args .x .now) (c .before .before .before .before .before .before .before .before .before .loop .a) (c .before .before .before .before .before .before .before .before .before .before .before .before .before .before .before .args .depth) (c .before .before .before .before .before .before .before .before .before .before .before .before .before .before .before .args .kinds .now) (names-of (c .before .before .before .before .before .before .before .before .before .before .before .before .before .before .before .args .names .now) (c .before .before .before .before .before .before .before .before .before .before .before .before .before .before .before .args .used)) (c .before .before .before .before .before .before .before .before .before .before .before .before .before .before .before .args .from) (sym (c .before .before .before .before .before .before .before .before .more .ensures) ∙ c .before .before .before .before .before .before .before .if1 .taken) (c .before .before .before .before .before .before .part-end .ensures) (c .before .before .before .before .before .between .ensures) (c .before .before .before .before .before .before .before .before .before .loop .g) (c .before .before .before .conn-read .last .1 .1 .1 .1 .1 .1 .1 .1 .1 .0) (c .before .before .before .conn-read .result) (not-true _ (c .if2 .taken)) (c .before .before .before .conn-read .ensures .0)), false-zeros (c .before .before .before .conn-read .result) _ (not-true _ (c .if2 .taken)) (c .before .before .before .conn-read .ensures .1))
+returns c = (c .before .before .before .before .before .before .before .before .before .loop .inv .1 false (c .before .before .before .conn-read .last .1 .1 .1 .1 .1 .1 .1 .1 .1 .0) (conns-stop (c .before .before .before .before .before .before .before .before .before .before .before .before .before .before .before .args .o) (summary-at (c .before .before .before .before .before .before .before .before .before .before .before .before .before .before .before .args .w .now) (c .before .before .before .before .before .before .before .before .before .before .before .before .before .before .before .args .first) (c .before .before .before .before .before .before .before .before .before .before .before .before .before .before .before .args .count)) (c .before .before .before .before .before .before .before .before .before .before .before .before .before .before .before .args .x .now) (c .before .before .before .before .before .before .before .before .before .loop .a) (c .before .before .before .before .before .before .before .before .before .before .before .before .before .before .before .args .depth) (c .before .before .before .before .before .before .before .before .before .before .before .before .before .before .before .args .kinds .now) (names-of (c .before .before .before .before .before .before .before .before .before .before .before .before .before .before .before .args .names .now) (c .before .before .before .before .before .before .before .before .before .before .before .before .before .before .before .args .used)) (c .before .before .before .before .before .before .before .before .before .before .before .before .before .before .before .args .from) (sym (c .before .before .before .before .before .before .before .before .more .ensures) ∙ c .before .before .before .before .before .before .before .if1 .taken) (c .before .before .before .before .before .before .part-end .ensures) (c .before .before .before .before .before .between .ensures) (c .before .before .before .before .before .before .before .before .before .loop .g) (c .before .before .before .conn-read .last .1 .1 .1 .1 .1 .1 .1 .1 .1 .0) (c .before .before .before .conn-read .result) (not-true _ (c .if2 .taken)) (c .before .before .before .conn-read .ensures .0)), false-cleared (c .before .before .before .conn-read .result) _ (not-true _ (c .if2 .taken)) (c .before .before .before .conn-read .ensures .1))
 
 loop-less : tie.Need-loop-less Inv-loop μ-loop
 loop-less c = omega (arith, follows-in (c .before .before .before .before .before .before .before .before .before .before .before .before .before .before .before .args .x .now) (c .before .before .before .before .before .before .before .before .before .loop .a) (sym (c .before .before .before .before .before .before .before .before .more .ensures) ∙ c .before .before .before .before .before .before .before .if1 .taken), c .before .before .before .before .before .before .part-end .ensures)

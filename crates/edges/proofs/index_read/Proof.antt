@@ -1,6 +1,6 @@
 -- `index_read` meets its contract, one law for each way. Assumes nothing.
-use Rattle.graph.proofs.Zeros.{full-zeros}
-use Rattle.graph.proofs.Zeros.{zeros-of}
+use Rattle.graph.proofs.Cleared.{full-cleared}
+use Rattle.spec.proofs.Cleared.{cleared-of}
 use lib.ListN.{length}
 use Rattle.edges.proofs.InstLaws.{inst-not, index-missing, index-outside, index-at, index-full}
 use borrow.Author.Needs.{needs}
@@ -47,7 +47,7 @@ same-length-2 : tie.Need-same-length-2
 same-length-2 c = search needs
 
 returns-3 : tie.Need-returns-3
-returns-3 c = (index-full (c .before .before .before .before .before .before .before .before .before .before .before .before .before .before .before .before .args .kinds .now) (c .before .before .before .before .before .before .before .before .before .before .before .before .before .before .before .before .args .i) (c .before .before .before .before .before .before .before .before .before .before .before .before .before .before .before .before .args .g .now) (c .before .before .before .before .before .before .before .before .before .before .before .before .before .before .before .before .args .from) (c .before .before .before .before .before .before .before .before .before .before .before .byte .ensures) (c .before .before .before .before .before .before .before .before .before .before .if1 .left) (c .before .before .before .before .before .before .before .before .before .before .before .before .before .before .before .before .args .p) (c .before .before .before .before .before .before .before .before .before .eval .ensures) (c .before .before .before .before .before .before .before .v .given .1) (c .before .before .before .before .read .result) _ (c .before .before .before .before .read .ensures .0) (c .enum-told2 .given .1), full-zeros (c .before .before .before .before .read .result) _ (c .enum-told2 .given .1) (c .before .before .before .before .read .ensures .1))
+returns-3 c = (index-full (c .before .before .before .before .before .before .before .before .before .before .before .before .before .before .before .before .args .kinds .now) (c .before .before .before .before .before .before .before .before .before .before .before .before .before .before .before .before .args .i) (c .before .before .before .before .before .before .before .before .before .before .before .before .before .before .before .before .args .g .now) (c .before .before .before .before .before .before .before .before .before .before .before .before .before .before .before .before .args .from) (c .before .before .before .before .before .before .before .before .before .before .before .byte .ensures) (c .before .before .before .before .before .before .before .before .before .before .if1 .left) (c .before .before .before .before .before .before .before .before .before .before .before .before .before .before .before .before .args .p) (c .before .before .before .before .before .before .before .before .before .eval .ensures) (c .before .before .before .before .before .before .before .v .given .1) (c .before .before .before .before .read .result) _ (c .before .before .before .before .read .ensures .0) (c .enum-told2 .given .1), full-cleared (c .before .before .before .before .read .result) _ (c .enum-told2 .given .1) (c .before .before .before .before .read .ensures .1))
 
 returns-4 : tie.Need-returns-4
 returns-4 c = (index-missing (c .before .before .before .before .before .before .before .before .before .args .kinds .now) (c .before .before .before .before .before .before .before .before .before .args .i) (c .before .before .before .before .before .before .before .before .before .args .g .now) (c .before .before .before .before .before .before .before .before .before .args .from) (c .before .before .before .before .byte .ensures) (c .before .before .before .if1 .left) (c .before .before .before .before .before .before .before .before .before .args .p) (c .before .before .eval .ensures) (c .enum-told3 .given .1), tt)
@@ -56,7 +56,7 @@ same-length-3 : tie.Need-same-length-3
 same-length-3 c = search needs
 
 returns-5 : tie.Need-returns-5
-returns-5 c = (index-outside (c .before .before .before .before .before .before .before .before .before .before .before .before .before .args .kinds .now) (c .before .before .before .before .before .before .before .before .before .before .before .before .before .args .i) (c .before .before .before .before .before .before .before .before .before .before .before .before .before .args .g .now) (c .before .before .before .before .before .before .before .before .before .before .before .before .before .args .from) (c .before .before .before .before .before .before .before .before .byte .ensures) (c .before .before .before .before .before .before .before .if1 .left) (c .before .before .before .before .before .before .before .before .before .before .before .before .before .args .p) (c .before .before .before .before .before .before .eval .ensures) (c .before .before .clear .last .0) (c .before .before .before .before .enum-told4 .given .1), zeros-of (length (c .before .before .before .before .before .before .before .before .before .before .before .before .before .args .g .now)) (c .before .before .clear .last .0) (c .before .before .clear .ensures))
+returns-5 c = (index-outside (c .before .before .before .before .before .before .before .before .before .before .before .before .before .args .kinds .now) (c .before .before .before .before .before .before .before .before .before .before .before .before .before .args .i) (c .before .before .before .before .before .before .before .before .before .before .before .before .before .args .g .now) (c .before .before .before .before .before .before .before .before .before .before .before .before .before .args .from) (c .before .before .before .before .before .before .before .before .byte .ensures) (c .before .before .before .before .before .before .before .if1 .left) (c .before .before .before .before .before .before .before .before .before .before .before .before .before .args .p) (c .before .before .before .before .before .before .eval .ensures) (c .before .before .clear .last .0) (c .before .before .before .before .enum-told4 .given .1), cleared-of (length (c .before .before .before .before .before .before .before .before .before .before .before .before .before .args .g .now)) (c .before .before .clear .last .0) (c .before .before .clear .ensures))
 
 pub index-read-spec : {M : Type 1} → statement M
 index-read-spec =

@@ -9,7 +9,7 @@ use lib.ListN.{length}
 use borrow.Author.Tests.{not-true, not-false}
 use Rattle.consteval.specs.Worth.{names-of, worth}
 use Rattle.edges.specs.Lines.{summary-at, InstHeads}
-use Rattle.graph.proofs.Zeros.{false-zeros}
+use Rattle.spec.proofs.Cleared.{false-cleared}
 use Rattle.edges.proofs.PairLaws.{pair-word, no-pairs}
 use Rattle.edges.proofs.OutputLaws.{OutputsHead, outputs-all, outputs-none, outputs-later, outputs-stop, outputs-more}
 use Rattle.edges.proofs.inst_heads.Statement.{statement}
@@ -49,7 +49,7 @@ same-length : tie.Need-same-length Inv-loop μ-loop
 same-length c = search needs
 
 returns : tie.Need-returns Inv-loop μ-loop
-returns c = (c .before .before .before .before .before .before .before .before .before .before .loop .inv .1 false (c .before .before .before .output-head .last .1 .1 .1 .1 .1 .1 .1 .1 .1 .1 .0) (outputs-stop (worth (c .before .before .before .before .before .before .before .before .before .before .before .before .before .before .before .before .args .index)) (summary-at (c .before .before .before .before .before .before .before .before .before .before .before .before .before .before .before .before .args .w .now) (c .before .before .before .before .before .before .before .before .before .before .before .before .before .before .before .before .args .first) (c .before .before .before .before .before .before .before .before .before .before .before .before .before .before .before .before .args .count)) (c .before .before .before .before .before .before .before .before .before .before .before .before .before .before .before .before .args .x .now) (c .before .before .before .before .before .before .before .before .before .before .before .before .before .before .before .before .args .depth) (c .before .before .before .before .before .before .before .before .before .before .before .before .before .before .before .before .args .kinds .now) (names-of (c .before .before .before .before .before .before .before .before .before .before .before .before .before .before .before .before .args .names .now) (c .before .before .before .before .before .before .before .before .before .before .before .before .before .before .before .before .args .used)) (pair-word (c .before .before .before .before .before .before .before .before .before .before .before .before .before .before .before .before .args .w .now) (c .before .before .before .before .before .before .before .before .before .before .loop .p) (c .before .before .before .before .before .before .before .before .before .before .loop .left) (c .before .before .before .before .before .before .before .before .before .loop-test .taken) (c .before .before .before .before .before .before .before .next-pair .result) (c .before .before .before .before .before .before .before .next-pair .ensures) (c .before .before .before .before .before .before .before .before .word .ensures)) (c .before .before .before .before .before .before .has-output .ensures) (c .before .before .before .before .before .if1 .left) (c .before .before .before .before .before .before .before .before .before .before .loop .g) (c .before .before .before .output-head .last .1 .1 .1 .1 .1 .1 .1 .1 .1 .1 .0) (c .before .before .before .output-head .result) (c .before .before .before .output-head .ensures .0) (not-true _ (c .if2 .taken))), false-zeros (c .before .before .before .output-head .result) _ (not-true _ (c .if2 .taken)) (c .before .before .before .output-head .ensures .1))
+returns c = (c .before .before .before .before .before .before .before .before .before .before .loop .inv .1 false (c .before .before .before .output-head .last .1 .1 .1 .1 .1 .1 .1 .1 .1 .1 .0) (outputs-stop (worth (c .before .before .before .before .before .before .before .before .before .before .before .before .before .before .before .before .args .index)) (summary-at (c .before .before .before .before .before .before .before .before .before .before .before .before .before .before .before .before .args .w .now) (c .before .before .before .before .before .before .before .before .before .before .before .before .before .before .before .before .args .first) (c .before .before .before .before .before .before .before .before .before .before .before .before .before .before .before .before .args .count)) (c .before .before .before .before .before .before .before .before .before .before .before .before .before .before .before .before .args .x .now) (c .before .before .before .before .before .before .before .before .before .before .before .before .before .before .before .before .args .depth) (c .before .before .before .before .before .before .before .before .before .before .before .before .before .before .before .before .args .kinds .now) (names-of (c .before .before .before .before .before .before .before .before .before .before .before .before .before .before .before .before .args .names .now) (c .before .before .before .before .before .before .before .before .before .before .before .before .before .before .before .before .args .used)) (pair-word (c .before .before .before .before .before .before .before .before .before .before .before .before .before .before .before .before .args .w .now) (c .before .before .before .before .before .before .before .before .before .before .loop .p) (c .before .before .before .before .before .before .before .before .before .before .loop .left) (c .before .before .before .before .before .before .before .before .before .loop-test .taken) (c .before .before .before .before .before .before .before .next-pair .result) (c .before .before .before .before .before .before .before .next-pair .ensures) (c .before .before .before .before .before .before .before .before .word .ensures)) (c .before .before .before .before .before .before .has-output .ensures) (c .before .before .before .before .before .if1 .left) (c .before .before .before .before .before .before .before .before .before .before .loop .g) (c .before .before .before .output-head .last .1 .1 .1 .1 .1 .1 .1 .1 .1 .1 .0) (c .before .before .before .output-head .result) (c .before .before .before .output-head .ensures .0) (not-true _ (c .if2 .taken))), false-cleared (c .before .before .before .output-head .result) _ (not-true _ (c .if2 .taken)) (c .before .before .before .output-head .ensures .1))
 
 loop-less-2 : tie.Need-loop-less-2 Inv-loop μ-loop
 loop-less-2 c = omega arith

@@ -1,5 +1,5 @@
 -- `output_read` meets its contract, one law for each way. Assumes nothing.
-use Rattle.graph.proofs.Zeros.{full-zeros}
+use Rattle.graph.proofs.Cleared.{full-cleared}
 use Rattle.edges.proofs.InstLaws.{inst-not, inst-at, inst-full}
 use Rattle.edges.specs.Shows.{one-read}
 use Rattle.spec.specs.Edge.{inst-out}
@@ -33,7 +33,7 @@ same-length-2 : tie.Need-same-length-2
 same-length-2 c = search needs
 
 returns-3 : tie.Need-returns-3
-returns-3 c = (inst-full (c .before .before .before .before .before .before .before .before .before .before .args .kinds .now) (c .before .before .before .before .before .before .before .before .before .before .args .i) (c .before .before .before .before .before .before .before .before .before .before .args .g .now) (c .before .before .before .before .before .before .before .before .before .before .args .from) (c .before .before .before .before .before .before .before .byte .ensures) (c .before .before .before .before .before .before .if1 .left) (inst-out (c .before .before .before .before .before .before .before .before .before .before .args .i) none (c .before .before .before .before .before .before .before .before .before .before .args .p)) (c .before .before .before .before .read .result) _ (c .before .before .before .before .read .ensures .0) (c .enum-told2 .given .1), full-zeros (c .before .before .before .before .read .result) _ (c .enum-told2 .given .1) (c .before .before .before .before .read .ensures .1))
+returns-3 c = (inst-full (c .before .before .before .before .before .before .before .before .before .before .args .kinds .now) (c .before .before .before .before .before .before .before .before .before .before .args .i) (c .before .before .before .before .before .before .before .before .before .before .args .g .now) (c .before .before .before .before .before .before .before .before .before .before .args .from) (c .before .before .before .before .before .before .before .byte .ensures) (c .before .before .before .before .before .before .if1 .left) (inst-out (c .before .before .before .before .before .before .before .before .before .before .args .i) none (c .before .before .before .before .before .before .before .before .before .before .args .p)) (c .before .before .before .before .read .result) _ (c .before .before .before .before .read .ensures .0) (c .enum-told2 .given .1), full-cleared (c .before .before .before .before .read .result) _ (c .enum-told2 .given .1) (c .before .before .before .before .read .ensures .1))
 
 pub output-read-spec : {M : Type 1} → statement M
 output-read-spec =

@@ -1,6 +1,6 @@
 -- `wire_heads` meets its contract. Assumes nothing.
 use Rattle.consteval.specs.Worth.{names-of}
-use Rattle.graph.proofs.Zeros.{full-zeros}
+use Rattle.graph.proofs.Cleared.{full-cleared}
 use Rattle.edges.proofs.LineLaws.{wire-full, wire-reads}
 use borrow.Author.Needs.{needs}
 use Rattle.edges.proofs.wire_heads.Statement.{statement}
@@ -49,7 +49,7 @@ same-length-2 : tie.Need-same-length-2
 same-length-2 c = search needs
 
 returns-2 : tie.Need-returns-2
-returns-2 c = (wire-full (c .before .before .before .before .before .before .before .before .before .before .before .before .before .before .before .args .x .now) (c .before .before .before .before .before .before .before .before .before .before .before .before .before .before .before .args .depth) (c .before .before .before .before .before .before .before .before .before .before .next-end .ensures) (c .before .before .before .before .before .before .before .before .before .next-end2 .ensures) (c .before .before .before .before .before .before .before .before .number-at .ensures) (c .before .before .before .before .before .before .before .next-end3 .ensures) (c .before .before .before .before .before .before .number-at2 .ensures) (c .before .before .before .before .before .before .before .before .before .before .before .before .before .before .before .args .kinds .now) (names-of (c .before .before .before .before .before .before .before .before .before .before .before .before .before .before .before .args .names .now) (c .before .before .before .before .before .before .before .before .before .before .before .before .before .before .before .args .used)) (c .before .before .before .before .before .before .before .before .before .before .before .before .before .before .before .args .g .now) (c .before .before .before .before .head .result) _ (c .before .before .before .before .head .ensures .0) (c .enum-told .given .1), full-zeros (c .before .before .before .before .head .result) _ (c .enum-told .given .1) (c .before .before .before .before .head .ensures .1))
+returns-2 c = (wire-full (c .before .before .before .before .before .before .before .before .before .before .before .before .before .before .before .args .x .now) (c .before .before .before .before .before .before .before .before .before .before .before .before .before .before .before .args .depth) (c .before .before .before .before .before .before .before .before .before .before .next-end .ensures) (c .before .before .before .before .before .before .before .before .before .next-end2 .ensures) (c .before .before .before .before .before .before .before .before .number-at .ensures) (c .before .before .before .before .before .before .before .next-end3 .ensures) (c .before .before .before .before .before .before .number-at2 .ensures) (c .before .before .before .before .before .before .before .before .before .before .before .before .before .before .before .args .kinds .now) (names-of (c .before .before .before .before .before .before .before .before .before .before .before .before .before .before .before .args .names .now) (c .before .before .before .before .before .before .before .before .before .before .before .before .before .before .before .args .used)) (c .before .before .before .before .before .before .before .before .before .before .before .before .before .before .before .args .g .now) (c .before .before .before .before .head .result) _ (c .before .before .before .before .head .ensures .0) (c .enum-told .given .1), full-cleared (c .before .before .before .before .head .result) _ (c .enum-told .given .1) (c .before .before .before .before .head .ensures .1))
 
 pub wire-heads-spec : {M : Type 1} → statement M
 wire-heads-spec =

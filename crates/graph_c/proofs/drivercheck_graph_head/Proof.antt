@@ -2,8 +2,9 @@
 use native.Mathlib.Omega.{arith}
 use lib.ListN.{length}
 use Rattle.graph.specs.Table.{node-of, node-words}
-use Rattle.graph.proofs.Zeros.{zeros-of, full-zeros}
-use Rattle.graph_c.proofs.Laws.{zeros-at, head-at, head-past, head-full}
+use Rattle.spec.proofs.Cleared.{cleared-of}
+use Rattle.graph.proofs.Cleared.{full-cleared}
+use Rattle.graph_c.proofs.Laws.{node-uncleared, head-at, head-past, head-full}
 use borrow.Author.Needs.{needs}
 use Rattle.graph_c.proofs.drivercheck_graph_head.Statement.{statement}
 use Rattle.graph_c.proofs.drivercheck_graph_head.Tie as tie
@@ -21,7 +22,7 @@ same-length : tie.Need-same-length
 same-length c = search needs
 
 returns : tie.Need-returns
-returns c = (head-at (c .before .before .before .before .before .before .head .result) (c .before .before .before .before .before .before .before .before .before .before .args .g .now) (c .before .before .before .before .before .before .head .last .0) (node-of (c .before .before .before .before .before .before .before .node .result)) (node-words (c .before .before .before .before .before .before .before .before .before .before .args .kind) (c .before .before .before .before .before .before .before .before .before .before .args .name) (c .before .before .before .before .before .before .before .before .before .before .args .index) (c .before .before .before .before .before .before .before .before .before .before .args .output)) (c .before .before .before .before .before .before .before .before .before .before .args .start) (c .before .before .before .before .before .before .head .ensures .0) (c .before .before .before .before .before .before .before .node .ensures) _ (c .before .before .i .given .1), zeros-at (c .before .before .i .given .0 .0) (c .before .before .before .before .before .before .head .last .0) (c .if1 .taken))
+returns c = (head-at (c .before .before .before .before .before .before .head .result) (c .before .before .before .before .before .before .before .before .before .before .args .g .now) (c .before .before .before .before .before .before .head .last .0) (node-of (c .before .before .before .before .before .before .before .node .result)) (node-words (c .before .before .before .before .before .before .before .before .before .before .args .kind) (c .before .before .before .before .before .before .before .before .before .before .args .name) (c .before .before .before .before .before .before .before .before .before .before .args .index) (c .before .before .before .before .before .before .before .before .before .before .args .output)) (c .before .before .before .before .before .before .before .before .before .before .args .start) (c .before .before .before .before .before .before .head .ensures .0) (c .before .before .before .before .before .before .before .node .ensures) _ (c .before .before .i .given .1), node-uncleared (c .before .before .i .given .0 .0) (c .before .before .before .before .before .before .head .last .0) (c .if1 .taken))
 
 clear-requires : tie.Need-clear-requires
 clear-requires c κs = search needs
@@ -33,13 +34,13 @@ same-length-2 : tie.Need-same-length-2
 same-length-2 c = search needs
 
 returns-2 : tie.Need-returns-2
-returns-2 c = (head-past (c .before .before .before .before .before .before .before .before .before .before .head .result) (c .before .before .before .before .before .before .before .before .before .before .before .before .before .before .args .g .now) (c .before .before .before .before .before .before .before .before .before .before .head .last .0) (node-of (c .before .before .before .before .before .before .before .before .before .before .before .node .result)) (node-words (c .before .before .before .before .before .before .before .before .before .before .before .before .before .before .args .kind) (c .before .before .before .before .before .before .before .before .before .before .before .before .before .before .args .name) (c .before .before .before .before .before .before .before .before .before .before .before .before .before .before .args .index) (c .before .before .before .before .before .before .before .before .before .before .before .before .before .before .args .output)) (c .before .before .before .before .before .before .before .before .before .before .before .before .before .before .args .start) (c .before .before .before .before .before .before .before .before .before .before .head .ensures .0) (c .before .before .before .before .before .before .before .before .before .before .before .node .ensures) _ (c .before .before .before .before .before .before .i .given .1) (omega (arith, c .before .before .before .before .if1 .left)) (c .before .before .clear .last .0), zeros-of (length (c .before .before .before .before .before .before .before .before .before .before .head .last .0)) (c .before .before .clear .last .0) (c .before .before .clear .ensures))
+returns-2 c = (head-past (c .before .before .before .before .before .before .before .before .before .before .head .result) (c .before .before .before .before .before .before .before .before .before .before .before .before .before .before .args .g .now) (c .before .before .before .before .before .before .before .before .before .before .head .last .0) (node-of (c .before .before .before .before .before .before .before .before .before .before .before .node .result)) (node-words (c .before .before .before .before .before .before .before .before .before .before .before .before .before .before .args .kind) (c .before .before .before .before .before .before .before .before .before .before .before .before .before .before .args .name) (c .before .before .before .before .before .before .before .before .before .before .before .before .before .before .args .index) (c .before .before .before .before .before .before .before .before .before .before .before .before .before .before .args .output)) (c .before .before .before .before .before .before .before .before .before .before .before .before .before .before .args .start) (c .before .before .before .before .before .before .before .before .before .before .head .ensures .0) (c .before .before .before .before .before .before .before .before .before .before .before .node .ensures) _ (c .before .before .before .before .before .before .i .given .1) (omega (arith, c .before .before .before .before .if1 .left)) (c .before .before .clear .last .0), cleared-of (length (c .before .before .before .before .before .before .before .before .before .before .head .last .0)) (c .before .before .clear .last .0) (c .before .before .clear .ensures))
 
 same-length-3 : tie.Need-same-length-3
 same-length-3 c = search needs
 
 returns-3 : tie.Need-returns-3
-returns-3 c = (head-full (c .before .before .before .before .head .result) (c .before .before .before .before .before .before .before .before .args .g .now) (c .before .before .before .before .head .last .0) (node-of (c .before .before .before .before .before .node .result)) (node-words (c .before .before .before .before .before .before .before .before .args .kind) (c .before .before .before .before .before .before .before .before .args .name) (c .before .before .before .before .before .before .before .before .args .index) (c .before .before .before .before .before .before .before .before .args .output)) (c .before .before .before .before .before .before .before .before .args .start) (c .before .before .before .before .head .ensures .0) (c .before .before .before .before .before .node .ensures) (c .enum-told .given .1), full-zeros (c .before .before .before .before .head .result) (c .before .before .before .before .head .last .0) (c .enum-told .given .1) (c .before .before .before .before .head .ensures .1))
+returns-3 c = (head-full (c .before .before .before .before .head .result) (c .before .before .before .before .before .before .before .before .args .g .now) (c .before .before .before .before .head .last .0) (node-of (c .before .before .before .before .before .node .result)) (node-words (c .before .before .before .before .before .before .before .before .args .kind) (c .before .before .before .before .before .before .before .before .args .name) (c .before .before .before .before .before .before .before .before .args .index) (c .before .before .before .before .before .before .before .before .args .output)) (c .before .before .before .before .before .before .before .before .args .start) (c .before .before .before .before .head .ensures .0) (c .before .before .before .before .before .node .ensures) (c .enum-told .given .1), full-cleared (c .before .before .before .before .head .result) (c .before .before .before .before .head .last .0) (c .enum-told .given .1) (c .before .before .before .before .head .ensures .1))
 
 pub drivercheck-graph-head-spec : {M : Type 1} → statement M
 drivercheck-graph-head-spec =

@@ -10,7 +10,7 @@ use borrow.Author.Tests.{not-true, not-false}
 use Rattle.lines.proofs.PartLaws.{follows-in}
 use Rattle.items.specs.Lines.{StmtsAfter}
 use Rattle.items.proofs.BlockLaws.{stmt-shut, stmt-set, stmt-default, stmt-loop, when-alone, when-stops, when-both, stmts-end, stmts-stop, stmts-step}
-use Rattle.graph.proofs.Zeros.{false-zeros}
+use Rattle.spec.proofs.Cleared.{false-cleared}
 use Prim.Native.Nat.{ℕ, _<_}
 use borrow.Fn.Kinds.{In}
 use borrow.Fn.PlainCycle.{Measures, is, falls, and}
@@ -116,7 +116,7 @@ block-stmt-same-length-4 : (t : ℕ) → block-stmt-lts.Need-same-length-4 (bloc
 block-stmt-same-length-4 t c = search needs
 
 block-stmt-returns-6 : (t : ℕ) → block-stmt-lts.Need-returns-6 (block-stmt-claims t) (block-stmt-at t) block-stmt.Post
-block-stmt-returns-6 t c = (when-stops (c .before .before .before .before .before .before .before .before .before .before .before .before .before .before .before .before .before .args .s .now) (c .before .before .before .before .before .before .before .before .before .before .before .before .before .before .before .before .before .args .block) (c .before .before .before .before .before .before .before .before .before .before .before .before .before .before .before .before .before .args .depth) (c .before .before .before .before .before .before .before .before .before .before .before .before .before .before .before .before .before .args .kinds .now) (c .before .before .before .before .before .before .before .before .before .before .before .before .before .before .before .before .before .args .own .now) (λ e. c .before .before .before .before .before .before .before .before .before .before .before .if2 .left (c .before .before .before .before .before .before .before .before .before .before .before .before .byte .ensures ∙ e)) (λ e. c .before .before .before .before .before .before .before .before .before .before .if3 .left (c .before .before .before .before .before .before .before .before .before .before .before .before .byte .ensures ∙ e)) (λ e. c .before .before .before .before .before .before .before .before .before .if4 .left (c .before .before .before .before .before .before .before .before .before .before .before .before .byte .ensures ∙ e)) (c .before .before .before .before .before .before .before .before .part-end .ensures) (c .before .before .before .before .before .between .ensures) (c .before .before .before .block-stmts2 .result) (not-true _ (c .if6 .taken)) _ (c .before .before .before .block-stmts2 .ensures .0), (c .before .before .before .block-stmts2 .ensures .1 .0, false-zeros (c .before .before .before .block-stmts2 .result) _ (not-true _ (c .if6 .taken)) (c .before .before .before .block-stmts2 .ensures .1 .1)))
+block-stmt-returns-6 t c = (when-stops (c .before .before .before .before .before .before .before .before .before .before .before .before .before .before .before .before .before .args .s .now) (c .before .before .before .before .before .before .before .before .before .before .before .before .before .before .before .before .before .args .block) (c .before .before .before .before .before .before .before .before .before .before .before .before .before .before .before .before .before .args .depth) (c .before .before .before .before .before .before .before .before .before .before .before .before .before .before .before .before .before .args .kinds .now) (c .before .before .before .before .before .before .before .before .before .before .before .before .before .before .before .before .before .args .own .now) (λ e. c .before .before .before .before .before .before .before .before .before .before .before .if2 .left (c .before .before .before .before .before .before .before .before .before .before .before .before .byte .ensures ∙ e)) (λ e. c .before .before .before .before .before .before .before .before .before .before .if3 .left (c .before .before .before .before .before .before .before .before .before .before .before .before .byte .ensures ∙ e)) (λ e. c .before .before .before .before .before .before .before .before .before .if4 .left (c .before .before .before .before .before .before .before .before .before .before .before .before .byte .ensures ∙ e)) (c .before .before .before .before .before .before .before .before .part-end .ensures) (c .before .before .before .before .before .between .ensures) (c .before .before .before .block-stmts2 .result) (not-true _ (c .if6 .taken)) _ (c .before .before .before .block-stmts2 .ensures .0), (c .before .before .before .block-stmts2 .ensures .1 .0, false-cleared (c .before .before .before .block-stmts2 .result) _ (not-true _ (c .if6 .taken)) (c .before .before .before .block-stmts2 .ensures .1 .1)))
 
 block-stmt-add-part-end : (t : ℕ) → block-stmt-lts.Need-add-part-end (block-stmt-claims t) (block-stmt-at t) block-stmt.Post
 block-stmt-add-part-end t c = omega (arith, follows-in (c .before .before .before .before .before .before .before .before .before .before .before .before .before .before .before .before .before .args .s .now) (c .before .before .before .before .before .before .before .before .part-end .result) (sym (c .before .before .before .before .before .before .before .more .ensures) ∙ not-false _ (c .before .before .before .before .before .before .if5 .left)))
@@ -167,7 +167,7 @@ block-stmts-same-length : (t : ℕ) → block-stmts-lts.Need-same-length (block-
 block-stmts-same-length t c = search needs
 
 block-stmts-returns : (t : ℕ) → block-stmts-lts.Need-returns (block-stmts-claims t) (block-stmts-at t) block-stmts.Post block-stmts-Inv-loop block-stmts-μ-loop
-block-stmts-returns t c = (c .before .before .before .before .before .before .before .before .before .loop .inv .1 false (c .before .before .before .block-stmt .last .1 .1 .1 .1 .0) (stmts-stop (c .before .before .before .before .before .before .before .before .before .before .before .before .before .args .s .now) (c .before .before .before .before .before .before .before .before .before .loop .e) (c .before .before .before .before .before .before .before .before .before .before .before .before .before .args .block) (c .before .before .before .before .before .before .before .before .before .before .before .before .before .args .depth) (c .before .before .before .before .before .before .before .before .before .before .before .before .before .args .kinds .now) (c .before .before .before .before .before .before .before .before .before .loop .own) (sym (c .before .before .before .before .before .before .before .before .more .ensures) ∙ c .before .before .before .before .before .before .before .if1 .taken) (c .before .before .before .before .before .before .part-end .ensures) (c .before .before .before .before .before .between .ensures) (c .before .before .before .block-stmt .result) (not-true _ (c .if2 .taken)) _ (c .before .before .before .block-stmt .ensures .0)), (c .before .before .before .block-stmt .ensures .1 .0 ∙ c .before .before .before .before .before .before .before .before .before .loop .inv .0, false-zeros (c .before .before .before .block-stmt .result) _ (not-true _ (c .if2 .taken)) (c .before .before .before .block-stmt .ensures .1 .1)))
+block-stmts-returns t c = (c .before .before .before .before .before .before .before .before .before .loop .inv .1 false (c .before .before .before .block-stmt .last .1 .1 .1 .1 .0) (stmts-stop (c .before .before .before .before .before .before .before .before .before .before .before .before .before .args .s .now) (c .before .before .before .before .before .before .before .before .before .loop .e) (c .before .before .before .before .before .before .before .before .before .before .before .before .before .args .block) (c .before .before .before .before .before .before .before .before .before .before .before .before .before .args .depth) (c .before .before .before .before .before .before .before .before .before .before .before .before .before .args .kinds .now) (c .before .before .before .before .before .before .before .before .before .loop .own) (sym (c .before .before .before .before .before .before .before .before .more .ensures) ∙ c .before .before .before .before .before .before .before .if1 .taken) (c .before .before .before .before .before .before .part-end .ensures) (c .before .before .before .before .before .between .ensures) (c .before .before .before .block-stmt .result) (not-true _ (c .if2 .taken)) _ (c .before .before .before .block-stmt .ensures .0)), (c .before .before .before .block-stmt .ensures .1 .0 ∙ c .before .before .before .before .before .before .before .before .before .loop .inv .0, false-cleared (c .before .before .before .block-stmt .result) _ (not-true _ (c .if2 .taken)) (c .before .before .before .block-stmt .ensures .1 .1)))
 
 block-stmts-loop-less : (t : ℕ) → block-stmts-lts.Need-loop-less (block-stmts-claims t) (block-stmts-at t) block-stmts.Post block-stmts-Inv-loop block-stmts-μ-loop
 block-stmts-loop-less t c = omega (arith, follows-in (c .before .before .before .before .before .before .before .before .before .before .before .before .before .args .s .now) (c .before .before .before .before .before .before .before .before .before .loop .e) (sym (c .before .before .before .before .before .before .before .before .more .ensures) ∙ c .before .before .before .before .before .before .before .if1 .taken), c .before .before .before .before .before .before .part-end .ensures)

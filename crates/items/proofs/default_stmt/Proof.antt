@@ -2,7 +2,7 @@
 use mathlib.Core.Path.{refl, _∙_}
 use lib.ListN.{length}
 use Rattle.items.proofs.BlockLaws.{default-other, default-done, default-full}
-use Rattle.graph.proofs.Zeros.{zeros-of}
+use Rattle.spec.proofs.Cleared.{cleared-of}
 use borrow.Author.Needs.{needs}
 use Rattle.items.proofs.default_stmt.Statement.{statement}
 use Rattle.items.proofs.default_stmt.Tie as tie
@@ -44,7 +44,7 @@ same-length-2 : tie.Need-same-length-2
 same-length-2 c = search needs
 
 returns-3 : tie.Need-returns-3
-returns-3 c = (default-full (c .before .before .before .before .before .before .before .before .before .before .before .before .before .before .before .before .before .args .s .now) (c .before .before .before .before .before .before .before .before .before .before .before .before .before .before .before .before .before .args .block) (c .before .before .before .before .before .before .before .before .before .before .before .before .before .before .before .before .before .args .kinds .now) (c .before .before .before .before .before .before .before .before .before .before .before .before .before .before .before .before .before .args .own .now) (c .before .before .before .before .before .before .before .before .before .before .before .before .before .part-end .ensures) (c .before .before .before .before .before .before .before .before .before .before .before .before .number .ensures) (c .before .before .before .before .before .before .before .before .before .before .before .byte .ensures) (c .before .before .before .before .before .before .before .before .before .before .if1 .left) (c .before .before .before .before .before .before .before .before .add-pair .last .0) (c .before .before .before .before .before .before .before .before .add-pair .ensures .1 .1) (c .before .before .before .before .before .before .before .before .add-pair .result) (c .before .before .before .before .before .before .before .before .add-pair .ensures .0) (c .before .before .before .before .enum-told2 .given .1), (c .before .before .clear .kept .0 ∙ c .before .before .before .before .before .before .before .before .add-pair .ensures .1 .1, zeros-of (length (c .before .before .before .before .before .before .before .before .add-pair .last .0)) _ (c .before .before .clear .ensures)))
+returns-3 c = (default-full (c .before .before .before .before .before .before .before .before .before .before .before .before .before .before .before .before .before .args .s .now) (c .before .before .before .before .before .before .before .before .before .before .before .before .before .before .before .before .before .args .block) (c .before .before .before .before .before .before .before .before .before .before .before .before .before .before .before .before .before .args .kinds .now) (c .before .before .before .before .before .before .before .before .before .before .before .before .before .before .before .before .before .args .own .now) (c .before .before .before .before .before .before .before .before .before .before .before .before .before .part-end .ensures) (c .before .before .before .before .before .before .before .before .before .before .before .before .number .ensures) (c .before .before .before .before .before .before .before .before .before .before .before .byte .ensures) (c .before .before .before .before .before .before .before .before .before .before .if1 .left) (c .before .before .before .before .before .before .before .before .add-pair .last .0) (c .before .before .before .before .before .before .before .before .add-pair .ensures .1 .1) (c .before .before .before .before .before .before .before .before .add-pair .result) (c .before .before .before .before .before .before .before .before .add-pair .ensures .0) (c .before .before .before .before .enum-told2 .given .1), (c .before .before .clear .kept .0 ∙ c .before .before .before .before .before .before .before .before .add-pair .ensures .1 .1, cleared-of (length (c .before .before .before .before .before .before .before .before .add-pair .last .0)) _ (c .before .before .clear .ensures)))
 
 pub default-stmt-spec : {M : Type 1} → statement M
 default-stmt-spec =

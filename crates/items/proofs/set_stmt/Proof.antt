@@ -2,7 +2,7 @@
 use mathlib.Core.Path.{refl, _∙_}
 use lib.ListN.{length}
 use Rattle.items.proofs.BlockLaws.{set-low, set-high, set-arrow, set-done, set-full}
-use Rattle.graph.proofs.Zeros.{zeros-of}
+use Rattle.spec.proofs.Cleared.{cleared-of}
 use borrow.Author.Needs.{needs}
 use Rattle.items.proofs.set_stmt.Statement.{statement}
 use Rattle.items.proofs.set_stmt.Tie as tie
@@ -53,7 +53,7 @@ same-length-3 : tie.Need-same-length-3
 same-length-3 c = search needs
 
 returns-5 : tie.Need-returns-5
-returns-5 c = (set-full (c .before .before .before .before .before .before .before .before .before .before .before .before .before .before .before .before .before .before .before .args .s .now) (c .before .before .before .before .before .before .before .before .before .before .before .before .before .before .before .before .before .before .before .args .block) (c .before .before .before .before .before .before .before .before .before .before .before .before .before .before .before .before .before .before .before .args .kinds .now) (c .before .before .before .before .before .before .before .before .before .before .before .before .before .before .before .before .before .before .before .args .own .now) (c .before .before .before .before .before .before .before .before .before .before .before .before .before .before .before .named-at .result) (c .before .before .before .before .before .before .before .before .before .before .before .before .before .before .before .named-at .ensures) (c .before .before .before .before .before .before .before .before .before .before .before .before .before .byte .ensures) (c .before .before .before .before .before .before .before .before .add-pair .last .0) (c .before .before .before .before .before .before .before .before .add-pair .ensures .1 .1) (c .before .before .before .before .before .before .before .before .add-pair .result) (c .before .before .before .before .before .before .before .before .add-pair .ensures .0) (c .before .before .before .before .before .before .before .before .before .before .before .if2 .left) (c .before .before .before .before .before .before .before .before .before .before .if3 .left) (c .before .before .before .before .enum-told2 .given .1), (c .before .before .clear .kept .0 ∙ c .before .before .before .before .before .before .before .before .add-pair .ensures .1 .1, zeros-of (length (c .before .before .before .before .before .before .before .before .add-pair .last .0)) _ (c .before .before .clear .ensures)))
+returns-5 c = (set-full (c .before .before .before .before .before .before .before .before .before .before .before .before .before .before .before .before .before .before .before .args .s .now) (c .before .before .before .before .before .before .before .before .before .before .before .before .before .before .before .before .before .before .before .args .block) (c .before .before .before .before .before .before .before .before .before .before .before .before .before .before .before .before .before .before .before .args .kinds .now) (c .before .before .before .before .before .before .before .before .before .before .before .before .before .before .before .before .before .before .before .args .own .now) (c .before .before .before .before .before .before .before .before .before .before .before .before .before .before .before .named-at .result) (c .before .before .before .before .before .before .before .before .before .before .before .before .before .before .before .named-at .ensures) (c .before .before .before .before .before .before .before .before .before .before .before .before .before .byte .ensures) (c .before .before .before .before .before .before .before .before .add-pair .last .0) (c .before .before .before .before .before .before .before .before .add-pair .ensures .1 .1) (c .before .before .before .before .before .before .before .before .add-pair .result) (c .before .before .before .before .before .before .before .before .add-pair .ensures .0) (c .before .before .before .before .before .before .before .before .before .before .before .if2 .left) (c .before .before .before .before .before .before .before .before .before .before .if3 .left) (c .before .before .before .before .enum-told2 .given .1), (c .before .before .clear .kept .0 ∙ c .before .before .before .before .before .before .before .before .add-pair .ensures .1 .1, cleared-of (length (c .before .before .before .before .before .before .before .before .add-pair .last .0)) _ (c .before .before .clear .ensures)))
 
 pub set-stmt-spec : {M : Type 1} → statement M
 set-stmt-spec =
