@@ -38,7 +38,7 @@ pub record Few (l : List ℕ) : Type 0 where
   pub once : Once l
   pub small : (n : ℕ) → n ∈ l → n < name-bound
 
--- 01, The site; The block: the words `own` hold the tables o
+-- 01, The site; The block: the words `own` hold the tables o; the table of conflicts is filled later, and here it is free
 pub record Held (text : Bytes) (own : List ℕ) (o : Own) : Type 0 where
   pub sized : length own ≡ places
   pub sites : own-of own .sites ≡ o .sites

@@ -1,4 +1,4 @@
--- What is printed of an answer, and that it lies in the report buffer. 01: The report.
+-- What is printed of an answer, that it lies in the report buffer, and that the other bytes of the buffer stay. 01: The report.
 -- Assumes nothing.
 use mathlib.Core.Path.{_≡_, refl, sym, ap, subst, _∙_}
 use mathlib.Core.Bool.{false}
@@ -7,7 +7,7 @@ use Prim.Native.Nat.{ℕ, zero-le, _+_, _≤_}
 use native.Mathlib.Omega.{arith}
 use lib.Dec.{ltb}
 use lib.ListN.{length, take, drop, replicate, length-replicate, length-take, length-append}
-use lib.Seq.{take-append-seam}
+use lib.Seq.{take-append-seam, drop-append-seam}
 use borrow.Author.Tests.{ne-eqb, le-ltb, le-leb, ltb-false}
 use Rattle.spec.specs.Bytes.{Bytes}
 use Rattle.spec.specs.Refusal.{Verdict, well-formed, refused, refusal, decode}
@@ -44,6 +44,27 @@ module _ (text buf : Bytes) where
   unfolding check.check-drivers
   fits working = if-case Fits (too-short working) _ _ (λ _. zero-le) (λ _. read-fits (refusal text))
 
+-- ---- the other bytes of the buffer stay, all of them where the text is refused
+
+module _ (text buf : Bytes) where
+  abbrev Behind : check.Answer → Type 0
+  Behind a = (drop (a .bytes-written) (a .buffer) ≡ drop (a .bytes-written) buf) × ((a .number ≡ 0 → ⊥) → a .buffer ≡ buf)
+
+  checked-behind : (c : Checked) → Behind (answer-checked c buf)
+  unfolding answer-checked
+  checked-behind c =
+      if-case Behind (c .full) _ _ (λ _. (refl, λ _. refl))
+      (λ _. if-case Behind (ltb (length buf) (length (show-reports (c .reports)))) _ _ (λ _. (refl, λ _. refl))
+      (λ _. (drop-append-seam (show-reports (c .reports)) (drop (length (show-reports (c .reports))) buf), λ f. absurd (f refl))))
+
+  read-behind : (v : Verdict) → Behind (answer-read v text buf)
+  read-behind (refused n l) = (refl, λ _. refl)
+  read-behind well-formed = checked-behind (check.check-design (decode text))
+
+  behind : (working : List Lent) → Behind (check.check-drivers working text buf)
+  unfolding check.check-drivers
+  behind working = if-case Behind (too-short working) _ _ (λ _. (refl, λ _. refl)) (λ _. read-behind (refusal text))
+
 -- what one call prints is what the program prints
 prints-any : (text : Bytes) (working : List Lent) → too-short working ≡ false → (buf : Bytes) → length buf ≡ program-buffer
     → Prints text (program-prints (check.check-drivers working text buf))
@@ -75,11 +96,17 @@ module _ (kinds mods names own g w k : List ℕ) (l1 : 8192 ≤ length kinds) (l
     prints : Prints text (program-prints (answer-of a buf′))
     prints = subst (λ (x : check.Answer). Prints text (program-prints x)) (sym answered) (prints-any text _ long buf room)
 
-    pub prints-reports : a .number ≡ 0 → Prints text (take (a .bytes) buf′) × Counts (a .bytes) buf′
+    stays : Behind text buf (answer-of a buf′)
+    stays = subst (Behind text buf) (sym answered) (behind text buf _)
+
+    pub refused-stays : (a .number ≡ 0 → ⊥) → buf′ ≡ buf
+    refused-stays = stays .1
+
+    pub prints-reports : a .number ≡ 0 → Prints text (take (a .bytes) buf′) × Counts (a .bytes) buf′ × (drop (a .bytes) buf′ ≡ drop (a .bytes) buf)
     prints-reports z =
         let p : program-prints (answer-of a buf′) ≡ take (a .bytes) buf′ = rw (z) in
         let h : a .bytes ≤ length buf = subst (Fits text buf) (sym answered) (fits text buf _) in
-        (subst (Prints text) p prints, (omega arith, omega (arith, length-take (a .bytes) buf′)))
+        (subst (Prints text) p prints, (omega arith, omega (arith, length-take (a .bytes) buf′)), stays .0)
 
     pub prints-refused : (a .number ≡ 0 → ⊥) → (p : Bytes) → p ≡ refused-line (a .number) (a .line) → Prints text p
     unfolding refused-line
@@ -96,8 +123,8 @@ module _ (p buf buf′ : Bytes) (r : Put) (m : ℕ) (e : m ≡ length p) (l : m 
       let w : placed buf 0 p ≡ put-by (put.At (0 + length p)) (take 0 buf ++ p ++ drop (0 + length p) buf) = rw (le-leb (0 + length p) (length buf) (omega arith), placed) in
       ap (λ (w : Written). w .buffer) (q ∙ w) ∙ ap (λ (k : ℕ). p ++ drop k buf) z
 
-  pub put-front : (take m buf′ ≡ p) × Counts m buf′
+  pub put-front : (take m buf′ ≡ p) × Counts m buf′ × (drop m buf′ ≡ drop m buf)
   put-front =
       let t : take m buf′ ≡ p = rw (front, e) (take-append-seam p (drop (length p) buf)) in
       let k : length buf′ ≡ length p + length (drop (length p) buf) = ap length front ∙ length-append p (drop (length p) buf) in
-      (t, (omega arith, e ∙ ap length (sym t)))
+      (t, (omega arith, e ∙ ap length (sym t)), rw (front, e) (drop-append-seam p (drop (length p) buf)))

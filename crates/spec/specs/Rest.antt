@@ -1,4 +1,4 @@
--- Demand 3 as one statement. 01: The edge, Rest; DESIGN of the claim: loops reported, walks shown, one resting state.
+-- Demand 3 as one statement: loops reported, walks shown, one resting state. 01: The edge, Rest.
 -- Assumes nothing: these are definitions.
 use mathlib.Core.Path.{_≡_}
 use mathlib.Core.Logic.{_↔_}

@@ -13,7 +13,7 @@ put-refused-requires : tie.Need-put-refused-requires
 put-refused-requires c κs = search needs
 
 returns : tie.Need-returns
-returns c = put-front (refused-line (c .before .before .before .args .number) (c .before .before .before .args .line)) (c .before .before .before .args .out .now) (c .put-refused .last .0) (c .put-refused .result) (c .before .before .count-refused .result) (c .before .before .count-refused .ensures .0) (omega (arith, c .before .before .count-refused .ensures .1)) (c .put-refused .ensures)
+returns c = let t = put-front (refused-line (c .before .before .before .args .number) (c .before .before .before .args .line)) (c .before .before .before .args .out .now) (c .put-refused .last .0) (c .put-refused .result) (c .before .before .count-refused .result) (c .before .before .count-refused .ensures .0) (omega (arith, c .before .before .count-refused .ensures .1)) (c .put-refused .ensures) in (t .0, (t .1, t .2))
 
 pub put-refused-spec : {M : Type 1} → statement M
 put-refused-spec = tie.close (tie.spec count-refused-requires put-refused-requires returns)
