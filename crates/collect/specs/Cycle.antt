@@ -1,4 +1,5 @@
--- What the walk over a module's items needs of the text, and what it leaves. 01: The collected item; The edge; Refused because of the state.
+-- What the walk over a module's items needs of the text, and what it leaves. 01: The line; The value; The collected item; The site; The block; The
+-- edge; Refused because of the state; Worthless checks.
 -- Assumes nothing: these are definitions and statements.
 use mathlib.Core.Path.{_≡_}
 use mathlib.Core.Bool.{Bool, true, false}
@@ -28,7 +29,7 @@ use Rattle.collect.specs.declared.Walked.the-variants as walks
 use Rattle.collect.specs.declared.Asked as A
 use Rattle.collect.specs.declared.Asked.the-variants as asked
 
--- the text is accepted, and the tables are those that its reader leaves
+-- 01, The line: the text is accepted, and the tables are those that its reader leaves
 pub record Tabled (text kinds mods : List ℕ) (count : ℕ) : Type 0 where
   pub formed : refusal text ≡ well-formed
   pub modules : count ≡ length (decode text)
@@ -37,48 +38,51 @@ pub record Tabled (text kinds mods : List ℕ) (count : ℕ) : Type 0 where
   pub kinds-are : kinds ≡ put-kinds 0 (decode text) (replicate (length kinds) 0)
   pub mods-are : mods ≡ put-mods 0 0 (decode text) (replicate (length mods) 0)
 
--- the bytes s stand in the text at `base`
+-- 01, The line: the bytes s stand in the text at `base`
 pub record PartOf (text : Bytes) (base : ℕ) (s : Bytes) : Type 0 where
   pub inside : base + length s ≤ length text
   pub same : s ≡ take (length s) (drop base text)
 
--- the own tables, in a module's own check; a summary's walk has none
+-- 01, The site; The block: the own tables, in a module's own check; a summary's walk has none
 abbrev pub OwnIs : Bool → Bytes → List ℕ → Own → Type 0
 OwnIs true text own o = Held text own o × (over-own o ≡ false)
 OwnIs false text own o = Unit {0}
 
--- what the words stand for where a walk begins: the header of the module, the items to go through, the state, the modules in progress
+-- 01, The collected item; The edge: what the words stand for where a walk begins: the header of the module, the items to go through, the state, the
+-- modules being summarised
 pub record World : Type 0 where
   pub header : List Header
   pub items : Items
   pub state : State
   pub busy : List ℕ
 
--- the same for one item
+-- 01, The collected item; The edge: the same for one item
 pub record Single : Type 0 where
   pub header : List Header
   pub item : Item
   pub state : State
   pub busy : List ℕ
 
--- which walk it is
+-- 01, The edge: which walk it is, a module's own check or a summary's; and whether the module is bound
 pub record Mode : Type 0 where
   pub own : Bool
   pub bound : Bool
 
+-- 01, The edge: the same, by its parts
 abbrev pub mode : Bool → Bool → Mode
 mode own bound = record { own = own; bound = bound }
 
+-- 01, The edge: a walk of a module with this header
 abbrev pub walking-of : Mode → List Header → Walking
 walking-of mo header = record { own = mo .own; bound = mo .bound; header = header }
 
--- the words hold a state
+-- 01, The site; The block; The edge: the words hold a state
 pub record Holding (mo : Mode) (text own g k : List ℕ) (busy : List ℕ) (st : State) : Type 0 where
   pub owned : OwnIs (mo .own) text own (st .own)
   pub stands : Stands g (st .heads)
   pub keeps : Keeps k (st .kept) busy
 
--- what is given where a run of items is walked
+-- 01, The collected item: what is given where a run of items is walked
 pub record Given (mo : Mode) (text kinds mods : List ℕ) (count : ℕ) (s : Bytes) (base depth : ℕ) (ks names : List ℕ) (used : ℕ) (own g k : List ℕ) (w : World) : Type 0 where
   pub tabled : Tabled text kinds mods count
   pub run : RunOf depth s (w .items)
@@ -87,7 +91,7 @@ pub record Given (mo : Mode) (text kinds mods : List ℕ) (count : ℕ) (s : Byt
   pub room : used + depth ≤ length names / 2
   pub holding : Holding mo text own g k (w .busy) (w .state)
 
--- and where one item is: h says which one
+-- 01, The collected item: and where one item is: h says which one
 pub record OneGiven (h : H.Head) (mo : Mode) (text kinds mods : List ℕ) (count : ℕ) (x : Bytes) (from depth : ℕ) (ks names : List ℕ) (used : ℕ) (own g k : List ℕ) (w : Single) : Type 0 where
   pub tabled : Tabled text kinds mods count
   pub shows : ShowsItem x depth (w .item)
@@ -97,41 +101,42 @@ pub record OneGiven (h : H.Head) (mo : Mode) (text kinds mods : List ℕ) (count
   pub room : used + depth ≤ length names / 2
   pub holding : Holding mo text own g k (w .busy) (w .state)
 
--- the step at a collected line
+-- 01, The site; The block; The edge: the step at a collected line
 abbrev pub step-of : ℕ → Bytes → Mode → List Header → List ℕ → Names → Item → State → Got State
 step-of fuel text mo header busy = line-step (ask-walk fuel (decode text) busy) (walking-of mo header)
 
--- the walk over items
+-- 01, The collected item: the walk over items
 abbrev pub walk-of : ℕ → Bytes → Mode → World → Names → ℕ → Got (Walked State)
 walk-of fuel text mo w names left = walk-items (w .items) (step-of fuel text mo (w .header) (w .busy)) names left (w .state)
 
--- the walk over one item: its line, then what it holds
+-- 01, The collected item: the walk over one item: its line, then what it holds
 abbrev pub one-of : ℕ → Bytes → Mode → Single → Names → ℕ → Got (Walked State)
 one-of fuel text mo w names left =
     then-go (step-of fuel text mo (w .header) (w .busy) names (w .item) (w .state)) (λ st. walk-inner (w .item) (step-of fuel text mo (w .header) (w .busy)) names left st)
 
--- 01, The collected item: the walk over the rounds of a repeat that holds these items, which are spent already; its variable n has the values from
--- that of the word `low` on
+-- 01, The collected item: the walk over the rounds, spent already, of a repeat that holds these items; its variable n has the values from that of the
+-- word `low` on
 abbrev pub turns-of : ℕ → Bytes → Mode → World → (n low rounds : ℕ) → Names → ℕ → Got (Walked State)
 turns-of fuel text mo w n low rounds names left =
     walk-rounds (λ names′ left′ st. walk-items (w .items) (step-of fuel text mo (w .header) (w .busy)) names′ left′ st) n (signed low) rounds names left (w .state)
 
--- what a walk leaves: the rounds left and the state, or it is full
+-- 01, The collected item; Refused because of the state: what a walk leaves: the rounds left and the state, or it is full
 abbrev pub Ends : W.Walked → Mode → (text own g k : List ℕ) → List ℕ → Got (Walked State) → Type 0
 Ends (walks.Left l) mo text own g k busy x = (st : State) × (x ≡ going (walked l st)) × Holding mo text own g k busy st
 Ends walks.Full mo text own g k busy x = x ≡ full
 
--- the rounds left never grow
+-- 01, The collected item: the rounds left never grow
 abbrev pub RoundsWithin : W.Walked → ℕ → Type 0
 RoundsWithin (walks.Left l) left = l ≤ left
 RoundsWithin walks.Full left = Unit {0}
 
--- 01, The edge: a summary's walk has no own tables (false): the words that stand in their place stay as they are
+-- 01, Worthless checks: what every lent byte becomes: a summary's walk (false) has no own tables, and where it is not full the words in their place stay
 abbrev pub OwnKept : Bool → (own own′ : List ℕ) → Type 0
 OwnKept true own own′ = Unit {0}
 OwnKept false own own′ = own′ ≡ own
 
--- 01, Refused because of the state; Worthless checks: what every table becomes that a walk fills, whatever was lent: where it is full every place is 0
+-- 01, Refused because of the state; Worthless checks: the tables that a walk fills, whatever was lent: where it is full every place is 0; where it is
+-- not, `OwnKept` is what is said with no condition, and `Ends` says the rest
 abbrev pub WalkLeaves : W.Walked → Bool → (own own′ g′ k′ : List ℕ) → Type 0
 WalkLeaves (walks.Left l) checking own own′ g′ k′ = OwnKept checking own own′
 WalkLeaves walks.Full checking own own′ g′ k′ = Cleared own′ × Cleared g′ × Cleared k′
@@ -142,15 +147,16 @@ pub record Framed (used : ℕ) (old new : List ℕ) : Type 0 where
   pub size : length new ≡ length old
   pub same : (i : ℕ) → i < used + used → getD new i 0 ≡ getD old i 0
 
--- what an instance line leaves
+-- 01, The edge; Refused because of the state: what an instance line leaves
 abbrev pub Stepped : Bool → Mode → (text own g k : List ℕ) → List ℕ → Got State → Type 0
 Stepped true mo text own g k busy x = (st : State) × (x ≡ going st) × Holding mo text own g k busy st
 Stepped false mo text own g k busy x = x ≡ full
 
+-- 01, The site; The block; The edge: a state, by its parts
 abbrev pub state-of : Own → List Head → Kept → State
 state-of o hs kept = record { own = o; heads = hs; kept = kept }
 
--- what a line that holds no items and asks for nothing leaves, whatever is kept
+-- 01, The site; The block; The edge: what a line that holds no items and asks for nothing leaves, whatever is kept
 abbrev pub PlainEnds : Bool → Mode → (text own g : List ℕ) → List Header → Names → Item → Own → List Head → Type 0
 PlainEnds true mo text own g header names i o hs =
     (o′ : Own) × (hs′ : List Head)
@@ -158,7 +164,8 @@ PlainEnds true mo text own g header names i o hs =
     × OwnIs (mo .own) text own o′ × Stands g hs′
 PlainEnds false mo text own g header names i o hs = (ask : Asking) (kept : Kept) → line-step ask (walking-of mo header) names i (state-of o hs kept) ≡ full
 
--- what asking for the summary of module m leaves: nothing is known of it, its pairs stand in the table, or a limit is passed or a constant is outside INT
+-- 01, The edge; Refused because of the state: what asking for the summary of module m leaves: it is empty and not kept, its pairs stand in the table,
+-- or a limit is passed or a constant is outside INT
 abbrev pub AskedFor : A.Asked → List ℕ → ℕ → List ℕ → Got Answered → Type 0
 AskedFor asked.Empty k m busy x = (a : Answered) × (x ≡ going a) × (a .summary ≡ []) × Keeps k (a .kept) busy
 AskedFor asked.Kept k m busy x = (a : Answered) × (x ≡ going a) × Alike (pairs-of k m) (a .summary) × Keeps k (a .kept) busy × (m < 32)

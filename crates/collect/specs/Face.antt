@@ -1,4 +1,5 @@
--- What collecting a module in its own check needs, and what it leaves. 01: The collected item; Refused because of the state.
+-- What collecting a module in its own check needs, and what it leaves. 01: The value; The collected item; The site; The block; The edge; Refused
+-- because of the state; Worthless checks.
 -- Assumes nothing: these are definitions and statements.
 use mathlib.Core.Path.{_≡_}
 use mathlib.Core.Bool.{true, false}
@@ -35,7 +36,8 @@ pub record ModuleGiven (text kinds mods : List ℕ) (count m : ℕ) (names own g
   pub keeps : Keeps k kept []
 
 -- 01, The value; The collected item; The site; The block; The edge: the module's name table, the rounds left, and the state of the walk, which the
--- words hold: own tables, graph and summaries; or the walk is full. What stands behind the names that are used, and behind the count of a table, is free.
+-- words hold: own tables, graph and summaries; or the walk is full. What stands behind the names that are used,
+-- behind the count of a table or the places of a graph, and in the table of conflicts, is free.
 abbrev pub Collects : Collected → (text names own g k : List ℕ) → Module → Got (Walked State) → Type 0
 Collects (collected.Left used left) text names own g k x y =
     (st : State) × (y ≡ going (walked left st)) × Holding (mode true (x .bound)) text own g k [] st × (names-of names used ≡ name-table (own-vals x) x .names)
@@ -46,7 +48,7 @@ abbrev pub number-of : Collected → ℕ
 number-of (collected.Left used left) = 0
 number-of collected.Full = 20
 
--- 01, The collected item: of the 4,096 rounds, those that are left
+-- 01, The collected item: of the 4,096 rounds, those that are left; 0 where the module is full
 abbrev pub left-of : Collected → ℕ
 left-of (collected.Left used left) = left
 left-of collected.Full = 0
@@ -66,7 +68,8 @@ pub record LentAfter (r : Collected) (text mods : List ℕ) (m : ℕ) (names own
   pub named : NamesAfter r text mods m names names′
   pub cleared : number-of r ≡ 20 → Cleared own′ × Cleared g′ × Cleared k′
 
--- 01, The collected item: where the walk over the items of module x begins: its name table stands, with room for the variables of open repeats, and its tables are empty
+-- 01, The collected item: where the walk over the items of module x begins: its name table stands, with room for the variables of open repeats, and
+-- its tables are empty
 pub record WalkGiven (text kinds mods : List ℕ) (count m : ℕ) (names : List ℕ) (used : ℕ) (own g k : List ℕ) (x : Module) (kept : Kept) : Type 0 where
   pub tabled : Tabled text kinds mods count
   pub there : getElem? (decode text) m ≡ some x

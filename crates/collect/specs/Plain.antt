@@ -1,5 +1,5 @@
 -- What a collected line leaves, without the items that it holds and the summary that it asks for. 01: The site; The block; The edge; Refused because
--- of the state.
+-- of the state; Worthless checks.
 -- Assumes nothing: these are definitions and statements.
 use mathlib.Core.Path.{_≡_}
 use mathlib.Core.Bool.{Bool, true, false}
@@ -24,18 +24,19 @@ LineHeads r x d ks names g g′ =
     (i : Item) → ShowsItem x d i → plain i ≡ true → (header : List Header) → KindsOf ks header → (hs : List Head) → Stands g hs
     → HeadAll r g′ hs (line-heads header names [] i)
 
--- its entries too
+-- 01, The site; The block; The edge: its entries too
 abbrev pub PlainLine : Bool → Bytes → ℕ → ℕ → List ℕ → Bool → Bool → Names → List ℕ → List ℕ → List ℕ → List ℕ → Type 0
 PlainLine r x from d ks checking bound names own g own′ g′ =
     (text : Bytes) (i : Item) → ShowsItem x d i → plain i ≡ true → StandsAt text from x → (header : List Header) → KindsOf ks header
     → (o : Own) → OwnIs checking text own o → (hs : List Head) → Stands g hs → PlainEnds r (mode checking bound) text own′ g′ header names i o hs
 
--- 01, Refused because of the state; Worthless checks: what the tables become, whatever was lent: where the line is full every place is 0
+-- 01, Refused because of the state; Worthless checks: the tables, whatever was lent: where a limit is passed or a constant is outside INT (false) every
+-- place is 0; else `OwnKept` is what is said with no condition
 abbrev pub PlainLeaves : Bool → Bool → (own own′ g′ : List ℕ) → Type 0
 PlainLeaves true checking own own′ g′ = OwnKept checking own own′
 PlainLeaves false checking own own′ g′ = Cleared own′ × Cleared g′
 
--- 01, The edge; Refused because of the state: the outputs of an instance leave the summaries as they are; where a limit is passed or an index is
+-- 01, The edge; Refused because of the state; Worthless checks: the outputs of an instance leave the summaries as they are; where a limit is passed or an index is
 -- outside INT, every place of graph and summaries is 0
 abbrev pub InstLeaves : Bool → (g′ k k′ : List ℕ) → Type 0
 InstLeaves true g′ k k′ = k′ ≡ k

@@ -1,4 +1,5 @@
--- The heads for which a graph's slice stands. Assumes nothing: these are definitions and statements.
+-- The heads for which a graph's slice stands. 01: The edge; Refused because of the state; Worthless checks.
+-- Assumes nothing: these are definitions and statements.
 use mathlib.Core.Path.{_≡_}
 use mathlib.Core.Bool.{true}
 use mathlib.Core.List.{List, [], _∷_, _++_}
@@ -72,7 +73,7 @@ abbrev pub Read : A.Added → List ℕ → List Head → Node → ℕ → List N
 Read (added.At j) g hs n start rs i m = Heading g hs n start (rs ++ m ∷ []) i
 Read added.Full g hs n start rs i m = over-graph (hs ++ head-of n start (rs ++ m ∷ []) ∷ []) ≡ true
 
--- 01, Refused because of the state; Worthless checks: where a limit is passed every place of the graph is 0, whatever was lent
+-- 01, Refused because of the state; Worthless checks: where a limit is passed every place of the slice is 0, whatever was lent
 abbrev pub ClearedAtFull : A.Added → List ℕ → Type 0
 ClearedAtFull (added.At i) g = Unit {0}
 ClearedAtFull added.Full g = Cleared g
