@@ -141,8 +141,8 @@ pub fn deepest() -> Vec<u8> {
     let (open, close) = ("(repeat 9 0 1 ".repeat(31), ")".repeat(31));
     let mut text = String::new();
     for m in 0..32 {
-        text += &format!("(module {m} bound)\n(kind 3 inst)\n");
-        text += &format!("{open}(inst 3 - {} 9){close}\n", (m + 1) % 32);
+        text += &format!("(module {m} bound)\n(kind 1 inst)\n(kind 2 out)\n(kind 3 in)\n(port out 2 bit 1)\n");
+        text += &format!("{open}(inst 1 - {} 5){close}\n(drive (lv 2 7) (f (n 1) 2))\n", (m + 1) % 32);
     }
     text.into_bytes()
 }

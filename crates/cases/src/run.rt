@@ -33,7 +33,7 @@ fn print_different(name: &[u8], wanted: &[u8], answered: &[u8]) {
     print_answer(answered);
 }
 
-// The ten cases of the scope page, P1 to P10, are printed with their lists; no other name begins so.
+// The ten cases of the scope, P1 to P10, are printed with their lists; no other name begins so.
 fn print_worked(name: &[u8], answered: &[u8]) {
     if at8(name, 0) != b'P' {
         return;

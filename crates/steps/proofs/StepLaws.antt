@@ -98,16 +98,26 @@ module _ (n left : ℕ) (a b : Answer) where
       unfolding way
       by-difference w q = rw (e, f) q
 
-      pub way-never : h < l → TimesAre times.Never left n (worth a) (worth b)
-      way-never k = (rw (e, f), by-difference never (ap (way-by left (signed l)) (minus-low l h k)))
+      not-above : (c : Bool) → ltb h l ≡ c → h ≤ l → way-by left (signed l) (signed h -ℤ signed l) ≡ never
+      not-above true p k = ap (way-by left (signed l)) (minus-low l h (ltb-true h l p))
+      not-above false p k =
+          let m = ltb-false h l p in
+          ap (way-by left (signed l)) (minus-high l h m ∙ ap pos (let z : h - l ≡ 0 = omega arith in z))
 
-      high-way : l ≤ h → (c : Bool) → ltb left (h - l) ≡ c → way left (worth a) (worth b) ≡ elim c as (λ _. Way) [ true ↦ once | false ↦ rounds (signed l) (h - l) ]
-      high-way k c q = by-difference _ (ap (way-by left (signed l)) (minus-high l h k) ∙ ap (λ (z : Bool). elim z as (λ _. Way) [ true ↦ once | false ↦ rounds (signed l) (h - l) ]) q)
+      pub way-never : h ≤ l → TimesAre times.Never left n (worth a) (worth b)
+      way-never k = (rw (e, f), by-difference never (not-above (ltb h l) refl k))
 
-      pub way-once : l ≤ h → left < h - l → TimesAre times.Once left n (worth a) (worth b)
+      above : (d : ℕ) → 0 < d → (c : Bool) → ltb left d ≡ c → way-by left (signed l) (pos d) ≡ elim c as (λ _. Way) [ true ↦ once | false ↦ rounds (signed l) d ]
+      above zero k c q = absurd (omega arith)
+      above (suc d) k c q = ap (λ (z : Bool). elim z as (λ _. Way) [ true ↦ once | false ↦ rounds (signed l) (suc d) ]) q
+
+      high-way : l < h → (c : Bool) → ltb left (h - l) ≡ c → way left (worth a) (worth b) ≡ elim c as (λ _. Way) [ true ↦ once | false ↦ rounds (signed l) (h - l) ]
+      high-way k c q = by-difference _ (ap (way-by left (signed l)) (minus-high l h (omega arith)) ∙ above (h - l) (omega arith) c q)
+
+      pub way-once : l < h → left < h - l → TimesAre times.Once left n (worth a) (worth b)
       way-once k m = (rw (e, f), high-way k true (lt-ltb left (h - l) m))
 
-      pub way-rounds : l ≤ h → h - l ≤ left → h < 4294967296 → TimesAre (times.Rounds n l (h - l)) left n (worth a) (worth b)
+      pub way-rounds : l < h → h - l ≤ left → h < 4294967296 → TimesAre (times.Rounds n l (h - l)) left n (worth a) (worth b)
       way-rounds k m o = (rw (e, f), high-way k false (le-ltb left (h - l) m), refl, m, omega arith)
 
     pub high-missing : b ≡ Missing → TimesAre times.Once left n (worth a) (worth b)

@@ -2,7 +2,7 @@
 -- Assumes nothing.
 use mathlib.Core.Path.{_≡_, refl, ap}
 use mathlib.Core.Bool.{Bool, true, false}
-use Prim.Native.Nat.{ℕ, suc, _+_, _-_, _≤_, _<_}
+use Prim.Native.Nat.{ℕ, zero, suc, _+_, _-_, _≤_, _<_}
 use native.Mathlib.Omega.{arith}
 use lib.Dec.{ltb}
 use lib.IntN.{ℤ, pos, negsuc, _+ℤ_, _-ℤ_}
@@ -23,14 +23,24 @@ module _ {S : Type 0} (body : Walks S) (n : ℕ) (names : Names) (left : ℕ) (s
   Does once g = g ≡ body names left st
   Does (rounds z count) g = (g ≡ walk-rounds body n z count names (left - count) st) × (ltb left count ≡ false)
 
+  no-rounds : (low : ℤ) → walk-times body n low (pos 0) names left st ≡ going (walked left st)
+  unfolding walk-times walk-rounds
+  no-rounds low = go (ltb left 0) refl
+    where
+      go : (b : Bool) → ltb left 0 ≡ b
+          → elim b as (λ _. Got (Walked S)) [ true ↦ body names left st | false ↦ walk-rounds body n low 0 names (left - 0) st ] ≡ going (walked left st)
+      go true e = let k = ltb-true left 0 e in absurd (omega arith)
+      go false e = ap (λ z. going (walked z st)) (let d : left - 0 ≡ left = omega arith in d)
+
   times-does : (low z : ℤ) → Does (way-by left low z) (walk-times body n low z names left st)
   unfolding walk-times
   times-does low (negsuc d) = refl
-  times-does low (pos count) = go (ltb left count) refl
+  times-does low (pos zero) = no-rounds low
+  times-does low (pos (suc k)) = go (ltb left (suc k)) refl
     where
-      go : (b : Bool) → ltb left count ≡ b
-          → Does (elim b as (λ _. Way) [ true ↦ once | false ↦ rounds low count ])
-          (elim b as (λ _. Got (Walked S)) [ true ↦ body names left st | false ↦ walk-rounds body n low count names (left - count) st ])
+      go : (b : Bool) → ltb left (suc k) ≡ b
+          → Does (elim b as (λ _. Way) [ true ↦ once | false ↦ rounds low (suc k) ])
+          (elim b as (λ _. Got (Walked S)) [ true ↦ body names left st | false ↦ walk-rounds body n low (suc k) names (left - suc k) st ])
       go true e = refl
       go false e = (refl, e)
 

@@ -3,7 +3,7 @@
 -- Assumes nothing: these are definitions and statements.
 use mathlib.Core.Path.{_≡_}
 use mathlib.Core.Bool.{Bool, true, false, _||_}
-use Prim.Native.Nat.{ℕ, _+_, _-_, _≤_}
+use Prim.Native.Nat.{ℕ, zero, suc, _+_, _-_, _≤_}
 use lib.ListN.{length}
 use lib.Dec.{ltb}
 use lib.IntN.{ℤ, pos, negsuc, _-ℤ_}
@@ -45,9 +45,11 @@ pub data Way : Type 0 where
   never once : Way
   rounds : (low : ℤ) → (count : ℕ) → Way
 
+-- 01, The collected item: the same by high - low: none where high is not above low
 abbrev pub way-by : ℕ → ℤ → ℤ → Way
 way-by left low (negsuc d) = never
-way-by left low (pos count) = elim (ltb left count) [ true ↦ once | false ↦ rounds low count ]
+way-by left low (pos zero) = never
+way-by left low (pos (suc count)) = elim (ltb left (suc count)) [ true ↦ once | false ↦ rounds low (suc count) ]
 
 unfoldable pub way : ℕ → Value → Value → Way
 way left (known low) (known high) = way-by left low (high -ℤ low)

@@ -83,7 +83,7 @@ fn way_of(n: u64, low: Value, high: Value, left: u32) -> Times
     match low {
         Value::Known(l) => match high {
             Value::Known(h) => {
-                if h < l {
+                if h <= l {
                     return Times::Never;
                 }
                 if left < h - l {

@@ -17,6 +17,9 @@ enum-known-high c = search needs
 returns : tie.Need-returns
 returns c = λ h. way-never (c .before .before .before .before .before .before .before .args .n) (c .before .before .before .before .before .before .before .args .left) (c .before .before .before .before .before .before .before .args .low) (c .before .before .before .before .before .before .before .args .high) (c .before .before .before .before .before .low .given .1) (c .before .before .high .given .1) (c .if1 .taken)
 
+sub-if2 : tie.Need-sub-if2
+sub-if2 c = omega arith
+
 returns-2 : tie.Need-returns-2
 returns-2 c = λ h. way-once (c .before .before .before .before .before .before .before .before .args .n) (c .before .before .before .before .before .before .before .before .args .left) (c .before .before .before .before .before .before .before .before .args .low) (c .before .before .before .before .before .before .before .before .args .high) (c .before .before .before .before .before .before .low .given .1) (c .before .before .before .high .given .1) (omega (arith, c .before .if1 .left)) (c .if2 .taken)
 
@@ -25,6 +28,9 @@ returns-3 c = λ h. absurd (omega (arith, c .if3 .taken))
 
 cast-t10 : tie.Need-cast-t10
 cast-t10 c = search needs
+
+sub-t11 : tie.Need-sub-t11
+sub-t11 c = omega (arith, c .before .before .if1 .left)
 
 enum-told : tie.Need-enum-told
 enum-told c = search needs
@@ -75,9 +81,11 @@ way-of-spec =
     enum-known-low
     enum-known-high
     returns
+    sub-if2
     returns-2
     returns-3
     cast-t10
+    sub-t11
     enum-told
     enum-told-2
     enum-told-3
