@@ -1,4 +1,5 @@
--- The name table of a module as it is filled: what each line adds, line by line, until a line stops it.
+-- The name table of a module as it is filled: what each line adds, line by line, until a line stops it. 01: The line; The value; Refused because of
+-- the text; Refused because of the state.
 -- Assumes nothing: these are definitions.
 use mathlib.Core.Path.{_≡_}
 use mathlib.Core.Bool.{Bool, true, false, _&&_}
@@ -22,15 +23,16 @@ use Rattle.consteval.specs.declared.fill.Entry.the-variants.{Skip, Put, 
 use Rattle.consteval.specs.declared.fill.Role.{Role}
 use Rattle.consteval.specs.declared.fill.Role.the-variants.{Val, Const, Other}
 
--- how many bytes there are before the line feed
+-- 01, The line: how many bytes there are before the line feed, or before the end where there is none
 unfoldable pub feed : Bytes → ℕ
 feed [] = 0
 feed (c ∷ s) = elim (eqb c 10) [ true ↦ 0 | false ↦ suc (feed s) ]
 
--- the end of the line that starts at `at`
+-- 01, The line: the end of the line that starts at `at`
 abbrev pub line-end : Bytes → ℕ → ℕ
 line-end s at = at + feed (drop at s)
 
+-- 01, The value: whether a head word is `val`, `const` or another
 abbrev pub role : Word → Role
 role N-word = Other
 role F-word = Other
@@ -90,19 +92,21 @@ role Bound-word = Other
 role Unbound-word = Other
 role Other-word = Other
 
--- a name and its value, as they are held
+-- 01, The value; Refused because of the state: what a name and its value add: both, as they are held, or bad where the name is no number below 2^32;
+-- nothing where there is no value; or it is outside INT
 abbrev pub held : ℕ → Value → Entry
 held n (known z) = elim (ltb n 4294967296) [ true ↦ Put n (biased z) | false ↦ Bad ]
 held n missing = Skip
 held n outside = Outside
 
--- what a line adds to the table: as a header line, and as an item line under the names so far
+-- 01, The value: what a line adds to the table as a header line: a `val` line its name and INT
 abbrev pub val-of-line : Line → Entry
 val-of-line (module-line m b) = Skip
 val-of-line (header-line (kind n k)) = Skip
 val-of-line (header-line (val n z)) = held n (within z)
 val-of-line (item-line i) = Skip
 
+-- 01, The value: what an item adds to the table under the names so far: a `const` its name and value
 abbrev pub const-of-item : Names → Item → Entry
 const-of-item names (port d n w s) = Skip
 const-of-item names (wire n e s) = Skip
@@ -115,59 +119,67 @@ const-of-item names (inst i) = Skip
 const-of-item names (repeat n l h is) = Skip
 const-of-item names (const-if c is js) = Skip
 
+-- 01, The value: what a line adds to the table as an item line under the names so far
 abbrev pub const-of-line : Names → Line → Entry
 const-of-line names (module-line m b) = Skip
 const-of-line names (header-line h) = Skip
 const-of-line names (item-line i) = const-of-item names i
 
--- an answer and the table that is left
+-- 01, The value: an answer and the table that is left
 pub record Filling : Type 0 where
   pub answer : Filled
   pub table : List ℕ
 
+-- 01, The value: the same, by its parts
 abbrev pub filling : Filled → List ℕ → Filling
 filling r t = record { answer = r; table = t }
 
--- one entry, and what follows it
+-- 01, The value; Refused because of the state: one entry, and what follows it: nothing is added, or a pair where there is room; else it ends there,
+-- with the table as it is
 abbrev pub by-entry : Entry → (List ℕ → ℕ → Filling) → List ℕ → ℕ → Filling
 by-entry Skip next t used = next t used
 by-entry (Put n v) next t used = elim (room t used) [ true ↦ next (pushed t used n v) (used + 1) | false ↦ filling Short t ]
 by-entry Outside next t used = filling Left t
 by-entry Bad next t used = filling Wrong t
 
+-- 01, The value: the `val` lines among these, in order, `used` pairs being there already
 unfoldable pub vals-of : List Bytes → List ℕ → ℕ → Filling
 vals-of [] t used = filling (Used used) t
 vals-of (s ∷ ls) t used = by-entry (val-of-line (decode-line s)) (vals-of ls) t used
 
+-- 01, The value: the top-level `const` lines among these, in order, each under the names so far
 unfoldable pub consts-of : List Bytes → List ℕ → ℕ → Filling
 consts-of [] t used = filling (Used used) t
 consts-of (s ∷ ls) t used = by-entry (const-of-line (names-of t used) (decode-line s)) (consts-of ls) t used
 
+-- 01, The value; Refused because of the state: the items' lines behind the header's, where these did not end it
 abbrev pub then-consts : Bytes → Filled → List ℕ → Filling
 then-consts items (Used n) t = consts-of (lines items) t n
 then-consts items Left t = filling Left t
 then-consts items Short t = filling Short t
 then-consts items Wrong t = filling Wrong t
 
--- the header's lines, then the items' lines
+-- 01, The value: the header's lines, then the items' lines
 unfoldable pub fill-of : Bytes → Bytes → List ℕ → Filling
 fill-of header items t = then-consts items (vals-of (lines header) t 0 .answer) (vals-of (lines header) t 0 .table)
 
 -- ---- what the table is of
 
--- the module that the header's lines and the items' lines make; other lines among them count for nothing
+-- 01, The line: the `kind` and `val` lines among these; other lines count for nothing
 unfoldable pub headers-of : List Line → List Header
 headers-of [] = []
 headers-of (module-line m b ∷ ls) = headers-of ls
 headers-of (header-line h ∷ ls) = h ∷ headers-of ls
 headers-of (item-line i ∷ ls) = headers-of ls
 
+-- 01, The line: the items among these lines; other lines count for nothing
 unfoldable pub items-of : List Line → Items
 items-of [] = Items.none
 items-of (module-line m b ∷ ls) = items-of ls
 items-of (header-line h ∷ ls) = items-of ls
 items-of (item-line i ∷ ls) = Items.more i (items-of ls)
 
+-- 01, The line: the module that the header's lines and the items' lines make; other lines among them count for nothing
 abbrev pub module-of : Bool → Bytes → Bytes → Module
 module-of bound header items = record { bound = bound; header = headers-of (decode-lines (lines header)); items = items-of (decode-lines (lines items)) }
 
@@ -176,14 +188,17 @@ unfoldable pub all-in-range : List Line → Bool
 all-in-range [] = true
 all-in-range (l ∷ ls) = line-in-range l && all-in-range ls
 
--- an answer and the table that is left, against the specification's name table
+-- 01, The value; Refused because of the state: an answer and the table that is left, against the specification's name table: the used pairs, which
+-- have their places, are its names, and no constant is outside INT; or one is; or it has more names than there are places for pairs; `Bad` is no
+-- answer
 abbrev pub Right : Filled → List ℕ → Table → Type 0
 Right (Used n) t T = (names-of t n ≡ T .names) × (T .out ≡ false) × (n ≤ length t / 2)
 Right Left t T = T .out ≡ true
 Right Short t T = length t / 2 < length (T .names)
 Right Wrong t T = ⊥
 
--- The theorem: of lines in range the table is the name table of their module, a constant is outside INT, or the table is too small.
+-- 01, The value; Refused because of the state: the theorem: of lines in range the table is the name table of their module, a constant is outside INT,
+-- or the table is too small
 pub record Fills : Type 0 where
   pub right : (bound : Bool) (header items : Bytes) (t : List ℕ) → all-in-range (decode-lines (lines header)) ≡ true → all-in-range (decode-lines (lines items)) ≡ true →
       Right (fill-of header items t .answer) (fill-of header items t .table) (name-table (own-vals (module-of bound header items)) (module-of bound header items))

@@ -1,4 +1,5 @@
--- What the code's enums mean: a value in whole numbers, the name table, what a head word makes of an expression.
+-- What the code's enums mean: a value in whole numbers, the name table, what a head word makes of an expression. 01: The value; Refused because of
+-- the state; Forms for specific places.
 -- Assumes nothing: these are definitions.
 use mathlib.Core.Bool.{Bool, true, false}
 use mathlib.Core.List.{List, [], _∷_}
@@ -21,30 +22,33 @@ use Rattle.consteval.specs.declared.shape.Binary.the-variants.{Add, Sub,
 use Rattle.consteval.specs.declared.shape.Shape.{Shape}
 use Rattle.consteval.specs.declared.shape.Shape.the-variants.{Name, If, One, Two, True, False, None}
 
--- the whole number that x holds
+-- 01, The value: the whole number that x holds, 2147483648 below it
 abbrev pub signed : ℕ → ℤ
 signed x = subℕ x 2147483648
 
+-- 01, Forms for specific places; The value; Refused because of the state: the value of each answer: a whole number, none, or outside INT
 abbrev pub worth : Answer → Value
 worth (Known x) = known (signed x)
 worth Missing = missing
 worth Outside = outside
 
--- the name table: pairs of a name and what holds its value, the newest last
+-- 01, The value: the name table of the first k pairs, each a name and what holds its value; they stand the newest last, and are given the newest
+-- first
 unfoldable pub pairs : List ℕ → ℕ → Names
 pairs t zero = []
 pairs t (suc k) = (getD t (k + k) 0, signed (getD t (k + k + 1) 0)) ∷ pairs t k
 
--- the names of a table of which `used` pairs count, as far as it has them
+-- 01, The value: the names of a table of which `used` pairs count, as far as it has them
 unfoldable pub names-of : List ℕ → ℕ → Names
 names-of t used = pairs t (min used (length t / 2))
 
+-- 01, The value: what the code's operators with one part are
 abbrev pub unary-of : One-word → Unary
 unary-of Neg = neg
 unary-of Not = not
 unary-of Clog2 = clog2
 
--- `Bits` is any of the five: none has a value
+-- 01, The value: what the code's operators with two parts are; `Bits` is any of the five of refusal 8: none has a value
 abbrev pub binary-of : Two-word → Binary
 binary-of Add = add
 binary-of Sub = sub
@@ -59,7 +63,7 @@ binary-of And = and
 binary-of Or = or
 binary-of Bits = shl
 
--- what a word makes of an expression that it heads
+-- 01, The value: what a word makes of an expression that it heads, or that it is
 abbrev pub shape : Word → Shape
 shape N-word = Name
 shape F-word = None
@@ -119,7 +123,7 @@ shape Bound-word = None
 shape Unbound-word = None
 shape Other-word = None
 
--- the value of a form of that shape with these parts behind its head, f being what a part is
+-- 01, The value: the value of a form of that shape with these parts behind its head, f being what a part is
 abbrev pub by-shape : Names → (Bytes → Expr) → Shape → List Bytes → Value
 by-shape names f Name ps = with-one missing (λ n. value-of-name names (number n)) ps
 by-shape names f If ps =
@@ -130,7 +134,7 @@ by-shape names f True ps = missing
 by-shape names f False ps = missing
 by-shape names f None ps = missing
 
--- the value of bytes that are no form, n being the number that they are
+-- 01, The value: the value of bytes that are no form, by the shape of their word, n being the number that they are
 abbrev pub by-atom : Shape → ℕ → Value
 by-atom Name n = within (pos n)
 by-atom If n = within (pos n)
@@ -140,9 +144,10 @@ by-atom True n = truth-value true
 by-atom False n = truth-value false
 by-atom None n = within (pos n)
 
--- one more pair, where there is room for it
+-- 01, The value: whether there is room for one more pair behind those that are used
 abbrev pub room : List ℕ → ℕ → Bool
 room t used = ltb used (length t / 2)
 
+-- 01, The value: one more pair, where there is room for it
 unfoldable pub pushed : List ℕ → ℕ → ℕ → ℕ → List ℕ
 pushed t used n v = elim (room t used) [ true ↦ set (set t (used + used) n) (used + used + 1) v | false ↦ t ]

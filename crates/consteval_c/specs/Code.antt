@@ -1,4 +1,4 @@
--- A value as one number, for programs in other languages.
+-- A value as one number, for programs in other languages. 01: The line; The value; Refused because of the state.
 -- Assumes nothing: these are definitions.
 use Prim.Native.Nat.{ℕ, _+_, _-_}
 use mathlib.Core.Bool.{true, false}
@@ -6,15 +6,16 @@ use lib.Dec.{ltb}
 use lib.IntN.{ℤ, pos, negsuc}
 use Rattle.spec.specs.Value.{Value, known, missing, outside}
 
--- v + 2147483648, for v in INT
+-- 01, The value: v + 2147483648, for v in INT
 abbrev pub biased : ℤ → ℕ
 biased (pos n) = n + 2147483648
 biased (negsuc n) = 2147483647 - n
 
--- the depth that is taken: at most the brackets of the line format
+-- 01, The line: the depth that is taken: at most the 32 brackets of the line format
 abbrev pub allowed : ℕ → ℕ
 allowed d = elim (ltb d 32) [ true ↦ d | false ↦ 32 ]
 
+-- 01, The value; Refused because of the state: a value as one number: v + 2147483648, 2^32 for none, 2^32 + 1 for one outside INT
 abbrev pub code : Value → ℕ
 code (known z) = biased z
 code missing = 4294967296

@@ -1,4 +1,4 @@
--- What a byte is. 01: Forms for specific places, character classes.
+-- What a byte is. 01: The line; Forms for specific places, character classes.
 -- Assumes nothing: these are definitions.
 use mathlib.Core.Bool.{Bool, true, false}
 use Prim.Native.Nat.{ℕ}
@@ -6,7 +6,8 @@ use lib.Dec.{eqb, ltb}
 use Rattle.lines.specs.declared.bytes.Class.{Class}
 use Rattle.lines.specs.declared.bytes.Class.the-variants.{Space, Open, Close, Digit, Letter, Minus, Feed, Refused, Other}
 
--- by value: refused up to 31 but for line feed, then space to 126, then refused
+-- 01, Forms for specific places: one decision over byte ranges, by value: refused up to 31 but for line feed, then space to 126 (space, brackets,
+-- minus, digits, letters, other), then refused
 unfoldable pub classOf : ℕ → Class
 classOf b =
     elim (ltb b 48) [
@@ -38,6 +39,7 @@ classOf b =
       ]
     ]
 
+-- 01, The line: whether a class is that of the digits
 abbrev pub isDigit : Class → Bool
 isDigit Space = false
 isDigit Open = false
@@ -49,6 +51,7 @@ isDigit Feed = false
 isDigit Refused = false
 isDigit Other = false
 
+-- 01, The line: whether a class is that of a word's bytes: digits and letters
 abbrev pub isWordly : Class → Bool
 isWordly Space = false
 isWordly Open = false

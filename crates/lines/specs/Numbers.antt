@@ -1,4 +1,4 @@
--- Numbers as they are read: what is well written is what shows a number.
+-- Numbers as they are read: what is well written is what shows a number. 01: The line; Refused because of the text.
 -- Assumes nothing: these are definitions.
 use mathlib.Core.Bool.{Bool, true, false}
 use mathlib.Core.List.{[], _∷_}
@@ -11,16 +11,17 @@ use Rattle.spec.specs.Refusal.{in-int}
 use Rattle.lines.specs.declared.numbers.Num.{Num}
 use Rattle.lines.specs.declared.numbers.Num.the-variants.{Is, Large, Bad}
 
--- digits, and at least one, and no 0 before another
+-- 01, The line: digits and nothing else, or no bytes at all
 unfoldable pub all-digits : Bytes → Bool
 all-digits [] = true
 all-digits (c ∷ s) = elim (ltb c 48) [ true ↦ false | false ↦ elim (ltb 57 c) [ true ↦ false | false ↦ all-digits s ] ]
 
+-- 01, The line: numbers are decimal without leading zeros: digits, and at least one, and no 0 before another
 unfoldable pub plain-number : Bytes → Bool
 plain-number s =
     elim (eqb (length s) 0) [ true ↦ false | false ↦ elim (eqb (getD s 0 0) 48) [ true ↦ eqb (length s) 1 | false ↦ all-digits s ] ]
 
--- 01, The line: the number that s is, where s shows one, and whether it is below the limit
+-- 01, The line; Refused because of the text: the number that s is, where s shows one, and whether it is below the limit
 unfoldable pub num-of : ℕ → Bytes → Num
 num-of limit s =
     elim (same-bytes s (show-number (number s))) [
@@ -28,12 +29,12 @@ num-of limit s =
       | false ↦ Bad
     ]
 
--- a whole number in INT as the number that holds it
+-- 01, The line: a whole number in INT as the number that holds it, 2147483648 above it
 abbrev pub biased : ℤ → ℕ
 biased (pos n) = n + 2147483648
 biased (negsuc n) = 2147483648 - suc n
 
--- 01, The line: the INT of `val`
+-- 01, The line; Refused because of the text: the INT of `val` as the number that holds it, where s shows one, and whether it is in range
 unfoldable pub int-of : Bytes → Num
 int-of s =
     elim (same-bytes s (show-int (integer s))) [
@@ -41,7 +42,7 @@ int-of s =
       | false ↦ Bad
     ]
 
--- a number that was read is below the limit
+-- 01, The line: a number that was read is below the limit; of one that is too large or badly written nothing is said
 abbrev pub Below : ℕ → Num → Type 0
 Below limit (Is n) = n < limit
 Below limit Large = Unit {0}

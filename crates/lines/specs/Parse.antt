@@ -1,4 +1,5 @@
--- What the code of src/parse.rt does, on the bytes of a text and a position in it. proofs/ ties it to the bytes that show a tree.
+-- What the code of src/parse.rt does, on the bytes of a text and a position in it. proofs/ ties it to the bytes that show a tree. 01: The line;
+-- Refused because of the text.
 -- Assumes nothing: these are definitions.
 use mathlib.Core.Bool.{Bool, true, false, _&&_, not}
 use mathlib.Core.List.{List, [], _∷_}
@@ -23,15 +24,16 @@ use Rattle.lines.specs.declared.parse.Op.the-variants as Op
 
 -- ---- words and numbers
 
--- the word's letters in base 256, and its length in base 16
+-- 01, The line: the bytes of a word in base 256, behind those that make a
 unfoldable pub code-after : ℕ → Bytes → ℕ
 code-after a [] = a
 code-after a (c ∷ w) = code-after (a * 256 + c) w
 
+-- 01, The line: a word as one number: its bytes in base 256, and behind them, in base 16, its length
 unfoldable pub key : Bytes → ℕ
 key w = code-after 0 w * 16 + length w
 
--- the rest of a word, k letters of which make `code`; one that is too long has the key 0
+-- 01, The line: the rest of a word from i on, k bytes of which make `code`: its key and where it ends; the key is 0 where f bytes or more are left
 unfoldable pub wordFrom : ℕ → Bytes → ℕ → ℕ → ℕ → Word
 wordFrom zero t i code k = record { key = 0; next = i }
 wordFrom (suc f) t i code k =
@@ -40,10 +42,12 @@ wordFrom (suc f) t i code k =
       | false ↦ record { key = code * 16 + k; next = i }
     ]
 
+-- 01, The line: the word at a position: its key and where it ends; the key is 0 where there is none, and where it has more than seven bytes, of which
+-- eight are passed
 unfoldable pub wordAt : Bytes → ℕ → Word
 wordAt t at = wordFrom 8 t at 0 0
 
--- ` (n ` stands here
+-- 01, The line: ` (n ` stands here: by this a first part `(n NAME)` is known
 unfoldable pub peekAt : Bytes → ℕ → Bool
 peekAt t at =
     elim (eqb (getD t at 0) 32) [
@@ -54,13 +58,17 @@ peekAt t at =
       | false ↦ false
     ]
 
+-- 01, The line: one digit more behind a number below 2^32; from there on the number stays
 unfoldable pub moreDigit : ℕ → ℕ → ℕ
 moreDigit a d = elim (ltb a 4294967296) [ true ↦ a * 10 + d | false ↦ a ]
 
+-- 01, The line: the number whose digits stand behind those of a, to the first byte that is no digit, and where that is; the bytes begin at `at`
 unfoldable pub digitsFrom : Bytes → ℕ → ℕ → Number
 digitsFrom [] at a = Is a at
 digitsFrom (c ∷ s) at a = elim (isDigit (classOf c)) [ true ↦ digitsFrom s (suc at) (moreDigit a (c - 48)) | false ↦ Is a at ]
 
+-- 01, The line: the number at a position and where it ends: 0 alone, or a digit that is not 0 and all digits behind it; none where no digit stands;
+-- one from 2^32 on is taken as some number from 2^32 on
 unfoldable pub numberAt : Bytes → ℕ → Number
 numberAt t at =
     elim (eqb (getD t at 0) 48) [
@@ -68,14 +76,17 @@ numberAt t at =
       | false ↦ elim (isDigit (classOf (getD t at 0))) [ true ↦ digitsFrom (drop at t) at 0 | false ↦ None ]
     ]
 
+-- 01, Refused because of the text: a number as a part: bad where there is none; in range (5) where it is below the limit
 abbrev pub numbered : Number → ℕ → Parsed
 numbered None limit = Bad
 numbered (Is v next) limit = Good next (ltb v limit) true
 
+-- 01, Refused because of the text: M of `module` as a part: bad where there is none; it has no range (5)
 abbrev pub counted : Number → Parsed
 counted None = Bad
 counted (Is v next) = Good next true true
 
+-- 01, The line: the INT of `val` as a part: a number, or a minus and a number that is not 0; from −2,147,483,648 to 2,147,483,647 it is in range
 unfoldable pub intAt : Bytes → ℕ → Parsed
 intAt t at =
     elim (eqb (getD t at 0) 45) [
@@ -85,10 +96,12 @@ intAt t at =
 
 -- ---- tables of words
 
+-- 01, The line: what a table of words gives for a key, and `other` for a key that it lacks
 unfoldable pub lookup-key : {A : Type 0} → List (ℕ × A) → A → ℕ → A
 lookup-key [] other k = other
 lookup-key (e ∷ table) other k = elim (eqb k (e .0)) [ true ↦ e .1 | false ↦ lookup-key table other k ]
 
+-- 01, The line: the heads of E by their keys, told apart by their parts; `Bitwise` are the five of refusal 8
 unfoldable pub ops : List (ℕ × Op)
 ops =
     (key (bytes "n"), Op.Name) ∷ (key (bytes "f"), Op.Field) ∷ (key (bytes "ix"), Op.Index) ∷ (key (bytes "if"), Op.If)
@@ -99,59 +112,76 @@ ops =
     ∷ (key (bytes "shr"), Op.Bitwise) ∷ (key (bytes "band"), Op.Bitwise) ∷ (key (bytes "bor"), Op.Bitwise)
     ∷ (key (bytes "bxor"), Op.Bitwise) ∷ []
 
+-- 01, The line: which head of E has that key; `Other` for none
 unfoldable pub opOf : ℕ → Op
 opOf k = lookup-key ops Op.Other k
 
+-- 01, The line: the words of K by their keys, in, out, wire, reg, mem and inst being 1 to 6
 unfoldable pub kind-numbers : List (ℕ × ℕ)
 kind-numbers =
     (key (bytes "in"), 1) ∷ (key (bytes "out"), 2) ∷ (key (bytes "wire"), 3) ∷ (key (bytes "reg"), 4) ∷ (key (bytes "mem"), 5)
     ∷ (key (bytes "inst"), 6) ∷ []
 
+-- 01, The line: the number of the kind with that key, and 0 for no kind
 unfoldable pub kindOf : ℕ → ℕ
 kindOf k = lookup-key kind-numbers 0 k
 
+-- 01, The line: whether a key is one of two
 unfoldable pub either : ℕ → ℕ → ℕ → Bool
 either k a b = elim (eqb k a) [ true ↦ true | false ↦ eqb k b ]
 
+-- 01, Refused because of the text: a word as a part that ends at `next`: bad where it is none that may stand here
 abbrev pub worded : Bool → ℕ → Parsed
 worded true next = Good next true true
 worded false next = Bad
 
 -- ---- shapes
 
+-- 01, The line: the shape of a form: at least n parts, the next four of the categories a to d, all behind them of l
 abbrev pub behind : ℕ → Cat → Cat → Cat → Cat → Cat → Shape
 behind n a b c d l = record { need = n; a = a; b = b; c = c; d = d; last = l; fine = true }
 
+-- 01, The line: the shape of a form with at least n parts and at most four, of the categories a to d; `Nothing` is the category of a part that may
+-- not stand
 abbrev pub fixed : ℕ → Cat → Cat → Cat → Cat → Shape
 fixed n a b c d = behind n a b c d Nothing
 
+-- 01, Refused because of the text: the shape of an unknown head: one part is needed and none may stand
 abbrev pub no-shape : Shape
 no-shape = fixed 1 Nothing Nothing Nothing Nothing
 
+-- 01, Refused because of the text: the shape of `shl`, `shr`, `band`, `bor` and `bxor`: two parts of category e; `fine` says whether it may stand
+-- here (8)
 abbrev pub bitwise : Cat → Bool → Shape
 bitwise e fine = record { need = 2; a = e; b = e; c = Nothing; d = Nothing; last = Nothing; fine = fine }
 
+-- 01, The line: how a part of an expression stands: in a constant place where the whole does, read otherwise
 abbrev pub inner : Mode → Mode
 inner Read = Read
 inner Field = Read
 inner Constant = Constant
 
+-- 01, The line: how the first part of `f` stands: in a constant place where the whole does, directly under `f` otherwise
 abbrev pub under-field : Mode → Mode
 under-field Read = Field
 under-field Field = Field
 under-field Constant = Constant
 
+-- 01, The line: how the second part of `ix` stands: in a constant place where the whole does, or where the whole is directly under `f` and its first
+-- part is `(n NAME)`; read otherwise
 abbrev pub index-mode : Mode → Bool → Mode
 index-mode Read named = Read
 index-mode Field true = Constant
 index-mode Field false = Read
 index-mode Constant named = Constant
 
+-- 01, Refused because of the text: whether `shl`, `shr`, `band`, `bor` and `bxor` may stand here: not in a constant place (8)
 abbrev pub free : Mode → Bool
 free Read = true
 free Field = true
 free Constant = false
 
+-- 01, The line: the parts of E by its head; m says how it stands, and `named` whether its first part is `(n NAME)`
 abbrev pub expr-shape : Mode → Op → Bool → Shape
 expr-shape m Op.Name named = fixed 1 Name Nothing Nothing Nothing
 expr-shape m Op.Field named = fixed 2 (E (under-field m)) Name Nothing Nothing
@@ -163,24 +193,30 @@ expr-shape m Op.Binary named = fixed 2 (E (inner m)) (E (inner m)) Nothing Nothi
 expr-shape m Op.Bitwise named = bitwise (E (inner m)) (free m)
 expr-shape m Op.Other named = no-shape
 
+-- 01, The line: one head only: `q` for its key, and no shape for any other
 unfoldable pub lone : ℕ → ℕ → Shape → Shape
 lone k head q = elim (eqb k head) [ true ↦ q | false ↦ no-shape ]
 
+-- 01, The line: T with brackets: `(bits E)` and `(signed E)`, E in a constant place
 unfoldable pub widths : List (ℕ × Shape)
 widths =
     (key (bytes "bits"), fixed 1 (E Constant) Nothing Nothing Nothing) ∷ (key (bytes "signed"), fixed 1 (E Constant) Nothing Nothing Nothing) ∷ []
 
+-- 01, The line: the parts behind a head of T with that key; no shape for any other
 unfoldable pub width-shape : ℕ → Shape
 width-shape k = lookup-key widths no-shape k
 
+-- 01, The line: S: `(set NAME START)`, `(default NAME)`, `(loop S...)`, `(when (then S...) (else S...))`
 unfoldable pub stmts : List (ℕ × Shape)
 stmts =
     (key (bytes "set"), fixed 2 Name Start Nothing Nothing) ∷ (key (bytes "default"), fixed 1 Name Nothing Nothing Nothing)
     ∷ (key (bytes "loop"), behind 0 S S S S S) ∷ (key (bytes "when"), fixed 2 ThenS ElseS Nothing Nothing) ∷ []
 
+-- 01, The line: the parts behind a head of S with that key; no shape for any other
 unfoldable pub stmt-shape : ℕ → Shape
 stmt-shape k = lookup-key stmts no-shape k
 
+-- 01, The line: items: each head and its parts, with E in a constant place in `const`, the bounds of `repeat` and the condition of `constif`
 unfoldable pub items : List (ℕ × Shape)
 items =
     (key (bytes "port"), fixed 4 Dir Name T Start) ∷ (key (bytes "wire"), fixed 3 Name (E Read) Start Nothing)
@@ -189,17 +225,22 @@ items =
     ∷ (key (bytes "on"), behind 1 Start S S S S) ∷ (key (bytes "inst"), behind 4 Name X Mod Start C)
     ∷ (key (bytes "repeat"), behind 3 Name (E Constant) (E Constant) I I) ∷ (key (bytes "constif"), fixed 3 (E Constant) ThenI ElseI Nothing) ∷ []
 
+-- 01, The line: the parts behind a head of an item with that key; no shape for any other
 unfoldable pub item-shape : ℕ → Shape
 item-shape k = lookup-key items no-shape k
 
+-- 01, The line: `(module M bound)` or `unbound`, `(kind NAME K)`, `(val NAME INT)`
 unfoldable pub headers : List (ℕ × Shape)
 headers =
     (key (bytes "module"), fixed 2 Count Bound Nothing Nothing) ∷ (key (bytes "kind"), fixed 2 Name Kind Nothing Nothing)
     ∷ (key (bytes "val"), fixed 2 Name Int Nothing Nothing) ∷ []
 
+-- 01, The line: the parts behind a line's head with that key: `module`, `kind`, `val`, or else an item's
 unfoldable pub line-shape : ℕ → Shape
 line-shape k = lookup-key headers (item-shape k) k
 
+-- 01, The line: the parts behind a head with that key of a form of a category; `named`: the first is `(n NAME)`. X, and E in LV, stand in a constant
+-- place; a number or a word is no form
 abbrev pub shape : Cat → ℕ → Bool → Shape
 shape Name k named = no-shape
 shape Start k named = no-shape
@@ -223,11 +264,13 @@ shape ElseI k named = lone k (key (bytes "else")) (behind 0 I I I I I)
 shape L k named = line-shape k
 shape Nothing k named = no-shape
 
+-- 01, The line: what is left of a shape behind one part
 abbrev pub shift : Shape → Shape
 shift q = record { need = q .need - 1; a = q .b; b = q .c; c = q .d; d = q .last; last = q .last; fine = q .fine }
 
 -- ---- parts
 
+-- 01, The line: E without brackets as a part: a literal, `true` or `false`
 unfoldable pub literal : Bytes → ℕ → Parsed
 literal t at =
     elim (isDigit (classOf (getD t at 0))) [
@@ -235,6 +278,8 @@ literal t at =
       | false ↦ worded (either (wordAt t at .key) (key (bytes "true")) (key (bytes "false"))) (wordAt t at .next)
     ]
 
+-- 01, The line: a part of a category at a position where no bracket opens: a number, a word, a literal, `-` for X; bad where the category has only
+-- forms, or nothing
 abbrev pub atom : Cat → Bytes → ℕ → Parsed
 atom Name t at = numbered (numberAt t at) name-bound
 atom Start t at = numbered (numberAt t at) number-bound
@@ -258,7 +303,8 @@ atom ElseI t at = Bad
 atom L t at = Bad
 atom Nothing t at = Bad
 
--- the parts of a form from i on, of which q is left, with `f` for a part; at most `left` of them
+-- 01, The line; Refused because of the text: the parts of a form from i on, of which q is left, each behind one space, and then its last bracket,
+-- with `f` for a part; fewer than `left` of them. `range` (5) and `places` (8) are whether all was fine so far
 unfoldable pub parts-at : (Cat → ℕ → Parsed) → ℕ → Bytes → Shape → ℕ → Bool → Bool → Parsed
 parts-at f zero t q i range places = Bad
 parts-at f (suc left) t q i range places =
@@ -270,12 +316,14 @@ parts-at f (suc left) t q i range places =
       ]
     ]
 
+-- 01, The line: the form of a category whose bracket opens at a position: its head word, then its parts, with `f` for a part
 unfoldable pub form-at : (Cat → ℕ → Parsed) → Cat → Bytes → ℕ → Parsed
 form-at f c t at =
     let w = wordAt t (at + 1) in
     let q = shape c (w .key) (peekAt t (w .next)) in
     parts-at f (length t) t q (w .next) true (q .fine)
 
+-- 01, The line: the part of a category at a position, at most d brackets deep
 unfoldable pub scan : ℕ → Cat → Bytes → ℕ → Parsed
 scan zero c t at = elim (eqb (getD t at 0) 40) [ true ↦ Bad | false ↦ atom c t at ]
 scan (suc d) c t at = elim (eqb (getD t at 0) 40) [ true ↦ form-at (λ k i. scan d k t i) c t at | false ↦ atom c t at ]

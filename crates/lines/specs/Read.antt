@@ -1,4 +1,5 @@
--- What the code of src/read.rt does, on the bytes of a text and a position in it. proofs/ ties it to Refusal.
+-- What the code of src/read.rt does, on the bytes of a text and a position in it. proofs/ ties it to Refusal. 01: The line; Refused because of the
+-- text.
 -- Assumes nothing: these are definitions.
 use mathlib.Core.Bool.{Bool, true, false}
 use mathlib.Core.List.{List, [], _∷_}
@@ -18,7 +19,8 @@ use Rattle.lines.specs.declared.parse.Number.the-variants.{None, Is}
 use Rattle.lines.specs.declared.read.Step.{Step}
 use Rattle.lines.specs.declared.read.Step.the-variants.{Fault, Module, Kind, Val, Item}
 
--- whether the first line of these bytes, in which k brackets are open, is closed by its last byte
+-- 01, Refused because of the text: of 3: whether the first line of these bytes, in which k brackets are open, is closed by its last byte and not
+-- before, and is nowhere deeper than 32 brackets; k is 1 or more
 unfoldable pub closesAt : ℕ → Bytes → Bool
 closesAt k [] = false
 closesAt k (c ∷ s) =
@@ -33,28 +35,37 @@ closesAt k (c ∷ s) =
       ]
     ]
 
+-- 01, Refused because of the text: of a line that is not well written, `at` being behind its opening bracket: 4 where it is one closed form, else 3
 unfoldable pub notWritten : Bytes → ℕ → ℕ
 notWritten t at = elim (closesAt 1 (drop at t)) [ true ↦ 4 | false ↦ 3 ]
 
--- the line that 2 names, and 0 for no fault
+-- 01, Refused because of the text: the line that a verdict names, and 0 for no fault
 abbrev pub fault-line : Verdict → ℕ
 fault-line well-formed = 0
 fault-line (refused k n) = n
 
+-- 01, Refused because of the text: the line that 2 names, and 0 where the text does not have that fault
 unfoldable pub setLine : Bytes → ℕ
 setLine t = fault-line (set-fault t)
 
+-- 01, The line: the number behind a space that stands here; none where there is no space or no number
 unfoldable pub numberAfter : Bytes → ℕ → Number
 numberAfter t at = elim (eqb (getD t at 0) 32) [ true ↦ numberAt t (at + 1) | false ↦ None ]
 
+-- 01, Refused because of the text: a `module` line with that M, so many modules having been read: 4 without an M, 6 where it is not the next number,
+-- 7 for a 33rd module; else the module, with the place of its line feed
 abbrev pub moduleStep : Number → ℕ → ℕ → Step
 moduleStep None modules feed = Fault 4
 moduleStep (Is v j) modules feed = elim (eqb v modules) [ true ↦ elim (leb 32 modules) [ true ↦ Fault 7 | false ↦ Module feed ] | false ↦ Fault 6 ]
 
+-- 01, Refused because of the text: a `kind` line for the name with that number: 4 without one, 5 for one out of range, 7 for a second kind; else the
+-- kind, with the place of its line feed and the name
 abbrev pub kindStep : Number → List ℕ → ℕ → Step
 kindStep None seen feed = Fault 4
 kindStep (Is v j) seen feed = elim (leb name-bound v) [ true ↦ Fault 5 | false ↦ elim (eqb (getD seen v 0) 0) [ true ↦ Kind feed v | false ↦ Fault 7 ] ]
 
+-- 01, Refused because of the text: a line that is well written and in range, by its head word at `at`: `module`; 6 before any module; `kind` and
+-- `val`, 6 after an item; else an item, 8 where its constant places are not fine
 unfoldable pub headStep : Bytes → ℕ → ℕ → Bool → ℕ → Bool → List ℕ → Step
 headStep t at feed places modules items seen =
     elim (eqb (wordAt t at .key) (key (bytes "module"))) [
@@ -71,6 +82,8 @@ headStep t at feed places modules items seen =
       ]
     ]
 
+-- 01, Refused because of the text: the line at a position as it was parsed: 3 or 4 where it is badly written or goes on behind its form, 5 where a
+-- number is out of range, else by its head
 abbrev pub parsedStep : Parsed → Bytes → ℕ → ℕ → Bool → List ℕ → Step
 parsedStep Bad t at modules items seen = Fault (notWritten t (at + 1))
 parsedStep (Good j range places) t at modules items seen =
@@ -79,6 +92,7 @@ parsedStep (Good j range places) t at modules items seen =
       | false ↦ Fault (notWritten t (at + 1))
     ]
 
--- the line that starts at a position, so many modules having been read, of which the last has an item or not and gives these kinds
+-- 01, Refused because of the text: the line that starts at a position, so many modules having been read, of which the last has an item or not and
+-- gives these kinds: its fault, 3 to 8, or what it adds
 unfoldable pub lineStep : Bytes → ℕ → ℕ → Bool → List ℕ → Step
 lineStep t at modules items seen = elim (eqb (getD t at 0) 40) [ true ↦ parsedStep (scan depth-limit L t at) t at modules items seen | false ↦ Fault 3 ]

@@ -12,28 +12,32 @@ use Rattle.spec.specs.Site.{kind-of}
 use Rattle.spec.specs.Refusal.{decode}
 use Rattle.lines.specs.Tables.{kind-number, flag, put-kinds, put-mods}
 
+-- 01, The line: the number of a kind, and z for none
 abbrev pub kind-or : Option Kind → ℕ → ℕ
 kind-or none z = z
 kind-or (some k) z = kind-number k
 
--- the number of a name's kind in module m, and 0 where it has none or there is no such module
+-- 01, The line: the number of a name's kind in module m, and 0 where it has none or there is no such module
 unfoldable pub kind-at : Design → ℕ → ℕ → ℕ
 kind-at [] m n = 0
 kind-at (k ∷ ms) zero n = kind-or (kind-of (k .header) n) 0
 kind-at (k ∷ ms) (suc m) n = kind-at ms m n
 
--- the places of a module: between them stand the lines of its header and of its items, and no others
+-- 01, The line: what the table of places says of module m: whether it is bound, and three places of the text in order: between them stand the lines
+-- of its header and of its items, and no others
 pub record Placed (t : Bytes) (table : List ℕ) (m : ℕ) (k : Module) : Type 0 where
   pub bound : getD table (m * 4) 0 ≡ flag (k .bound)
   pub order : (getD table (m * 4 + 1) 0 ≤ getD table (m * 4 + 2) 0) × (getD table (m * 4 + 2) 0 ≤ getD table (m * 4 + 3) 0) × (getD table (m * 4 + 3) 0 ≤ length t)
   pub header : take (getD table (m * 4 + 2) 0 - getD table (m * 4 + 1) 0) (drop (getD table (m * 4 + 1) 0) t) ≡ show-lines (header-lines (k .header) [])
   pub items : take (getD table (m * 4 + 3) 0 - getD table (m * 4 + 2) 0) (drop (getD table (m * 4 + 2) 0) t) ≡ show-lines (item-lines (k .items) [])
 
+-- 01, The line: the same of each of these modules, numbered from m on
 abbrev pub All-placed : Bytes → List ℕ → ℕ → Design → Type 0
 All-placed t table m [] = Unit {0}
 All-placed t table m (k ∷ ms) = Placed t table m k × All-placed t table (suc m) ms
 
--- of every accepted text, with tables that were zero and are long enough
+-- 01, The line; Refused because of the text: of every accepted text, with tables that were zero and have so many places, which are enough: at most 32
+-- modules; the kind of each name of each module, and 0 for none; the places of each module, and zeros behind them
 pub record Says (t : Bytes) (kinds mods : ℕ) : Type 0 where
   pub few : length (decode t) ≤ 32
   pub kinds-say : (m n : ℕ) → n < name-bound → getD (put-kinds 0 (decode t) (replicate kinds 0)) (m * name-bound + n) 0 ≡ kind-at (decode t) m n

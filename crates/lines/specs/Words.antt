@@ -1,4 +1,4 @@
--- The words of 01 as one table, and a word's number.
+-- The words of 01 as one table, and a word's number. 01: The line.
 -- Assumes nothing: these are definitions.
 use mathlib.Core.Bool.{true, false}
 use mathlib.Core.List.{List, [], _∷_}
@@ -11,6 +11,7 @@ use Rattle.spec.specs.Decode.{ExprHead, name-head, field-head, index-head, if-h
 use Rattle.lines.specs.declared.words.Word.{Word}
 use Rattle.lines.specs.declared.words.Word.the-variants.{N, F, Ix, If, All, Neg, Not, Clog2, Add, Sub, Mul, Eq, Ne, Lt, Le, Gt, Ge, And, Or, Shl, Shr, Band, Bor, Bxor, True, False, Bit, Opaque, Bits, Signed, Lv, Set, Default, Loop, When, Then, Else, Conn, Dash, Port, Wire, Reg, Mem, Const, Drive, On, Inst, Repeat, ConstIf, In, Out, Module, Kind as Kind-word, Val, Bound, Unbound, Other}
 
+-- 01, The line: its words, each with what the code calls it
 unfoldable pub words : List (Bytes × Word)
 words =
     (bytes "n", N) ∷ (bytes "f", F) ∷ (bytes "ix", Ix) ∷ (bytes "if", If) ∷ (bytes "all", All) ∷ (bytes "neg", Neg)
@@ -24,19 +25,20 @@ words =
     ∷ (bytes "constif", ConstIf) ∷ (bytes "in", In) ∷ (bytes "out", Out) ∷ (bytes "module", Module) ∷ (bytes "kind", Kind-word) ∷ (bytes "val", Val)
     ∷ (bytes "bound", Bound) ∷ (bytes "unbound", Unbound) ∷ []
 
--- 01, The line: its words.
+-- 01, The line: which of its words these bytes are, and `Other` for none
 unfoldable pub word-of : Bytes → Word
 word-of w = lookup-word words Other w
 
--- the bytes of a word from the last to the first, behind a 1; 0 for one that is too long to be a word
+-- 01, The line: the bytes of a word in base 256, from the last to the first, behind a 1
 unfoldable pub key : Bytes → ℕ
 key [] = 1
 key (c ∷ w) = key w * 256 + c
 
+-- 01, The line: the same, and 0 for one of more than seven bytes, which is too long to be a word
 unfoldable pub key-of : Bytes → ℕ
 key-of w = elim (ltb 7 (length w)) [ true ↦ 0 | false ↦ key w ]
 
--- what a word is as the head of E
+-- 01, The line: what a word is as the head of E
 abbrev pub expr-head : Word → ExprHead
 expr-head N = name-head
 expr-head F = field-head
@@ -96,7 +98,7 @@ expr-head Bound = no-expr
 expr-head Unbound = no-expr
 expr-head Other = no-expr
 
--- what a word is as the head of S
+-- 01, The line: what a word is as the head of S
 abbrev pub stmt-head : Word → StmtHead
 stmt-head N = no-stmt
 stmt-head F = no-stmt
@@ -156,7 +158,7 @@ stmt-head Bound = no-stmt
 stmt-head Unbound = no-stmt
 stmt-head Other = no-stmt
 
--- what a word is as the head of an item
+-- 01, The line: what a word is as the head of an item
 abbrev pub item-head-of : Word → ItemHead
 item-head-of N = no-item
 item-head-of F = no-item
@@ -216,7 +218,7 @@ item-head-of Bound = no-item
 item-head-of Unbound = no-item
 item-head-of Other = no-item
 
--- what a word is as the head of a line
+-- 01, The line: what a word is as the head of a line: an item's for all but `module`, `kind` and `val`
 abbrev pub line-head : Word → LineHead
 line-head N = item-head
 line-head F = item-head
@@ -276,7 +278,7 @@ line-head Bound = item-head
 line-head Unbound = item-head
 line-head Other = item-head
 
--- what a word is as the head of T
+-- 01, The line: what a word is as the head of T
 abbrev pub width-head : Word → WidthHead
 width-head N = no-width
 width-head F = no-width
@@ -336,7 +338,7 @@ width-head Bound = no-width
 width-head Unbound = no-width
 width-head Other = no-width
 
--- what a word is as K
+-- 01, The line: what a word is as K; `inst` is what is left
 abbrev pub kind-of : Word → Kind
 kind-of N = inst-kind
 kind-of F = inst-kind
@@ -396,7 +398,7 @@ kind-of Bound = inst-kind
 kind-of Unbound = inst-kind
 kind-of Other = inst-kind
 
--- the words counted, so that two can be compared
+-- 01, The line: the words counted, so that two can be compared
 abbrev pub tag : Word → ℕ
 tag N = 0
 tag F = 1
@@ -456,6 +458,6 @@ tag Bound = 54
 tag Unbound = 55
 tag Other = 56
 
--- one of two, by whether the word is x
+-- 01, The line: one of two, by whether the word is x
 abbrev pub on-word : {A : Type 0} → Word → A → A → Word → A
 on-word x a o v = elim (eqb (tag v) (tag x)) [ true ↦ a | false ↦ o ]

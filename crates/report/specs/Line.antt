@@ -1,4 +1,4 @@
--- Report lines in pieces, what the code's records mean, and what writing a piece does to a lent buffer. 01: The report.
+-- Report lines in pieces, what the code's records mean, and what writing a piece does to a lent buffer. 01: The report; Refused because of the state.
 -- Assumes nothing: these are definitions.
 use mathlib.Core.Path.{_≡_}
 use mathlib.Core.Bool.{Bool, true, false}
@@ -21,7 +21,7 @@ use Rattle.report.specs.declared.Report.{Report}
 use Rattle.report.specs.declared.Node.{Node}
 use Rattle.report.specs.declared.Node.the-variants as node
 
--- what the code's records mean
+-- 01, The report: DETAIL: what the code's `Detail` means
 abbrev pub detail-of : Detail → spec.Detail
 detail-of detail.Wire = spec.misused wire-driven
 detail-of detail.Reg = spec.misused reg-driven
@@ -34,22 +34,25 @@ detail-of detail.NoBlock = spec.no-block
 detail-of detail.Blocks = spec.blocks
 detail-of detail.MemBlocks = spec.mem-blocks
 
+-- 01, The report: a report about a name: what the code's `Report` means
 abbrev pub report-of : Report → spec.Report
 report-of r = spec.report (r .number) (r .start) (r .name) (detail-of (r .detail))
 
--- the whole number that is held as v + 2147483648
+-- 01, The report: the whole number that v holds, 2147483648 below it
 unfoldable pub unbiased : ℕ → ℤ
 unbiased v = elim (ltb v 2147483648) [ true ↦ negsuc (2147483647 - v) | false ↦ pos (v - 2147483648) ]
 
+-- 01, The report: INDEX: what v holds, or none
 abbrev pub index-of : Bool → ℕ → Option ℤ
 index-of true v = some (unbiased v)
 index-of false v = none
 
+-- 01, The report: NODE, a signal or an instance output: what the code's `Node` means
 abbrev pub node-of : Node → edge.Node
 node-of (node.Signal n) = edge.signal n
 node-of (node.Output i b x o) = edge.inst-out i (index-of b x) o
 
--- the last digit of a report's code
+-- 01, The report: the last digit of a report's CODE, as a byte
 abbrev pub code-digit : Detail → ℕ
 code-digit detail.Wire = 49
 code-digit detail.Reg = 53
@@ -62,60 +65,65 @@ code-digit detail.NoBlock = 51
 code-digit detail.Blocks = 51
 code-digit detail.MemBlocks = 51
 
--- a space and a number
+-- 01, The report: a space and a number
 unfoldable pub field : ℕ → Bytes
 field n = 32 ∷ show-number n
 
--- a report's code and its three numbers
+-- 01, The report: `(CODE M START NAME`: a report's code, by its last digit, and its three numbers
 unfoldable pub line-head : ℕ → ℕ → ℕ → ℕ → Bytes
 line-head digit m start name = bytes "(E050" ++ ((digit ∷ []) ++ (field m ++ (field start ++ field name)))
 
--- what ends a line, behind the name
+-- 01, The report: what ends a line, behind the name: ` DETAIL)` and a line feed
 unfoldable pub detail-end : Detail → Bytes
 detail-end d = show-rest (spec.show-detail (detail-of d)) ++ 10 ∷ []
 
--- a report's line
+-- 01, The report: a report's line, with its line feed
 unfoldable pub line : Report → Bytes
 line r = spec.show-report (report-of r) ++ 10 ∷ []
 
+-- 01, The report: INDEX as it is written, `-` for none
 abbrev pub index-bytes : Bool → ℕ → Bytes
 index-bytes b x = spec.show-node-index (index-of b x)
 
+-- 01, The report: NODE as it is written
 unfoldable pub node-bytes : Node → Bytes
 node-bytes n = spec.show-node (node-of n)
 
--- the pieces of a loop report's line: its head, each node, its end
+-- 01, The report: the head of a loop report's line, `(E0504 M START (walk`
 unfoldable pub walk-head : ℕ → ℕ → Bytes
 walk-head m start = bytes "(E0504" ++ (field m ++ (field start ++ bytes " (walk"))
 
+-- 01, The report: a node of a loop report's line, ` NODE`
 unfoldable pub walk-node : Node → Bytes
 walk-node n = 32 ∷ node-bytes n
 
--- ` (u NAME INDEX NAME)`
+-- 01, The report: an instance output as a node, ` (u NAME INDEX NAME)`
 unfoldable pub output-bytes : ℕ → Bool → ℕ → ℕ → Bytes
 output-bytes i b x o = bytes " (u" ++ (field i ++ (bytes " " ++ (index-bytes b x ++ (field o ++ bytes ")"))))
 
+-- 01, The report: the end of a loop report's line, `))` and a line feed
 abbrev pub walk-tail : Bytes
 walk-tail = 41 ∷ 41 ∷ 10 ∷ []
 
--- 01, The report: the program prints `(refused NUMBER LINE)` for a refusal
+-- 01, The report: the program prints `(refused NUMBER LINE)` for a refusal, and a line feed
 unfoldable pub refused-line : ℕ → ℕ → Bytes
 refused-line number at = show-form (bytes "refused") (show-number number ∷ show-number at ∷ []) ++ 10 ∷ []
 
--- a piece p is written at a place of l and ends at r, and l′ is what is left
+-- 01, The report; Refused because of the state: a piece p is written at a place of l and ends at r, and l′ is what is left: other bytes keep theirs
 pub record Ran (l : Bytes) (at : ℕ) (p : Bytes) (r : ℕ) (l′ : Bytes) : Type 0 where
   pub to : r ≡ at + length p
   pub left : l′ ≡ sets l at p
 
--- what a writer answers, and the buffer that it leaves
+-- 01, The report: what a writer answers, and the buffer that it leaves
 pub record Written : Type 0 where
   pub answer : Put
   pub buffer : Bytes
 
+-- 01, The report: the same, by its parts
 abbrev pub put-by : Put → Bytes → Written
 put-by r buf = record { answer = r; buffer = buf }
 
--- a piece written at a place: those bytes and no other, and nothing where it does not fit
+-- 01, The report; Refused because of the state: a piece written at a place: those bytes and no other, and nothing where it does not fit
 unfoldable pub placed : Bytes → ℕ → Bytes → Written
 placed buf at piece =
     elim (leb (at + length piece) (length buf)) [

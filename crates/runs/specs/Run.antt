@@ -15,7 +15,7 @@ use Rattle.spec.specs.Decode.{depth-limit}
 use Rattle.spec.specs.Refusal.{one-form, item-depth, items-depth, item-in-range, items-in-range}
 use Rattle.lines.specs.Parts.{next-end}
 
--- how many bytes there are to the end of the form that stands first, its last bracket included, k brackets being open in it
+-- 01, The line: how many bytes there are to the end of the form that stands first, its last bracket included, k brackets being open in it
 unfoldable pub form-length : ℕ → Bytes → ℕ
 form-length k [] = 0
 form-length k (c ∷ s) =
@@ -27,36 +27,39 @@ form-length k (c ∷ s) =
       ]
     ]
 
--- where the item ends that stands behind the byte at `at`
+-- 01, The line: where the item ends that stands behind the byte at `at`
 unfoldable pub item-end : Bytes → ℕ → ℕ
 item-end s at = at + 1 + form-length 0 (drop (at + 1) s)
 
--- where the head word of a form ends, and the parts behind it
+-- 01, The line: where the head word of a form ends
 abbrev pub head-end : Bytes → ℕ
 head-end x = next-end x 0
 
+-- 01, The line: where the first part behind the head word ends
 abbrev pub first-end : Bytes → ℕ
 first-end x = next-end x (head-end x)
 
+-- 01, The line: where the second part behind the head word ends
 abbrev pub second-end : Bytes → ℕ
 second-end x = next-end x (first-end x)
 
+-- 01, The line: where the third part behind the head word ends
 abbrev pub third-end : Bytes → ℕ
 third-end x = next-end x (second-end x)
 
--- s is a run of these forms
+-- 01, The line: s is a run of these forms: one byte before each and one behind the last
 pub data Run : Bytes → List Bytes → Type 0 where
   last : (b : ℕ) → Run (b ∷ []) []
   next : (b : ℕ) {x s : Bytes} {xs : List Bytes} → one-form x ≡ true → Run s xs → Run (b ∷ x ++ s) (x ∷ xs)
 
--- the bytes x show the item i, which is in range and at most d brackets deep, and d is not past the limit
+-- 01, The line; Refused because of the text: the bytes x show the item i, which is in range and at most d brackets deep, and d is not past the limit
 pub record ShowsItem (x : Bytes) (d : ℕ) (i : Item) : Type 0 where
   pub shown : x ≡ show-item i
   pub deep : item-depth i ≤ d
   pub within : d ≤ depth-limit
   pub ranged : item-in-range i ≡ true
 
--- s is a run of these items, which are in range and at most d brackets deep, and d is not past the limit
+-- 01, The line; Refused because of the text: s is a run of these items, which are in range and at most d brackets deep, and d is not past the limit
 pub record RunOf (d : ℕ) (s : Bytes) (is : Items) : Type 0 where
   pub deep : items-depth is ≤ d
   pub within : d ≤ depth-limit

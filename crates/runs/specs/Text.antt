@@ -16,7 +16,8 @@ unfoldable pub header-in-range : List Header → Bool
 header-in-range [] = true
 header-in-range (h ∷ hs) = line-in-range (header-line h) && header-in-range hs
 
--- module k is number m of an accepted text whose table of places is `mods`
+-- 01, The line; Refused because of the text: what is known of module k, number m of an accepted text whose table of places is `mods`: the text is not
+-- too long, k's lines stand in those places, its items not at the first byte; no number is out of range, no item deeper than the limit
 pub record ModuleAt (text : Bytes) (mods : List ℕ) (m : ℕ) (k : Module) : Type 0 where
   pub short : length text ≤ text-limit
   pub placed : Placed text mods m k
@@ -25,6 +26,6 @@ pub record ModuleAt (text : Bytes) (mods : List ℕ) (m : ℕ) (k : Module) : Ty
   pub ranged : items-in-range (k .items) ≡ true
   pub deep : items-depth (k .items) ≤ depth-limit
 
--- the run of the items of module m, from the byte before the first to the line feed behind the last
+-- 01, The line: the run of the items of module m, from the byte before the first to the line feed behind the last
 abbrev pub items-run : Bytes → List ℕ → ℕ → Bytes
 items-run text mods m = take (getD mods (m * 4 + 3) 0 - (getD mods (m * 4 + 2) 0 - 1)) (drop (getD mods (m * 4 + 2) 0 - 1) text)
