@@ -77,7 +77,7 @@ pub struct Word {
     pub next: usize,
 }
 
-// A number, where it is too large some number above 2^32.
+// A number, where it is too large some number from 2^32 on, and where it ends.
 pub enum Number {
     None,
     Is { value: u64, next: usize },
@@ -147,7 +147,7 @@ fn more(a: u64, d: u8) -> u64
     if a < 4294967296 { a * 10 + d as u64 } else { a }
 }
 
-// The digits from a position on, behind the number a.
+// The number that the digits from a position on make; 0 for none.
 fn digits(s: &[u8], at: usize) -> Number
     ensures { λ r. ⌜ r ≡ digitsFrom (drop at (now (s .entry))) at 0 ⌝ }
 {

@@ -22,7 +22,7 @@ pub const MODULES: u32 = 32;
 
 pub const DEPTH: u32 = 32;
 
-// What a line is, b being read before it: its lowest fault, or what it adds, with the place of its line feed.
+// What a line is: its lowest fault, or what it adds, with the place of its line feed.
 pub enum Step {
     Fault(u32),
     Module(usize),
@@ -31,7 +31,7 @@ pub enum Step {
     Item(usize),
 }
 
-// Whether the line is closed by the bracket that closes what stands open, k brackets from i on, at its end.
+// Whether the bracket that closes what stands open, one bracket at `at`, ends the line, and no more than 32 are open before it.
 fn closes(s: &[u8], at: usize) -> bool
     ensures { λ r. ⌜ r ≡ closesAt 1 (drop at (now (s .entry))) ⌝ }
 {

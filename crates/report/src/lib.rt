@@ -1,5 +1,5 @@
 // Report lines as bytes: for each piece a function that counts its bytes and one that writes it at a place in a lent buffer, where it
-// fits and no other byte. Specs/Line.antt ties the pieces to `show-report` of the specification.
+// fits and no other byte. The laws in proofs tie the pieces to `show-report` of the specification.
 ghost use mathlib.Core.Path.{_≡_};
 ghost use Prim.Native.Nat.{_+_, _≤_};
 ghost use lib.Dec.{leb};
