@@ -1,5 +1,5 @@
--- The whole check over the lent slices: what a module's check needs of them, what it leaves, and the answer. 01: Refused because of the
--- state; The report.
+-- The whole check over the lent slices: what a module's check needs of them, what it leaves, and the answer.
+-- 01: The collected item; Refused because of the state; The report.
 -- Assumes nothing: these are definitions and statements.
 use mathlib.Core.Path.{_≡_}
 use mathlib.Core.Bool.{Bool, false}
@@ -34,7 +34,8 @@ pub record Enough (names own g w k : List ℕ) : Type 0 where
   pub roomy : Roomy w
   pub keeping : kept-places ≤ length k
 
--- module x is number m of an accepted text, and the words k hold the summaries kept so far; what the other slices hold does not matter
+-- 01, Refused because of the state; The report: module x is number m of an accepted text, of which `kinds` and `mods` are the tables, the words k
+-- hold the summaries kept so far, and the slices have places enough; what the others hold does not matter
 pub record Checking (text kinds mods : List ℕ) (count m : ℕ) (names own g w k : List ℕ) (x : Module) (kept : Kept) : Type 0 where
   pub tabled : Tabled text kinds mods count
   pub enough : Enough names own g w k
@@ -49,12 +50,12 @@ Tallied (checks.Done q rounds) write old p new k x =
     (t : Tally) × (x ≡ going t) × Emits write old p (t .reports) new q × (rounds ≡ t .rounds) × Keeps k (t .kept) []
 Tallied checks.Full write old p new k x = (x ≡ full) × (Within old p → write ≡ false → new ≡ old)
 
--- 01, The collected item: each module has 4,096 rounds
+-- 01, The collected item: each module has 4,096 rounds: its check takes no more
 abbrev pub FewRounds : Checked → Type 0
 FewRounds (checks.Done q rounds) = rounds ≤ 4096
 FewRounds checks.Full = Unit {0}
 
--- where the first report goes
+-- 01, The report: where the first report goes: the beginning of the buffer, with no report before
 abbrev pub first-place : Place
 first-place = record { at = 0; reports = 0 }
 
@@ -72,15 +73,15 @@ abbrev pub served : {A B : Type 0} → (A → ℕ → B) → A → A → A → A
 served f kinds mods names own g w k =
     f kinds (32 * name-bound) ∷ f mods (32 * 4) ∷ f names name-places ∷ f own places ∷ f g graph-places ∷ f w work-places ∷ f k kept-places ∷ []
 
--- how many places they have
+-- 01, Refused because of the state: how many places the seven have, each with the limit that it serves
 abbrev pub lent-places : ℕ → ℕ → ℕ → ℕ → ℕ → ℕ → ℕ → List Lent
 lent-places = served (λ n limit. record { places = n; limit = limit })
 
--- as they are lent
+-- 01, Refused because of the state: the seven as they are lent, each with the limit that it serves
 abbrev pub slices : List ℕ → List ℕ → List ℕ → List ℕ → List ℕ → List ℕ → List ℕ → List Slice
 slices = served (λ s limit. record { held = s; limit = limit })
 
--- 01, Refused because of the state: what a call leaves
+-- 01, Refused because of the state: what a call leaves: the answer, with the report buffer at exit, and the seven working slices
 abbrev pub exit-of : Answer → Bytes → List ℕ → List ℕ → List ℕ → List ℕ → List ℕ → List ℕ → List ℕ → Exit
 exit-of a buffer kinds mods names own g w k =
     record { answer = answer-of a buffer; working = kinds ∷ mods ∷ names ∷ own ∷ g ∷ w ∷ k ∷ [] }

@@ -9,14 +9,14 @@ use Rattle.spec.specs.Bytes.{Bytes}
 use Rattle.spec.specs.Report.{Report, show-reports}
 use Rattle.drivers.specs.declared.emit.Place.{Place}
 
--- a place that lines are appended at: at most one past the buffer's end, and no more reports than bytes
+-- 01, The report: a place that lines are appended at: at most one past the buffer's end, and no more reports than bytes
 pub record Within (buf : Bytes) (p : Place) : Type 0 where
   pub end : p .at ≤ length buf + 1
   pub reports : p .reports ≤ p .at
 
--- the bytes s, with k reports in them, are appended at the place p: they are counted, past the buffer's end too, where `write` is
--- false, and then the buffer stays; else they are written where they fit, and no other byte changes. 01, Refused because of the state:
--- 20 goes before 21.
+-- 01, The report; Refused because of the state: the bytes s, with k reports in them, are appended at the place p: they are counted, to
+-- one past the buffer's end at most, and the reports as long as all fit; where `write` is false the buffer stays; else, if they fit,
+-- they are written and no other byte changes
 pub record Appended (write : Bool) (old : Bytes) (p : Place) (s : Bytes) (k : ℕ) (new : Bytes) (q : Place) : Type 0 where
   pub at : q .at ≡ min (p .at + length s) (length old + 1)
   pub count : q .at ≤ length old → q .reports ≡ p .reports + k
@@ -25,14 +25,15 @@ pub record Appended (write : Bool) (old : Bytes) (p : Place) (s : Bytes) (k : �
   pub kept : write ≡ false → new ≡ old
   pub written : write ≡ true → q .at ≤ length old → new ≡ take (p .at) old ++ s ++ drop (q .at) old
 
+-- 01, The report; Refused because of the state: the same, if p is a place that lines are appended at
 abbrev pub Appends : Bool → Bytes → Place → Bytes → ℕ → Bytes → Place → Type 0
 Appends write old p s k new q = Within old p → Appended write old p s k new q
 
--- the lines of some reports are appended
+-- 01, The report; Refused because of the state: the lines of some reports are appended, if p is such a place
 abbrev pub Emits : Bool → Bytes → Place → List Report → Bytes → Place → Type 0
 Emits write old p rs new q = Appends write old p (show-reports rs) (length rs) new q
 
--- of the reports `all`, which begin at the place p, those before `rest` are appended
+-- 01, The report; Refused because of the state: of the reports `all`, which begin at the place p, those before `rest` are appended
 pub record Emitting (write : Bool) (old : Bytes) (p : Place) (all rest : List Report) (new : Bytes) (q : Place) : Type 0 where
   pub before : List Report
   pub split : before ++ rest ≡ all

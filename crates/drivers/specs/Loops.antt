@@ -1,4 +1,4 @@
--- Loop reports as the code writes them: from the path that the search leaves in the work slice. 01: The report.
+-- Loop reports as the code writes them: from the path that the search leaves in the work slice. 01: The walk; The report.
 -- Assumes nothing: these are definitions.
 use mathlib.Core.List.{List, [], _∷_, _++_, map}
 use Prim.Native.Nat.{ℕ, _+_, _-_}
@@ -9,18 +9,19 @@ use Rattle.spec.specs.Report.{Report, loop-report, show-node}
 use Rattle.graph.specs.Table.{node-at, start-at}
 use Rattle.graph.specs.Cycles.{words-from}
 
--- a space and a node
+-- 01, The report: a space and a node
 unfoldable pub node-bytes : Node → Bytes
 node-bytes n = 32 ∷ show-node n
 
+-- 01, The report: a space and a node, for each node
 unfoldable pub walk-bytes : List Node → Bytes
 walk-bytes [] = []
 walk-bytes (n ∷ ns) = node-bytes n ++ walk-bytes ns
 
--- the nodes of the path from one place to before another, and then the node i
+-- 01, The report: the nodes of the path from one place to before another, and then the node i
 abbrev pub path-nodes : List ℕ → List ℕ → ℕ → ℕ → ℕ → List Node
 path-nodes g w from to i = map (node-at g) (words-from w 3074 from (to - from) ++ i ∷ [])
 
--- the report of the path from one place to before another, and its first node again
+-- 01, The walk; The report: the report of the path from one place to before another, and its first node again, at that node's START
 abbrev pub path-report : ℕ → List ℕ → List ℕ → ℕ → ℕ → Report
 path-report m g w from to = loop-report m (start-at g (getD w (3074 + from) 0)) (path-nodes g w from to (getD w (3074 + from) 0))

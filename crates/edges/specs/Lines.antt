@@ -1,4 +1,4 @@
--- What the heads of a collected line leave in the graph of a module. 01: The edge.
+-- What the heads of a collected line leave in the graph of a module. 01: The line; The edge; Refused because of the state.
 -- Assumes nothing: these are definitions and statements.
 use mathlib.Core.Path.{_≡_}
 use mathlib.Core.Bool.{Bool, true}
@@ -15,61 +15,67 @@ use Rattle.runs.specs.Run.{ShowsItem}
 use Rattle.graph.specs.Stands.{Stands, Heading}
 use Rattle.edges.specs.Reads.{KindsOf, ReadAll, HeadAll}
 
--- a `wire` line
+-- 01, The edge; Refused because of the state: what a `wire` line leaves in the graph of a module: what it heads and reads, behind the
+-- heads before; or an index is outside INT or a limit is passed
 abbrev pub WireHeads : Bool → Bytes → ℕ → List ℕ → Names → List ℕ → List ℕ → Type 0
 WireHeads r x d kinds names g g′ =
     (n : ℕ) (e : Expr) (start : ℕ) → ShowsItem x d (wire n e start) → (header : List Header) → KindsOf kinds header
     → (hs : List Head) → Stands g hs → HeadAll r g′ hs (line-heads header names [] (wire n e start))
 
--- a `drive` line
+-- 01, The edge; Refused because of the state: what a `drive` line leaves there, in the same way
 abbrev pub DriveHeads : Bool → Bytes → ℕ → List ℕ → Names → List ℕ → List ℕ → Type 0
 DriveHeads r x d kinds names g g′ =
     (lv : LValue) (e : Expr) → ShowsItem x d (drive lv e) → (header : List Header) → KindsOf kinds header
     → (hs : List Head) → Stands g hs → HeadAll r g′ hs (line-heads header names [] (drive lv e))
 
--- the pairs of output and input that stand in a run of words, `count` of them from `first` on
+-- 01, The edge: the pairs of output and input that stand in a run of words, `count` of them from `first` on
 unfoldable pub summary-at : List ℕ → ℕ → ℕ → Summary
 summary-at w first zero = []
 summary-at w first (suc count) = (getD w first 0, getD w (first + 1) 0) ∷ summary-at w (first + 2) count
 
--- an `inst` line: the index of the instance, its module
+-- 01, The edge: of an `inst` line: v is the value of the index of the instance, missing where it has no index
 abbrev pub IndexIs : Value → Bytes → ℕ → Names → Type 0
 IndexIs v x d names = (i : Inst) → ShowsItem x d (inst i) → v ≡ place-value names (i .place)
 
+-- 01, The edge: of an `inst` line: m is its module
 abbrev pub ModuleIs : ℕ → Bytes → ℕ → Type 0
 ModuleIs m x d = (i : Inst) → ShowsItem x d (inst i) → m ≡ i .«module»
 
--- the bytes c show the connection y, which is in range, its expression at most d brackets deep
+-- 01, The line: the bytes c show the connection y, which is in range, its expression at most d brackets deep
 pub record ShowsConn (c : Bytes) (d : ℕ) (y : Conn) : Type 0 where
   pub shown : c ≡ show-form (bytes "conn") (show-number (y .port) ∷ show-expr (y .signal) ∷ [])
   pub deep : expr-depth (y .signal) ≤ d
   pub ranged : conns-in-range (y ∷ []) ≡ true
 
--- the bytes x show the connections cs behind a part of a form, which they end
+-- 01, The line: the bytes x show the connections cs behind a part of a form, which they end; each is in range, its expression at most d
+-- brackets deep
 pub record ShowsConns (x : Bytes) (d : ℕ) (cs : List Conn) : Type 0 where
   pub shown : x ≡ show-rest (show-conns cs)
   pub deep : conns-depth cs ≤ suc d
   pub ranged : conns-in-range cs ≡ true
 
--- what reading a connection leaves in the graph of a module, where the output o of the summary s is headed
+-- 01, The edge; Refused because of the state: what reading a connection leaves in the graph of a module; it is read where the output o
+-- reaches its input in the summary s
 abbrev pub ConnRead : Bool → ℕ → Summary → Bytes → ℕ → List ℕ → Names → List ℕ → List ℕ → ℕ → Type 0
 ConnRead r o s c d kinds names g g′ from =
     (y : Conn) → ShowsConn c d y → (header : List Header) → KindsOf kinds header
     → (hs : List Head) (n : Node) (start : ℕ) (rs : List Node) → Heading g hs n start rs from → ReadAll r g′ hs n start rs from (conn-reads header names s o (y ∷ []))
 
--- what reading connections leaves there
+-- 01, The edge; Refused because of the state: what reading connections leaves there, in the same way
 abbrev pub ConnsRead : Bool → ℕ → Summary → Bytes → ℕ → List ℕ → Names → List ℕ → List ℕ → ℕ → Type 0
 ConnsRead r o s x d kinds names g g′ from =
     (cs : List Conn) → ShowsConns x d cs → (header : List Header) → KindsOf kinds header
     → (hs : List Head) (n : Node) (start : ℕ) (rs : List Node) → Heading g hs n start rs from → ReadAll r g′ hs n start rs from (conn-reads header names s o cs)
 
--- an `inst` line heads the output o of the summary s, where v is the value of its index
+-- 01, The edge; Refused because of the state: what an `inst` line leaves there by heading the output o, with v as the value of its
+-- index: it reads the connections to the inputs that o reaches in the summary s
 abbrev pub OutputHead : Bool → ℕ → Value → Summary → Bytes → ℕ → List ℕ → Names → List ℕ → List ℕ → Type 0
 OutputHead r o v s x d kinds names g g′ =
     (i : Inst) → ShowsItem x d (inst i) → (header : List Header) → KindsOf kinds header
     → (hs : List Head) → Stands g hs → HeadAll r g′ hs (one-head (inst-out (i .name) (index-of v) o) (i .start) (conn-reads header names s o (i .conns)))
 
--- all its outputs in the summary s of its module
+-- 01, The edge; Refused because of the state: what an `inst` line leaves there by heading all outputs in the summary s, where v is the
+-- value of its index
 abbrev pub InstHeads : Bool → Value → Summary → Bytes → ℕ → List ℕ → Names → List ℕ → List ℕ → Type 0
 InstHeads r v s x d kinds names g g′ =
     (i : Inst) → ShowsItem x d (inst i) → v ≡ place-value names (i .place) → (header : List Header) → KindsOf kinds header

@@ -1,16 +1,18 @@
--- The search for cycles as a machine with a stack, one step at a time. Assumes nothing: these are definitions.
+-- The search for cycles as a machine with a stack, one step at a time. 01: The walk.
+-- Assumes nothing: these are definitions.
 use mathlib.Core.Bool.{Bool, true, false}
 use mathlib.Core.List.{List, [], _∷_}
 use Prim.Native.Nat.{ℕ, zero, suc}
 use Rattle.spec.specs.Search.{among, back-to}
 
--- the open path, the last entered first, of a stack of nodes with their next nodes that are still to be taken
+-- 01, The walk: the open path, the last entered first, of a stack of nodes with their next nodes that are still to be taken
 unfoldable pub path : {A : Type 0} → List (A × List A) → List A
 path [] = []
 path (f ∷ fs) = f .0 ∷ path fs
 
 module _ {A : Type 0} (same : A → A → Bool) (next : A → List A) (root : A → Bool) where
-  -- the reports that so many steps give: the stack, the nodes still to come that may be roots, the nodes left for good
+  -- 01, The walk: the reports that so many steps give, by the stack, the nodes still to come that may be roots, and the nodes left for
+  -- good: a step takes a root or a next node or leaves a node, and one onto the open path is a report
   unfoldable pub run : ℕ → List (A × List A) → List A → List A → List (List A)
   unfolding path among back-to
   run zero fs rs l = []
@@ -27,7 +29,7 @@ module _ {A : Type 0} (same : A → A → Bool) (next : A → List A) (root : A 
         | false ↦ elim (among same t l) [ true ↦ run k ((s, ts) ∷ fs) rs l | false ↦ run k ((t, next t) ∷ (s, ts) ∷ fs) rs l ]
       ]
 
--- those that are roots
+-- 01, The walk: the members of a list that are roots, in its order
 unfoldable pub only : {A : Type 0} → (A → Bool) → List A → List A
 only root [] = []
 only root (a ∷ l) = elim (root a) [ true ↦ a ∷ only root l | false ↦ only root l ]

@@ -1,4 +1,5 @@
--- What a search for the inputs that an output reaches gives and leaves. Assumes nothing: these are definitions and statements.
+-- What a search for the inputs that an output reaches gives and leaves. 01: The edge; The walk.
+-- Assumes nothing: these are definitions and statements.
 use mathlib.Core.Path.{_≡_}
 use mathlib.Core.Bool.{Bool, true, false}
 use mathlib.Core.Logic.{_↔_, _⊎_}
@@ -15,24 +16,28 @@ use Rattle.spec.specs.Edge.{Head}
 use Rattle.spec.specs.Summary.{is-input, inputs-reached}
 use Rattle.graph.specs.Table.{target, Linked, edges-below, out}
 
--- k words from b on, the last first
+-- 01, The edge; The walk: k words from b on, the last first
 unfoldable pub words-below : List ℕ → ℕ → ℕ → List ℕ
 words-below w b zero = []
 words-below w b (suc k) = getD w (b + k) 0 ∷ words-below w b k
 
--- Words of the work slice: from 2 on 512 marks, from 514 on the nodes reached, from 1026 on the names found.
+-- 01, The edge: words of the work slice: from 2 on 512 marks, from 514 on the nodes reached, from 1026 on the names found.
+
+-- 01, The edge: the first k nodes reached, the last first
 abbrev pub reached : List ℕ → ℕ → List ℕ
 reached w k = words-below w 514 k
 
+-- 01, The edge: the first k names found, the last first
 abbrev pub found : List ℕ → ℕ → List ℕ
 found w k = words-below w 1026 k
 
--- no node is marked
+-- 01, The edge: the work slice has room for the search, and no node is marked
 pub record Clean (w : List ℕ) : Type 0 where
   pub sized : 1538 ≤ length w
   pub unmarked : (t : ℕ) → t < 512 → getD w (2 + t) 0 ≡ 0
 
--- k nodes are reached so far, each once, and just they are marked
+-- 01, The edge: k nodes are reached so far, at most 512, each once, their numbers below 512, and just they are marked; the work slice
+-- has room
 pub record Queued (w : List ℕ) (k : ℕ) : Type 0 where
   pub sized : 1538 ≤ length w
   pub few : k ≤ 512
@@ -40,20 +45,21 @@ pub record Queued (w : List ℕ) (k : ℕ) : Type 0 where
   pub small : (t : ℕ) → t ∈ reached w k → t < 512
   pub marks : (t : ℕ) → t < 512 → among eqb t (reached w k) ≡ ltb 0 (getD w (2 + t) 0)
 
--- n edges, linked, between the first 512 nodes
+-- 01, The edge: n edges, linked, between the first 512 nodes
 pub record Sound (g : List ℕ) (n : ℕ) : Type 0 where
   pub linked : Linked g 3074 n
   pub targets : (k : ℕ) → k < n → target g 3074 k < 512
 
--- is the node i a signal of kind in? `kinds` has 1 for those
+-- 01, The edge: is the node i a signal of kind in? `kinds` has 1 for those
 unfoldable pub stops : List ℕ → List ℕ → ℕ → Bool
 stops g kinds i = elim (eqb (getD g (2 + i) 0) 0) [ true ↦ eqb (getD kinds (getD g (514 + i) 0) 0) 1 | false ↦ false ]
 
--- where the search goes on from the node i
+-- 01, The edge: where the search goes on from the node i: to what it reads, and nowhere from a signal of kind in
 unfoldable pub next-of : List ℕ → List ℕ → ℕ → ℕ → List ℕ
 next-of g kinds n i = elim (stops g kinds i) [ true ↦ [] | false ↦ out i (edges-below g 3074 n) ]
 
--- what the edges of s add to the nodes reached
+-- 01, The edge: what the edges of s add to the nodes reached: those that they lead to and no other; the k nodes before stay where they
+-- are
 pub record Spread (g : List ℕ) (n s : ℕ) (w : List ℕ) (k : ℕ) (w′ : List ℕ) (k′ : ℕ) : Type 0 where
   pub queued : Queued w′ k′
   pub more : k ≤ k′
@@ -61,28 +67,28 @@ pub record Spread (g : List ℕ) (n s : ℕ) (w : List ℕ) (k : ℕ) (w′ : Li
   pub all : (t : ℕ) → t ∈ out s (edges-below g 3074 n) → t ∈ reached w′ k′
   pub only : (t : ℕ) → t ∈ reached w′ k′ → (t ∈ reached w k) ⊎ (t ∈ out s (edges-below g 3074 n))
 
--- all that is reached from the node that stands first
+-- 01, The edge: all that is reached from the node that stands first, and no other node; the search stops at signals of kind in
 pub record Flooded (g kinds : List ℕ) (n : ℕ) (w w′ : List ℕ) (k : ℕ) : Type 0 where
   pub queued : Queued w′ k
   pub first : (t : ℕ) → t ∈ reached w 1 → t ∈ reached w′ k
   pub closed : (s t : ℕ) → s ∈ reached w′ k → t ∈ next-of g kinds n s → t ∈ reached w′ k
   pub only : (t : ℕ) → t ∈ reached w′ k → Reached (next-of g kinds n) (reached w 1) t
 
--- the names of the nodes of kind in among some
+-- 01, The edge: the names of the signals of kind in among some nodes
 unfoldable pub names-in : List ℕ → List ℕ → List ℕ → List ℕ
 names-in g kinds [] = []
 names-in g kinds (i ∷ l) = elim (stops g kinds i) [ true ↦ getD g (514 + i) 0 ∷ names-in g kinds l | false ↦ names-in g kinds l ]
 
--- the names of the nodes of kind in among those reached; and no node is marked
+-- 01, The edge: the r names found are those of the signals of kind in among the k nodes reached; and no node is marked
 pub record Gathered (g kinds w : List ℕ) (k : ℕ) (w′ : List ℕ) (r : ℕ) : Type 0 where
   pub clean : Clean w′
   pub names : found w′ r ≡ names-in g kinds (reached w k)
 
--- `kinds` has 1 for the names of kind in
+-- 01, The edge: `kinds` has 1 for the names of kind in and for no other
 abbrev pub KindsAre : List ℕ → List Header → Type 0
 KindsAre kinds header = (n : ℕ) → is-input (kind-of header n) ≡ eqb (getD kinds n 0) 1
 
--- the names found are the inputs that o reaches, each once
+-- 01, The edge: the r names found are the in-kind names that o reaches, each once; and no node is marked
 pub record Inputs (header : List Header) (heads : List Head) (o : ℕ) (w : List ℕ) (r : ℕ) : Type 0 where
   pub clean : Clean w
   pub once : Once (found w r)

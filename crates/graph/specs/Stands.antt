@@ -1,4 +1,4 @@
--- The heads for which a graph's slice stands. 01: The edge; Refused because of the state; Worthless checks.
+-- The heads for which a graph's slice stands. 01: The edge; The walk; Refused because of the state; Worthless checks.
 -- Assumes nothing: these are definitions and statements.
 use mathlib.Core.Path.{_≡_}
 use mathlib.Core.Bool.{true}
@@ -15,10 +15,11 @@ use Rattle.graph.specs.Table.{count, edge-total, node-at, start-at, head
 use Rattle.graph.specs.declared.Added as A
 use Rattle.graph.specs.declared.Added.the-variants as added
 
+-- 01, The edge: the nodes, the last first
 abbrev pub nodes : List ℕ → List Node
 nodes g = nodes-below g (count g)
 
--- the edges, as pairs of node numbers, the newest first
+-- 01, The edge: the edges, as pairs of node numbers, the newest first
 abbrev pub edges : List ℕ → List (ℕ × ℕ)
 edges g = edges-below g 3074 (edge-total g)
 
@@ -26,7 +27,8 @@ edges g = edges-below g 3074 (edge-total g)
 abbrev pub graph-places : ℕ
 graph-places = 15874
 
--- g has the nodes of the heads hs and those of xs, each once, with their STARTs; and the reads of hs, each once
+-- 01, The edge; The walk; Refused because of the state: g has the nodes of the heads hs and those of xs, each once and at most 512,
+-- with their STARTs and whether they are headed; and the reads of hs, each once and at most 4,096
 pub record Holds (g : List ℕ) (hs : List Head) (xs : List Node) : Type 0 where
   pub sized : graph-places ≤ length g
   pub few : count g ≤ 512
@@ -41,34 +43,37 @@ pub record Holds (g : List ℕ) (hs : List Head) (xs : List Node) : Type 0 where
   pub reads : (i j : ℕ) → i < count g → j < count g → among eqb j (out i (edges g)) ≡ among same-node (node-at g j) (all-reads hs (node-at g i))
   pub edge-count : edge-total g ≡ edges-from hs (nodes g)
 
--- g is the graph of the heads hs
+-- 01, The edge: g is the graph of the heads hs
 abbrev pub Stands : List ℕ → List Head → Type 0
 Stands g hs = Holds g hs []
 
--- the node i of g is n
+-- 01, The edge: the node i of g is n
 pub record IsNode (g : List ℕ) (i : ℕ) (n : Node) : Type 0 where
   pub within : i < count g
   pub same : node-at g i ≡ n
 
+-- 01, The edge: a head, by its parts
 abbrev pub head-of : Node → ℕ → List Node → Head
 head-of n start rs = record { node = n; start = start; reads = rs }
 
--- g is the graph of the heads hs and then a head of the node i, which has that START and reads rs so far
+-- 01, The edge: g is the graph of the heads hs and then of a head of n, which has that START and reads rs so far; the node i is n
 pub record Heading (g : List ℕ) (hs : List Head) (n : Node) (start : ℕ) (rs : List Node) (i : ℕ) : Type 0 where
   pub stands : Stands g (hs ++ head-of n start rs ∷ [])
   pub node : IsNode g i n
 
--- what finding or adding a node for the heads hs leaves: the node is there, or there are too many
+-- 01, The edge; Refused because of the state: what finding or adding the node n for the heads hs leaves: it is there, and every node
+-- has its number still; or there are 512 nodes and it is none of them
 abbrev pub Got : A.Added → List ℕ → List ℕ → List Head → Node → Type 0
 Got (added.At i) g g′ hs n = Holds g′ hs (n ∷ []) × IsNode g′ i n × ((j : ℕ) (m : Node) → IsNode g j m → IsNode g′ j m)
 Got added.Full g g′ hs n = count g ≡ 512 × ¬ (n ∈ nodes g)
 
--- what a head leaves: the number of its node; or a limit is passed
+-- 01, The edge; Refused because of the state: what a head leaves: it stands behind the heads hs, with nothing read so far, and its node
+-- is the node i; or a limit is passed
 abbrev pub Headed : A.Added → List ℕ → List Head → Node → ℕ → Type 0
 Headed (added.At i) g hs n start = Heading g hs n start [] i
 Headed added.Full g hs n start = over-graph (hs ++ head-of n start [] ∷ []) ≡ true
 
--- what a read leaves: the head reads one node more; or a limit is passed
+-- 01, The edge; Refused because of the state: what a read leaves: the head reads one node more; or a limit is passed
 abbrev pub Read : A.Added → List ℕ → List Head → Node → ℕ → List Node → ℕ → Node → Type 0
 Read (added.At j) g hs n start rs i m = Heading g hs n start (rs ++ m ∷ []) i
 Read added.Full g hs n start rs i m = over-graph (hs ++ head-of n start (rs ++ m ∷ []) ∷ []) ≡ true

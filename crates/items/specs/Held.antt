@@ -17,7 +17,8 @@ use Rattle.spec.specs.Site.{Output, line-constants, any-outside}
 use Rattle.sites.specs.Own.{Port, places, own-of, entry-names}
 use Rattle.walk.specs.Walk.{Own, own-line, over-own}
 
--- 01, The site: a row says where the width of an output stands in the text
+-- 01, The site: a row has the name and the START of an output, and says where its width stands in the text; the width is in range and
+-- no deeper than the limit
 pub record PortIs (text : Bytes) (p : Port) (o : Output) : Type 0 where
   pub name : p .name ≡ o .name
   pub start : p .start ≡ o .start

@@ -42,36 +42,36 @@ pub record Emptied (old new : List ℕ) : Type 0 where
 
 -- ---- 01, The line: parts of a line
 
--- r is the number that stands behind the byte at `before`, up to `end`
+-- 01, The line: r is the number that stands behind the byte at `before`, up to `end`, if it is a word
 abbrev pub NumberIs : ℕ → Bytes → ℕ → ℕ → Type 0
 NumberIs r x before end = (n : ℕ) → piece x before end ≡ show-number n → n < 4294967296 → r ≡ n
 
--- a name and a START, and where the parts behind them stand
+-- 01, The line: r has a name and a START, and the parts xs stand behind the place where they end
 pub record NamedIs (r : Named) (x : Bytes) (n s : ℕ) (xs : List Bytes) : Type 0 where
   pub name : r .name ≡ n
   pub start : r .start ≡ s
   pub behind : drop (r .end) x ≡ show-rest xs
 
--- r says so of what stands behind the byte at `before`
+-- 01, The line: r says so of what stands behind the byte at `before`, a name and a START in range
 abbrev pub NamedAt : Named → Bytes → ℕ → Type 0
 NamedAt r x before =
     (n start : ℕ) (xs : List Bytes) → drop before x ≡ show-rest (show-number n ∷ show-number start ∷ xs) → n < name-bound → start < number-bound
     → NamedIs r x n start xs
 
--- the bytes x show an LV, whose indexes are at most d brackets deep
+-- 01, The line: the bytes x show an LV, whose name and START are in range and whose indexes are at most d brackets deep
 pub record ShowsLValue (x : Bytes) (d : ℕ) (lv : LValue) : Type 0 where
   pub shown : x ≡ show-lvalue lv
   pub deep : index-depth (lv .index) ≤ d
   pub name : lv .name < name-bound
   pub start : lv .start < number-bound
 
--- the bytes x show a statement, which is in range and at most d brackets deep
+-- 01, The line: the bytes x show a statement, which is in range and at most d brackets deep
 pub record ShowsStmt (x : Bytes) (d : ℕ) (s : Stmt) : Type 0 where
   pub shown : x ≡ show-stmt s
   pub deep : stmt-depth s ≤ d
   pub ranged : stmt-in-range s ≡ true
 
--- the parts of x behind `end` show statements
+-- 01, The line: the parts of x behind `end` show statements, which are in range and at most d brackets deep
 pub record ShowsStmts (x : Bytes) (end d : ℕ) (ss : Stmts) : Type 0 where
   pub shown : drop end x ≡ show-rest (show-stmts ss)
   pub deep : stmts-depth ss ≤ d
@@ -79,23 +79,24 @@ pub record ShowsStmts (x : Bytes) (end d : ℕ) (ss : Stmts) : Type 0 where
 
 -- ---- 01, The site: a drive
 
--- 01, The value: the value of a constant, if it is not outside INT. 01, Refused because of the state: or it is
+-- 01, The value; Refused because of the state: r says whether a constant is outside INT, and where it is not, its value or that it has
+-- none
 pub record ConstantIs (r : Constant) (v : Value) : Type 0 where
   pub out : r .out ≡ is-outside v
   pub within : r .out ≡ false → v ≡ value-of (r .known) (r .value)
 
--- the extent of an index. 01, Refused because of the state: or one of its constants is outside INT
+-- 01, The site; Refused because of the state: the extent of an index, or one of its constants is outside INT
 abbrev pub ExtentIs : E.Extended → Bool → Names → Index → Type 0
 ExtentIs (extended.Is e) bound names i = (any-outside names (index-constants i) ≡ false) × (extent-of e ≡ lvalue-extent bound names i)
 ExtentIs extended.Outside bound names i = any-outside names (index-constants i) ≡ true
 
--- r says so of the index that stands behind the part that ends at `end`
+-- 01, The site; Refused because of the state: r says so of the index that stands behind the part that ends at `end`
 abbrev pub ExtentAt : E.Extended → Bytes → ℕ → Bool → ℕ → Names → Type 0
 ExtentAt r x end bound d names = (i : Index) → drop end x ≡ show-rest (show-index i) → index-depth i ≤ d → ExtentIs r bound names i
 
 -- ---- 01, The block; The site: statements
 
--- the tables with these pairs and misuses more, each where it is new
+-- 01, The block; The site: the tables with these pairs and misuses more, each where it is new
 abbrev pub with-block : List Pair → List Misused → Own → Own
 with-block ps ms o =
     record {
@@ -107,30 +108,30 @@ with-block ps ms o =
       misuses = add-all same-misused ms (o .misuses);
     }
 
--- what statements leave: their pairs and misuses. 01, Refused because of the state: or there are too many pairs
+-- 01, The block; The site; Refused because of the state: what statements leave: their pairs and misuses; or there are too many pairs
 abbrev pub BlockAfter : Bool → Bytes → List ℕ → List Pair → List Misused → Own → Type 0
 BlockAfter true text own ps ms o = Held text own (with-block ps ms o)
 BlockAfter false text own ps ms o = ltb pair-limit (length (add-all same-pair ps (o .pairs))) ≡ true
 
--- what the statement s leaves, where the bytes x show it
+-- 01, The block; The site; Refused because of the state: what the statement s leaves, where the bytes x show it
 abbrev pub OneAfter : Bool → Bytes → ℕ → ℕ → List ℕ → List ℕ → List ℕ → Stmt → Type 0
 OneAfter r x block d kinds own own′ s =
     ShowsStmt x d s → (header : List Header) → KindsOf kinds header
     → (text : Bytes) (o : Own) → Held text own o → BlockAfter r text own′ (stmt-pairs s header block) (stmt-misuses s header) o
 
--- a `set`
+-- 01, The block; The site; Refused because of the state: what a `set` leaves
 abbrev pub SetAfter : Bool → Bytes → ℕ → List ℕ → List ℕ → List ℕ → Type 0
 SetAfter r x block kinds own own′ = (n start d : ℕ) → OneAfter r x block d kinds own own′ (set n start)
 
--- a `default`
+-- 01, The block; Refused because of the state: what a `default` leaves
 abbrev pub DefaultAfter : Bool → Bytes → ℕ → List ℕ → List ℕ → List ℕ → Type 0
 DefaultAfter r x block kinds own own′ = (n d : ℕ) → OneAfter r x block d kinds own own′ (default n)
 
--- any statement
+-- 01, The block; The site; Refused because of the state: what any statement leaves
 abbrev pub StmtAfter : Bool → Bytes → ℕ → ℕ → List ℕ → List ℕ → List ℕ → Type 0
 StmtAfter r x block d kinds own own′ = (s : Stmt) → OneAfter r x block d kinds own own′ s
 
--- the statements behind the part that ends at `end`
+-- 01, The block; The site; Refused because of the state: what the statements behind the part that ends at `end` leave
 abbrev pub StmtsAfter : Bool → Bytes → ℕ → ℕ → ℕ → List ℕ → List ℕ → List ℕ → Type 0
 StmtsAfter r x end block d kinds own own′ =
     (ss : Stmts) → ShowsStmts x end d ss → (header : List Header) → KindsOf kinds header
@@ -138,43 +139,43 @@ StmtsAfter r x end block d kinds own own′ =
 
 -- ---- 01, The site; The block: lines
 
--- what a line leaves that evaluates nothing and passes no limit, whatever the module
+-- 01, The site; The block: what a line leaves that evaluates nothing and passes no limit, whatever the module
 abbrev pub Leaves : Bytes → List ℕ → Item → Own → Type 0
 Leaves text own i o = (bound : Bool) (header : List Header) (names : Names) → OwnAfter true text own bound header names i o
 
--- 01, The site: a `port` line
+-- 01, The site: what a `port` line leaves, which stands in the text from `base` on
 abbrev pub PortLine : Bytes → ℕ → List ℕ → List ℕ → Type 0
 PortLine x base own own′ =
     (text : Bytes) (dir : Dir) (n : ℕ) (w : Width) (start d : ℕ) → ShowsItem x d (port dir n w start) → StandsAt text base x
     → (o : Own) → Held text own o → Leaves text own′ (port dir n w start) o
 
--- 01, The block: a `reg` line
+-- 01, The block: what a `reg` line leaves
 abbrev pub RegLine : Bytes → List ℕ → List ℕ → Type 0
 RegLine x own own′ = (text : Bytes) (n start d : ℕ) → ShowsItem x d (reg n start) → (o : Own) → Held text own o → Leaves text own′ (reg n start) o
 
--- 01, The block: a `mem` line
+-- 01, The block: what a `mem` line leaves
 abbrev pub MemLine : Bytes → List ℕ → List ℕ → Type 0
 MemLine x own own′ = (text : Bytes) (n start d : ℕ) → ShowsItem x d (mem n start) → (o : Own) → Held text own o → Leaves text own′ (mem n start) o
 
--- 01, The site: the drive of an output, of which l has the name and the START
+-- 01, The site; Refused because of the state: what the drive of an output leaves, of which l has the name and the START
 abbrev pub DriveOutput : Bool → Bytes → Named → Bool → ℕ → Names → List ℕ → List ℕ → Type 0
 DriveOutput r x l bound d names own own′ =
     (lv : LValue) (e : Expr) → ShowsLValue x d lv → NamedIs l x (lv .name) (lv .start) (show-index (lv .index)) → (header : List Header)
     → kind-of header (lv .name) ≡ some out-kind → (text : Bytes) (o : Own) → Held text own o → OwnAfter r text own′ bound header names (drive lv e) o
 
--- 01, The site: a `drive` line
+-- 01, The site; Refused because of the state: what a `drive` line leaves
 abbrev pub DriveLine : Bool → Bytes → Bool → ℕ → List ℕ → Names → List ℕ → List ℕ → Type 0
 DriveLine r x bound d kinds names own own′ =
     (lv : LValue) (e : Expr) → ShowsItem x d (drive lv e) → (header : List Header) → KindsOf kinds header
     → (text : Bytes) (o : Own) → Held text own o → OwnAfter r text own′ bound header names (drive lv e) o
 
--- 01, The block; The site: an `on` line
+-- 01, The block; The site; Refused because of the state: what an `on` line leaves
 abbrev pub OnLine : Bool → Bytes → ℕ → List ℕ → List ℕ → List ℕ → Type 0
 OnLine r x d kinds own own′ =
     (start : ℕ) (ss : Stmts) → ShowsItem x d (on start ss) → (header : List Header) → KindsOf kinds header
     → (text : Bytes) (o : Own) → Held text own o → (bound : Bool) (names : Names) → OwnAfter r text own′ bound header names (on start ss) o
 
--- any line that is plain
+-- 01, The site; The block; Refused because of the state: what any line leaves that is plain and stands in the text from `base` on
 abbrev pub OwnLine : Bool → Bytes → ℕ → Bool → ℕ → List ℕ → Names → List ℕ → List ℕ → Type 0
 OwnLine r x base bound d kinds names own own′ =
     (text : Bytes) (i : Item) → ShowsItem x d i → plain i ≡ true → StandsAt text base x → (header : List Header) → KindsOf kinds header

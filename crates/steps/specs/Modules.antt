@@ -1,4 +1,5 @@
--- The name table of a module, filled from its lines of an accepted text. 01: The value.
+-- The name table of a module, filled from its lines of an accepted text. 01: The line; The value; Refused because of the state;
+-- Worthless checks.
 -- Assumes nothing: these are definitions.
 use mathlib.Core.Path.{_≡_}
 use mathlib.Core.Bool.{true, false}
@@ -14,31 +15,36 @@ use Rattle.consteval.specs.declared.fill.Filled.the-variants as filled
 use Rattle.steps.specs.declared.modules.Named.{Named}
 use Rattle.steps.specs.declared.modules.Named.the-variants.{Used, Outside}
 
--- places for a name table: two for each `val` and `const` line that a text has room for (3,276, since each has 10 bytes or more), and for
--- each of 32 repeats that are open one in the other
+-- 01, The value; Refused because of the state: places for a name table: two for each `val` and `const` line that a text has room for
+-- (3,276, since each has 10 bytes or more), and for each of 32 repeats that are open one in the other
 abbrev pub name-places : ℕ
 name-places = 6616
 
--- the lines of the header and of the items of module m
+-- 01, The line: the lines of the header of module m, by the table of places `mods`
 abbrev pub header-part : Bytes → List ℕ → ℕ → Bytes
 header-part text mods m = take (getD mods (m * 4 + 2) 0 - getD mods (m * 4 + 1) 0) (drop (getD mods (m * 4 + 1) 0) text)
 
+-- 01, The line: the lines of the items of module m, by the table of places `mods`
 abbrev pub items-part : Bytes → List ℕ → ℕ → Bytes
 items-part text mods m = take (getD mods (m * 4 + 3) 0 - getD mods (m * 4 + 2) 0) (drop (getD mods (m * 4 + 2) 0) text)
 
--- what filling the table answers and leaves; of an accepted text with places enough there is no other answer than these two
+-- 01, The value; Refused because of the state: what filling the table answers: how many pairs are used, or a constant is outside INT;
+-- the two other answers count as that too, but of an accepted text with places enough there is neither
 abbrev pub to-named : Filled → Named
 to-named (filled.Used n) = Used n
 to-named filled.Outside = Outside
 to-named filled.Short = Outside
 to-named filled.Bad = Outside
 
+-- 01, The value: filling the table from the lines of module m: what it answers and leaves
 abbrev pub module-fill : Bytes → List ℕ → ℕ → List ℕ → Filling
 module-fill text mods m names = fill-of (header-part text mods m) (items-part text mods m) names
 
+-- 01, The value; Refused because of the state: what filling the table of module m answers
 abbrev pub named-by : Bytes → List ℕ → ℕ → List ℕ → Named
 named-by text mods m names = to-named (module-fill text mods m names .answer)
 
+-- 01, The value; Worthless checks: what filling the table of module m leaves, whatever was lent
 abbrev pub table-by : Bytes → List ℕ → ℕ → List ℕ → List ℕ
 table-by text mods m names = module-fill text mods m names .table
 

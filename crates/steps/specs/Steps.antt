@@ -1,5 +1,5 @@
 -- What the walk over items needs to know of an item: what it is, how often a `repeat` runs, which branch a `constif` takes, and where
--- their bodies stand. 01: The collected item.
+-- their bodies stand. 01: The collected item; The edge; Refused because of the state.
 -- Assumes nothing: these are definitions and statements.
 use mathlib.Core.Path.{_≡_}
 use mathlib.Core.Bool.{Bool, true, false, _||_}
@@ -21,7 +21,7 @@ use Rattle.steps.specs.declared.Times.the-variants as times
 use Rattle.steps.specs.declared.Chosen as C
 use Rattle.steps.specs.declared.Chosen.the-variants as chosen
 
--- a line that holds no items and asks for no summary
+-- 01, The collected item; The edge: whether a line holds no items and asks for no summary
 abbrev pub plain : Item → Bool
 plain (port d n w s) = true
 plain (wire n e s) = true
@@ -34,6 +34,7 @@ plain (inst i) = false
 plain (repeat n l h is) = false
 plain (const-if c is js) = false
 
+-- 01, The collected item; The edge: what the code says of an item is so: it is plain, an `inst`, a `repeat` or a `constif`
 abbrev pub HeadIs : H.Head → Item → Type 0
 HeadIs head.Plain i = plain i ≡ true
 HeadIs head.Inst i = (x : Inst) × (i ≡ inst x)
@@ -45,12 +46,14 @@ pub data Way : Type 0 where
   never once : Way
   rounds : (low : ℤ) → (count : ℕ) → Way
 
--- 01, The collected item: the same by high - low: none where high is not above low
+-- 01, The collected item: the same by high − low: never where it is not above 0, once where it is above the rounds left, else so many
+-- rounds, the variable from low on
 abbrev pub way-by : ℕ → ℤ → ℤ → Way
 way-by left low (negsuc d) = never
 way-by left low (pos zero) = never
 way-by left low (pos (suc count)) = elim (ltb left (suc count)) [ true ↦ once | false ↦ rounds low (suc count) ]
 
+-- 01, The collected item: the same by the values of both bounds: once where one has none, or is outside INT
 unfoldable pub way : ℕ → Value → Value → Way
 way left (known low) (known high) = way-by left low (high -ℤ low)
 way left (known low) missing = once
@@ -58,7 +61,8 @@ way left (known low) outside = once
 way left missing high = once
 way left outside high = once
 
--- what the code answers: a bound is outside INT, or the way; a count is no more than the rounds left
+-- 01, The collected item; Refused because of the state: what the code answers: a bound is outside INT, or the way; of rounds m is the
+-- variable, the count is no more than the rounds left, and v + count is a word
 abbrev pub TimesAre : T.Times → ℕ → ℕ → Value → Value → Type 0
 TimesAre times.Outside left n low high = is-outside low || is-outside high ≡ true
 TimesAre times.Never left n low high = (is-outside low || is-outside high ≡ false) × (way left low high ≡ never)
@@ -66,11 +70,12 @@ TimesAre times.Once left n low high = (is-outside low || is-outside high ≡ fal
 TimesAre (times.Rounds m v count) left n low high =
     (is-outside low || is-outside high ≡ false) × (way left low high ≡ rounds (signed v) count) × (m ≡ n) × (count ≤ left) × (v + count ≤ 4294967295)
 
--- the branch that a `constif` takes
+-- 01, The collected item: the branch that a `constif` takes, by the value of its condition
 abbrev pub taken : Value → Items → Items → Items
 taken v is js = elim (takes-then v) [ true ↦ is | false ↦ js ]
 
--- the condition is outside INT, or the run of the branch stands behind the byte at `from` and ends before `to`
+-- 01, The collected item; Refused because of the state: the condition is outside INT, or the run of the branch stands behind the byte
+-- at `from` and ends before `to`
 abbrev pub ChosenIs : C.Chosen → Bytes → ℕ → Value → Items → Items → Type 0
 ChosenIs chosen.Outside x d v is js = is-outside v ≡ true
 ChosenIs (chosen.Run from to) x d v is js =

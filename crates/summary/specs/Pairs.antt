@@ -1,4 +1,5 @@
--- The pairs of a summary that is being made: each top-level output with the inputs that it reaches. 01: The edge; Refused because of the state.
+-- The pairs of a summary that is being made: each top-level output with the inputs that it reaches.
+-- 01: The line; The edge; Refused because of the state.
 -- Assumes nothing: these are definitions and statements.
 use mathlib.Core.Path.{_≡_}
 use mathlib.Core.Bool.{Bool, true, false}
@@ -16,7 +17,7 @@ use Rattle.summary.specs.Keeps.{total-of, kept-places}
 use Rattle.summary.specs.declared.Port as P
 use Rattle.summary.specs.declared.Port.the-variants as ports
 
--- the table k is k₀ with the pairs ps behind its own
+-- 01, The edge; Refused because of the state: the table k is k₀ with the pairs ps behind its own, 1,024 at most
 pub record Grown (k₀ k : List ℕ) (ps : Summary) : Type 0 where
   pub sized : kept-places ≤ length k
   pub same : (i : ℕ) → i < 97 + 2 * total-of k₀ → ¬ (i ≡ 96) → getD k i 0 ≡ getD k₀ i 0
@@ -24,30 +25,31 @@ pub record Grown (k₀ k : List ℕ) (ps : Summary) : Type 0 where
   pub few : total-of k ≤ triple-limit
   pub pairs : summary-at k (97 + 2 * total-of k₀) (length ps) ≡ ps
 
--- the pairs qs are added behind ps, or there are too many
+-- 01, The edge; Refused because of the state: the pairs qs are added behind ps, or there are too many
 abbrev pub Added : Bool → List ℕ → List ℕ → Summary → Summary → Type 0
 Added true k₀ k ps qs = Grown k₀ k (ps ++ qs)
 Added false k₀ k ps qs = triple-limit < total-of k₀ + length (ps ++ qs)
 
--- the in-kind names that o reaches, each once, in some order
+-- 01, The edge: the in-kind names that o reaches, each once, in some order
 pub record Reaching (header : List Header) (heads : List Head) (o : ℕ) (is : List ℕ) : Type 0 where
   pub once : Once is
   pub found : (i : ℕ) → i ∈ is → i ∈ inputs-reached header heads o
   pub all : (i : ℕ) → i ∈ inputs-reached header heads o → i ∈ is
 
--- the pairs of the output o are added behind ps, or there are too many; no node is marked in the work slice w
+-- 01, The edge; Refused because of the state: the pairs of the output o are added behind ps, or there are too many; no node is marked in the
+-- work slice w
 pub record OutputAdded (r : Bool) (w k₀ k : List ℕ) (ps : Summary) (header : List Header) (heads : List Head) (o : ℕ) : Type 0 where
   pub clean : Clean w
   pub inputs : List ℕ
   pub reaching : Reaching header heads o inputs
   pub added : Added r k₀ k ps (paired o inputs)
 
--- an item: a `port out` line with that name, or something else
+-- 01, The edge: an item: a `port out` line with that name, or one that makes no output
 abbrev pub PortIs : P.Port → Item → Type 0
 PortIs (ports.Out n) i = (w : Width) × (start : ℕ) × (i ≡ port output n w start)
 PortIs ports.Other i = line-outputs i ≡ []
 
--- the name is one
+-- 01, The line: NAME 0 to 255: the name is one
 abbrev pub IsName : P.Port → Type 0
 IsName (ports.Out n) = n < 256
 IsName ports.Other = Unit {0}

@@ -12,23 +12,23 @@ use Rattle.spec.specs.Site.{Output}
 use Rattle.spec.specs.Edge.{Head, Summary, reaches, has-output}
 use Rattle.spec.specs.Summary.{paired, inputs-reached}
 
--- the outputs of a summary, each at its last pair
+-- 01, The edge: the outputs of a summary, each at its last pair
 unfoldable pub out-list : Summary → List ℕ
 out-list [] = []
 out-list (p ∷ s) = elim (has-output (p .0) s) [ true ↦ out-list s | false ↦ p .0 ∷ out-list s ]
 
--- the same pairs, as many, with their outputs in the same order
+-- 01, The edge: the same pairs, as many, with their outputs in the same order
 pub record Alike (t s : Summary) : Type 0 where
   pub reach : (o i : ℕ) → reaches o i t ≡ reaches o i s
   pub outs : out-list t ≡ out-list s
   pub size : length t ≡ length s
 
--- for each output the inputs that f gives
+-- 01, The edge: for each output the inputs that f gives
 unfoldable pub reach-by : (ℕ → List ℕ) → List Output → Summary
 reach-by f [] = []
 reach-by f (o ∷ os) = paired (o .name) (f (o .name)) ++ reach-by f os
 
--- f gives the in-kind names that an output reaches, each once, in some order
+-- 01, The edge: f gives the in-kind names that an output reaches, each once, in some order
 pub record Finds (f : ℕ → List ℕ) (hs : List Header) (heads : List Head) : Type 0 where
   pub once : (o : ℕ) → Once (f o)
   pub found : (o i : ℕ) → i ∈ f o → i ∈ inputs-reached hs heads o

@@ -1,4 +1,5 @@
--- What ties the fused walk to the specification: the walk is the fold over the collected list, and the fused check is the check.
+-- What ties the fused walk to the specification: it gives what the specification gives of the collected list, and the fused check is the
+-- check.
 -- 01: The collected item; The site; The block; The edge; The report; Refused because of the state.
 -- Assumes nothing: these are definitions and statements.
 use mathlib.Core.Path.{_≡_}
@@ -46,7 +47,7 @@ unfoldable pub own-after : Bool → Bool → List Header → List Collected → 
 own-after true bound hs cs o = own-lines bound hs cs o
 own-after false bound hs cs o = o
 
--- 01, Refused because of the state: whether they pass a limit
+-- 01, Refused because of the state: whether the own tables pass a limit; in a summary's walk (false) they do not
 unfoldable pub own-full : Bool → Own → Bool
 own-full true o = over-own o
 own-full false o = false
@@ -96,10 +97,10 @@ module-stops d k kept =
     let h = module-heads d kept k (c .lines) in
     name-table (own-vals k) k .out || (lines-outside (k .header) (c .lines) || (over-own (own-of-lines (k .bound) (k .header) (c .lines)) || (h .full || over-graph (h .heads))))
 
--- 01, The collected item; The edge; The report; Refused because of the state: the walk is the fold over the collected list, and the
--- fused check is the check: it is full exactly where the answer is 20, and else has its reports, rounds and summaries.
--- A summary's walk may be full for a constant that the specification evaluates only in that module's own check; so walks of one module
--- are tied where no module evaluates one outside INT, and the whole check always.
+-- 01, The collected item; The edge; The report; Refused because of the state: the walk gives what the specification gives of the collected
+-- list, and the fused check is the check: it is full exactly where the answer is 20, and else has its reports, rounds and summaries. A
+-- summary's walk may be full for a constant that the specification evaluates only in that module's own check; so walks of one module are
+-- tied where no module evaluates one outside INT, and the whole check always.
 pub record Fused : Type 0 where
   pub summary : (d : Design) → some-outside d ≡ false → (fuel : ℕ) (busy : List ℕ) → Agrees (ask-walk fuel d busy) (comb-summary fuel d busy)
   pub own-check : (d : Design) → some-outside d ≡ false → (k : Module) (kept : Kept) → own-walk d k kept ≡ unless (module-stops d k kept) (module-walked d k kept)

@@ -24,49 +24,50 @@ use Rattle.spec.specs.Check.{site-limit, pair-limit, misuse-reports, conflict-r
 
 -- ---- 01, Refused because of the state: stopping
 
--- what a step gives: a limit was passed or a constant was outside INT, or what it leaves
+-- 01, Refused because of the state: what a step gives: a limit was passed or a constant was outside INT, or what it leaves
 pub data Got (A : Type 0) : Type 0 where
   full : Got A
   going : A → Got A
 
--- what follows a step, if that did not stop
+-- 01, Refused because of the state: what follows a step, if that did not stop
 abbrev pub then-go : {A B : Type 0} → Got A → (A → Got B) → Got B
 then-go full f = full
 then-go (going a) f = f a
 
--- a test that stops, and what is left otherwise
+-- 01, Refused because of the state: a test that stops, and what is left otherwise
 abbrev pub unless : {A : Type 0} → Bool → A → Got A
 unless true a = full
 unless false a = going a
 
 -- ---- 01, The collected item: the walk, whatever is done at a line
 
--- what a walk leaves, and the rounds left for what follows
+-- 01, The collected item: what a walk leaves, and the rounds left for what follows
 pub record Walked (S : Type 0) : Type 0 where
   pub state : S
   pub left : ℕ
 
--- the same, by its parts
+-- 01, The collected item: the same, by its parts
 abbrev pub walked : {S : Type 0} → ℕ → S → Walked S
 walked left st = record { state = st; left = left }
 
--- how a run of items is walked under some names, with the rounds left, from some state on
+-- 01, The collected item: how a run of items is walked under some names, with the rounds left, from some state on
 abbrev pub Walks : Type 0 → Type 0
 Walks S = Names → ℕ → S → Got (Walked S)
 
--- `count` rounds of a body, for the variable n from v on
+-- 01, The collected item: `count` rounds of a body, for the variable n from v on
 unfoldable pub walk-rounds : {S : Type 0} → Walks S → ℕ → ℤ → ℕ → Walks S
 walk-rounds body n v zero names left st = going (walked left st)
 walk-rounds body n v (suc count) names left st =
     then-go (body ((n, v) ∷ names) left st) (λ r. walk-rounds body n (v +ℤ pos 1) count names (r .left) (r .state))
 
--- a `repeat` of which high - low is known: no round, the body once, or the rounds, which are spent before the body runs
+-- 01, The collected item: a `repeat` of which high - low is known: no round, the body once, or the rounds, which are spent before the
+-- body runs
 unfoldable pub walk-times : {S : Type 0} → Walks S → ℕ → ℤ → ℤ → Walks S
 walk-times body n low (negsuc d) names left st = going (walked left st)
 walk-times body n low (pos rounds) names left st =
     elim (ltb left rounds) [ true ↦ body names left st | false ↦ walk-rounds body n low rounds names (left - rounds) st ]
 
--- a `repeat` by the values of its bounds: without one, the body once
+-- 01, The collected item: a `repeat` by the values of its bounds: without one, the body once
 unfoldable pub walk-repeat : {S : Type 0} → Walks S → ℕ → Value → Value → Walks S
 walk-repeat body n (known low) (known high) names left st = walk-times body n low (high -ℤ low) names left st
 walk-repeat body n (known low) missing names left st = body names left st
@@ -74,14 +75,15 @@ walk-repeat body n (known low) outside names left st = body names left st
 walk-repeat body n missing high names left st = body names left st
 walk-repeat body n outside high names left st = body names left st
 
--- whether `constif` takes `then`, by the value of its condition
+-- 01, The collected item: whether `constif` takes `then`, by the value of its condition
 abbrev pub takes-then : Value → Bool
 takes-then (known x) = elim (is-zero x) [ true ↦ false | false ↦ true ]
 takes-then missing = false
 takes-then outside = false
 
--- each item: what is done at its line (`step`), then what it holds, then the items behind it
 unfoldable mutual
+  -- 01, The collected item: the walk over what an item holds: the body of a `repeat` by its bounds, one branch of a `constif`, and else
+  -- nothing
   pub walk-inner : {S : Type 0} → Item → (Names → Item → S → Got S) → Walks S
   walk-inner (port d n w s) step names left st = going (walked left st)
   walk-inner (wire n e s) step names left st = going (walked left st)
@@ -96,42 +98,46 @@ unfoldable mutual
   walk-inner (const-if c is js) step names left st =
       elim (takes-then (value names c)) [ true ↦ walk-items is step names left st | false ↦ walk-items js step names left st ]
 
+  -- 01, The collected item: each item: what is done at its line (`step`), then what it holds, then the items behind it
   pub walk-items : {S : Type 0} → Items → (Names → Item → S → Got S) → Walks S
   walk-items Items.none step names left st = going (walked left st)
   walk-items (Items.more i is) step names left st =
       then-go (step names i st)
       (λ st′. then-go (walk-inner i step names left st′) (λ r. walk-items is step names (r .left) (r .state)))
 
--- the steps at collected lines, one behind the other
+-- 01, The collected item: the steps at collected lines, one behind the other
 unfoldable pub fold-lines : {S : Type 0} → (Names → Item → S → Got S) → List Collected → S → Got S
 fold-lines step [] st = going st
 fold-lines step (c ∷ cs) st = then-go (step (c .names) (c .item) st) (λ st′. fold-lines step cs st′)
 
 -- ---- 01, The site; The block: the tables
 
--- an entry at the end, where none is the same as it
+-- 01, The site; The block: an entry at the end, where none is the same as it
 unfoldable pub add-new : {A : Type 0} → (A → A → Bool) → A → List A → List A
 add-new same a l = elim (among same a l) [ true ↦ l | false ↦ l ++ (a ∷ []) ]
 
--- entries one behind the other, each where none is the same
+-- 01, The site; The block: entries one behind the other, each where none is the same
 unfoldable pub add-all : {A : Type 0} → (A → A → Bool) → List A → List A → List A
 add-all same [] l = l
 add-all same (a ∷ more) l = add-all same more (add-new same a l)
 
--- entries are the same by name, and pairs by name and block
+-- 01, The site: outputs are the same by name
 abbrev pub same-output : Output → Output → Bool
 same-output a b = eqb (a .name) (b .name)
 
+-- 01, The block: regs, or mems, are the same by name
 abbrev pub same-storage : Storage → Storage → Bool
 same-storage a b = eqb (a .name) (b .name)
 
+-- 01, The site: misuses are the same by name
 abbrev pub same-misused : Misused → Misused → Bool
 same-misused a b = eqb (a .name) (b .name)
 
+-- 01, The block: pairs are the same by name and block
 abbrev pub same-pair : Pair → Pair → Bool
 same-pair p q = eqb (p .name) (q .name) && eqb (p .block) (q .block)
 
--- the tables of a module's own check: sites as often as collected, pairs, outputs, regs, mems and misuses each at its first
+-- 01, The site; The block: the tables of a module's own check: sites, pairs, outputs, regs, mems and misuses
 pub record Own : Type 0 where
   pub sites : List Site
   pub pairs : List Pair
@@ -146,11 +152,12 @@ pub record State : Type 0 where
   pub heads : List Head
   pub kept : Kept
 
--- no entry yet
+-- 01, The site; The block: no entry yet
 abbrev pub no-own : Own
 no-own = record { sites = []; pairs = []; outputs = []; regs = []; mems = []; misuses = [] }
 
--- 01, The edge: the state before the first item of a module: nothing is headed, and the summaries kept before stand
+-- 01, The site; The block; The edge: the state before the first item of a module: no entry yet, nothing is headed, and the summaries
+-- kept before stand
 abbrev pub begin : Kept → State
 begin kept = record { own = no-own; heads = []; kept = kept }
 
@@ -222,7 +229,7 @@ line-step ask w names item st =
           (λ a. head-step (line-heads (w .header) names (a .summary) item) (record { own = o; heads = st .heads; kept = a .kept })))
     ]
 
--- ---- a module, a summary, the whole check
+-- ---- 01, The collected item; The edge; The report: a module, a summary, the whole check
 
 -- 01, The collected item: a module from its first item to its last, over the values of its `val` and `const` lines
 unfoldable pub walk-module : Asking → Walking → Module → Kept → Got (Walked State)
@@ -264,7 +271,7 @@ pub record Tally : Type 0 where
   pub rounds : ℕ
   pub kept : Kept
 
--- 01, The site: the names that get no further report: of misuses and of conflicts
+-- 01, The site: the poisoned names: of conflicts and of misuses
 unfoldable pub poison : Own → List ℕ
 poison o = let ms = misused-names (o .misuses) in conflict-names (conflicts ms (o .sites) (o .sites)) ++ ms
 
