@@ -1,12 +1,15 @@
 -- What the reader gives at its position. 01: The line.
 -- Assumes nothing: these are definitions.
+use mathlib.Core.Path.{_≡_}
 use mathlib.Core.List.{List, [], _∷_}
 use Prim.Native.Nat.{ℕ, _+_, min}
 use lib.ListN.{length, drop}
 use Rattle.spec.specs.Bytes.{Bytes}
 use Rattle.spec.specs.Refusal.{lines, refusal, decode}
 use Rattle.lines.specs.Verdict.{told}
+use Rattle.lines.specs.Reader.{read-as, kinds-after, mods-after}
 use Rattle.lines.specs.declared.read.Verdict.{Verdict}
+use Rattle.lines.specs.declared.tables.Read.{Read}
 
 -- 01, The line: the first of these lines, and nothing where there is none.
 abbrev pub first-of : List Bytes → Bytes
@@ -28,3 +31,9 @@ behind-line t at = min (length t) (at + length (line-at t at) + 1)
 -- 01, The line: the reader holds the text and its position: what the text from there on is refused with, or how many modules it has.
 unfoldable pub verdict-at : Bytes → ℕ → Verdict
 verdict-at t at = told (refusal (drop at t)) (length (decode (drop at t)))
+
+-- 01, The line: the reader holds the text and its position: the answer for a text and two lent tables, and what they hold afterwards.
+abbrev pub Filled : Bytes → List ℕ → List ℕ → Read → List ℕ → List ℕ → Type 0
+Filled t kinds mods r kinds′ mods′ =
+    (r ≡ read-as (length kinds) (length mods) t)
+    × ((kinds′ ≡ kinds-after kinds (length mods) t) × (mods′ ≡ mods-after mods (length kinds) t))

@@ -1,13 +1,16 @@
-// The reader holds the text and its position. Each function over it takes it apart and leaves the work to one on a slice and a number.
+// The reader holds the text and its position. Each function over it takes it apart and leaves the work to one on the slice and the
+// number, since a function over such a struct is proved by a walk of its code. `read` and `read_text` make a reader of a whole text:
+// their callers need no such walk.
 ghost use mathlib.Core.Path.{_≡_};
 ghost use Prim.Native.Nat.{_+_};
 ghost use lib.ListN.{length, drop};
 ghost use Rattle.spec.specs.Refusal.{refusal, decode};
 ghost use Rattle.lines.specs.Verdict.{told};
-ghost use Rattle.reader.specs.Line.{line-at, behind-line, verdict-at};
+ghost use Rattle.reader.specs.Line.{line-at, behind-line, verdict-at, Filled};
 use lines::parts;
 use lines::read::Verdict;
 use lines::read::verdict_of;
+use lines::tables;
 
 pub struct Reader<'a> {
     text: &'a [u8],
@@ -55,6 +58,17 @@ fn verdict_at(text: &[u8], at: usize) -> Verdict
     verdict_of(parts::rest(text, at))
 }
 
+fn fill_at<'a, 'k, 'm>(
+    text: &'a [u8],
+    at: usize,
+    kinds: &'k mut [u8],
+    mods: &'m mut [u32],
+) -> tables::Read
+    ensures { λ r. ⌜ Filled (drop at (now (text .entry))) (now (kinds .entry)) (now (mods .entry)) r (now (kinds .exit)) (now (mods .exit)) ⌝ }
+{
+    tables::read_text(parts::rest(text, at), kinds, mods)
+}
+
 // The text is read from its start.
 pub fn new<'a>(text: &'a [u8]) -> Reader<'a>
     ensures { λ r. ⌜ (r .text ≡ text .entry) × (r .at ≡ 0) ⌝ }
@@ -62,6 +76,7 @@ pub fn new<'a>(text: &'a [u8]) -> Reader<'a>
     Reader { text, at: 0 }
 }
 
+// The position.
 pub fn at<'a>(r: Reader<'a>) -> usize
     ensures { λ n. ⌜ n ≡ r .entry .at ⌝ }
 {
@@ -92,9 +107,23 @@ pub fn verdict<'a>(r: Reader<'a>) -> Verdict
     verdict_at(r.text, r.at)
 }
 
-// A whole text. Its contract says nothing of a reader, so that whoever calls it needs no walk by hand.
+// What a whole text is refused with, or how many modules it has.
 pub fn read(text: &[u8]) -> Verdict
     ensures { λ v. ⌜ v ≡ told (refusal (now (text .entry))) (length (decode (now (text .entry)))) ⌝ }
 {
     verdict(new(text))
+}
+
+// What the text from here on is refused with, or its tables.
+pub fn fill<'a, 'k, 'm>(r: Reader<'a>, kinds: &'k mut [u8], mods: &'m mut [u32]) -> tables::Read
+    ensures { λ v. ⌜ Filled (drop (r .entry .at) (now (r .entry .text))) (now (kinds .entry)) (now (mods .entry)) v (now (kinds .exit)) (now (mods .exit)) ⌝ }
+{
+    fill_at(r.text, r.at, kinds, mods)
+}
+
+// What a whole text is refused with, or its tables.
+pub fn read_text(text: &[u8], kinds: &mut [u8], mods: &mut [u32]) -> tables::Read
+    ensures { λ r. ⌜ Filled (now (text .entry)) (now (kinds .entry)) (now (mods .entry)) r (now (kinds .exit)) (now (mods .exit)) ⌝ }
+{
+    fill(new(text), kinds, mods)
 }
