@@ -240,7 +240,7 @@ fn check_text(
     ) {
         return refuse(20, 0);
     }
-    match tables::read_text(text, kinds, mods) {
+    match reader::read_text(text, kinds, mods) {
         Read::Short => refuse(20, 0),
         Read::Refused(number, line) => refuse(number, line),
         Read::Accepted(count) => {
