@@ -27,6 +27,7 @@ use Rattle.walk.specs.Fold.{own-lines, own-of-lines, own-after, own-full
 use Rattle.walk.proofs.Fold.{items-fold}
 use Rattle.walk.proofs.Tables.{outputs-first, storage-first, misuses-first, pairs-length, pairs-count}
 use Rattle.walk.proofs.Lines.{or-neither, then-unless, elim-unless, lines-fold}
+use Rattle.walk.proofs.Kept.{design-again}
 
 -- ---- a module
 
@@ -296,22 +297,37 @@ spec-stop d (k ∷ ks) kept m e = go (or-parts (module-outside k) (some-outside 
     go (inl f) h = rw (spec-one d kept m k f)
     go (inr f) h = rw (h (check-module-drivers d kept m k .kept) f) (or-true (check-module-drivers d kept m k .full))
 
--- The fused check is the check.
+-- The fused check is the check, whatever summaries are kept before it.
+whole-from : (d : Design) (kept : Kept) → check-all d kept 0 d ≡ unless (check-modules d kept 0 d .full) (tally-of (check-modules d kept 0 d))
+whole-from d kept = go (some-outside d) refl
+  where
+    go : (b : Bool) → some-outside d ≡ b → check-all d kept 0 d ≡ unless (check-modules d kept 0 d .full) (tally-of (check-modules d kept 0 d))
+    go true e = all-stop d d kept 0 e ∙ ap (λ (b : Bool). unless b (tally-of (check-modules d kept 0 d))) (sym (spec-stop d d kept 0 e))
+    go false e = all-is d (asks-agree d e (suc (length d)) []) d kept 0
+
+-- So it is where none is kept.
 whole-is : (d : Design) → check-fused d ≡ unless (check-design d .full) (tally-of (check-design d))
 unfolding check-fused check-design
-whole-is d = go (some-outside d) refl
-  where
-    go : (b : Bool) → some-outside d ≡ b → check-all d [] 0 d ≡ unless (check-modules d [] 0 d .full) (tally-of (check-modules d [] 0 d))
-    go true e = all-stop d d [] 0 e ∙ ap (λ (b : Bool). unless b (tally-of (check-modules d [] 0 d))) (sym (spec-stop d d [] 0 e))
-    go false e = all-is d (asks-agree d e (suc (length d)) []) d [] 0
+whole-is d = whole-from d []
 
 full-is : {A : Type 0} (b : Bool) (a : A) → (unless b a ≡ full) ↔ (b ≡ true)
 full-is true a = (λ e. refl, λ e. refl)
 full-is false a = (λ e. let z : _≡_ {A = ℕ} 0 1 = cc in absurd (omega arith), λ e. absurd (false≢true e))
 
-going-is : {A : Type 0} (b : Bool) (a t : A) → unless b a ≡ going t → t ≡ a
-going-is true a t e = let z : _≡_ {A = ℕ} 0 1 = cc in absurd (omega arith)
-going-is false a t e = cc
+-- a test that did not stop
+pub unless-going : {A : Type 0} (b : Bool) (a t : A) → unless b a ≡ going t → (b ≡ false) × (t ≡ a)
+unless-going true a t e = let z : _≡_ {A = ℕ} 0 1 = cc in absurd (omega arith)
+unless-going false a t e = (refl, cc)
+
+-- the fused check goes on where the check passes no limit
+going-is : (d : Design) (t : Tally) → check-fused d ≡ going t → (check-design d .full ≡ false) × (t ≡ tally-of (check-design d))
+going-is d t e = unless-going (check-design d .full) (tally-of (check-design d)) t (rw (whole-is d) at e)
+
+-- A second check, with the summaries that the first kept, gives what the first gave.
+whole-again : (d : Design) (t : Tally) → check-fused d ≡ going t → check-all d (t .kept) 0 d ≡ going t
+whole-again d t e =
+    let g = going-is d t e in
+    rw (g .1, whole-from d (check-design d .kept), design-again d (g .0), g .0)
 
 pub fused : Fused
 fused = record {
@@ -319,5 +335,6 @@ fused = record {
   own-check = λ d e. own-is d (asks-agree d e (suc (length d)) []);
   whole = whole-is;
   full-exactly = λ d. rw (whole-is d) (full-is (check-design d .full) (tally-of (check-design d)));
-  as-checked = λ d t e. going-is (check-design d .full) (tally-of (check-design d)) t (rw (whole-is d) at e);
+  as-checked = λ d t e. going-is d t e .1;
+  again = whole-again;
 }

@@ -6,3 +6,4 @@ pub mod Fused
 pub mod Sound
 pub mod Alike
 pub mod Room
+pub mod Kept

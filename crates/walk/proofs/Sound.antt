@@ -18,7 +18,7 @@ use Rattle.spec.specs.Summary.{Kept, Asked, kept-summary, no-summary, make-summ
 use Rattle.walk.specs.Walk.{Got, full, going, then-go, unless, Walked, walked, walk-items, fold-lines, Own, State, begin, Walking, walking, answered, Answered, Asking, own-step, ask-step, head-step, line-step, walk-module, make-walk, ask-walk, own-walk}
 use Rattle.walk.specs.Fold.{module-outside, module-walked, module-stops}
 use Rattle.walk.proofs.Fold.{items-fold}
-use Rattle.walk.proofs.Fused.{module-stop, make-is, own-module}
+use Rattle.walk.proofs.Fused.{module-stop, make-is, own-module, unless-going}
 
 -- g is full or is h
 pub data Under {A : Type 0} : Got A → Got A → Type 0 where
@@ -123,13 +123,9 @@ asks-under d (suc fuel) busy kept m =
 under-going : {A : Type 0} (g : Got A) (b : Bool) (a x : A) → Under g (unless b a) → g ≡ going x → (b ≡ false) × (x ≡ a)
 under-going {A = A} g b a x u e = go u refl e
   where
-    stays : (b : Bool) → unless b a ≡ going x → (b ≡ false) × (x ≡ a)
-    stays true f = let z : _≡_ {A = ℕ} 0 1 = cc in absurd (omega arith)
-    stays false f = (refl, cc)
-
     go : {g h : Got A} → Under g h → h ≡ unless b a → g ≡ going x → (b ≡ false) × (x ≡ a)
     go stopped f e = let z : _≡_ {A = ℕ} 0 1 = cc in absurd (omega arith)
-    go same f e = stays b (sym f ∙ e)
+    go same f e = unless-going b a x (sym f ∙ e)
 
 -- A module's own walk that is not full leaves what the specification gives, and that says that no limit is passed.
 pub own-sound : (d : Design) (k : Module) (kept : Kept) (r : Walked State) → own-walk d k kept ≡ going r → (module-stops d k kept ≡ false) × (r ≡ module-walked d k kept)

@@ -15,7 +15,7 @@ use Rattle.spec.specs.Block.{all-pairs, line-regs, line-mems, storage-lines, re
 use Rattle.spec.specs.Edge.{over-graph}
 use Rattle.spec.specs.Summary.{Kept, Asked, lines-heads, comb-summary, module-heads}
 use Rattle.spec.specs.Check.{Checked, check-design}
-use Rattle.walk.specs.Walk.{full, going, unless, Walked, walked, add-all, same-output, same-storage, same-misused, same-pair, Own, State, Walking, over-own, answered, Asking, Tally, ask-walk, own-walk, check-fused}
+use Rattle.walk.specs.Walk.{full, going, unless, Walked, walked, add-all, same-output, same-storage, same-misused, same-pair, Own, State, Walking, over-own, answered, Asking, Tally, ask-walk, own-walk, check-all, check-fused}
 
 -- 01, The site; The block: the own tables after some collected lines, from tables o on
 unfoldable pub own-lines : Bool → List Header → List Collected → Own → Own
@@ -100,10 +100,12 @@ module-stops d k kept =
 -- 01, The collected item; The edge; The report; Refused because of the state: the walk gives what the specification gives of the collected
 -- list, and the fused check is the check: it is full exactly where the answer is 20, and else has its reports, rounds and summaries. A
 -- summary's walk may be full for a constant that the specification evaluates only in that module's own check; so walks of one module are
--- tied where no module evaluates one outside INT, and the whole check always.
+-- tied where no module evaluates one outside INT, and the whole check always. What is made is kept: a second check, with the summaries that
+-- the first kept, gives what the first gave.
 pub record Fused : Type 0 where
   pub summary : (d : Design) → some-outside d ≡ false → (fuel : ℕ) (busy : List ℕ) → Agrees (ask-walk fuel d busy) (comb-summary fuel d busy)
   pub own-check : (d : Design) → some-outside d ≡ false → (k : Module) (kept : Kept) → own-walk d k kept ≡ unless (module-stops d k kept) (module-walked d k kept)
   pub whole : (d : Design) → check-fused d ≡ unless (check-design d .full) (tally-of (check-design d))
   pub full-exactly : (d : Design) → (check-fused d ≡ full) ↔ (check-design d .full ≡ true)
   pub as-checked : (d : Design) (t : Tally) → check-fused d ≡ going t → t ≡ tally-of (check-design d)
+  pub again : (d : Design) (t : Tally) → check-fused d ≡ going t → check-all d (t .kept) 0 d ≡ going t
