@@ -10,6 +10,7 @@ use borrow.Author.Tests.{lt-ltb, le-ltb, ltb-false}
 use Rattle.spec.specs.Bytes.{Bytes}
 use Rattle.spec.specs.Syntax.{name-bound, Design}
 use Rattle.spec.specs.Refusal.{Verdict, well-formed, refused, refusal, decode}
+use Rattle.spec.specs.Summary.{Kept}
 use Rattle.spec.specs.Report.{Report, show-reports}
 use Rattle.spec.specs.Check.{Lent, refuse, accept, answer-checked, answer-read, too-short, check-drivers, check-design, check-call}
 use Rattle.spec.specs.Check as check
@@ -19,11 +20,11 @@ use Rattle.lines.specs.Reader.{by-verdict, read-as, kinds-after, mods-after}
 use Rattle.lines.specs.declared.tables.Read.{Read}
 use Rattle.lines.specs.declared.tables.Read.the-variants as reads
 use Rattle.lines.proofs.Answers.{room-fits}
-use Rattle.walk.specs.Walk.{full, going, unless, Tally, check-fused}
+use Rattle.walk.specs.Walk.{Got, Tally, check-all, check-fused}
 use Rattle.walk.specs.Fold.{tally-of}
-use Rattle.walk.proofs.Fused.{fused}
+use Rattle.walk.proofs.Fused.{unless-going, fused}
 use Rattle.steps.specs.Modules.{name-places}
-use Rattle.summary.specs.Keeps.{kept-places}
+use Rattle.summary.specs.Keeps.{Keeps, kept-places}
 use Rattle.collect.specs.Cycle.{Tabled}
 use Rattle.drivers.specs.Emits.{Within, Appended}
 use Rattle.graph.specs.Stands.{graph-places}
@@ -50,10 +51,6 @@ module _ (c : check.Checked) (buf : Bytes) where
     unfolding answer-checked
     of-fitting h = rw (e, le-ltb (length buf) (length (show-reports (c .reports))) h, answer-checked)
 
-unless-going : {A : Type 0} (b : Bool) (a t : A) → unless b a ≡ going t → (b ≡ false) × (t ≡ a)
-unless-going true a t e = let z : _≡_ {A = ℕ} 0 1 = cc in absurd (omega arith)
-unless-going false a t e = (refl, cc)
-
 no-length : {A : Type 0} (l : List A) → length l ≡ 0 → l ≡ []
 no-length [] e = refl
 no-length (a ∷ l) e = absurd (omega arith)
@@ -61,16 +58,20 @@ no-length (a ∷ l) e = absurd (omega arith)
 within-first : (old : Bytes) → Within old first-place
 within-first old = record { end = omega arith; reports = omega arith }
 
--- the first run, which only counts
-module _ (d : Design) (buf buf′ : Bytes) (k : List ℕ) (r : Checked) (R : Tallied r false buf first-place buf′ k (check-fused d)) where
+-- the first run, which only counts, with no summary kept
+module _ (d : Design) (buf buf′ : Bytes) (k : List ℕ) (r : Checked) (R : Tallied r false buf first-place buf′ k (check-all d [] 0 d)) where
+  first : Tallied r false buf first-place buf′ k (check-fused d)
+  unfolding check-fused
+  first = R
+
   pub answer-full : r ≡ checks.Full → {x : check.Answer} → x ≡ refuse 20 0 buf′ → x ≡ answer-checked (check-design d) buf
   answer-full e f =
-      let t = subst (λ (c : Checked). Tallied c false buf first-place buf′ k (check-fused d)) e R in
+      let t = subst (λ (c : Checked). Tallied c false buf first-place buf′ k (check-fused d)) e first in
       f ∙ ap (refuse 20 0) (t .1 (within-first buf) refl) ∙ sym (of-full (check-design d) buf (fused .full-exactly d .0 (t .0)))
 
   module _ {q : Place} {rounds : ℕ} (e : r ≡ checks.Done q rounds) where
     done : Tallied (checks.Done q rounds) false buf first-place buf′ k (check-fused d)
-    done = subst (λ (c : Checked). Tallied c false buf first-place buf′ k (check-fused d)) e R
+    done = subst (λ (c : Checked). Tallied c false buf first-place buf′ k (check-fused d)) e first
 
     abbrev c : check.Checked
     c = check-design d
@@ -118,11 +119,14 @@ module _ (d : Design) (buf buf′ : Bytes) (k : List ℕ) (r : Checked) (R : Tal
           } in
           e′ ∙ y ∙ sym (of-fitting c buf (known .0) room)
 
-      -- the second run, which writes
-      module _ (buf″ : Bytes) (k′ : List ℕ) (r′ : Checked) (R′ : Tallied r′ true buf′ first-place buf″ k′ (check-fused d)) where
+      -- the second run, which writes, from the words that the first left
+      module _ (buf″ : Bytes) (k′ : List ℕ) (r′ : Checked) (R′ : (kept : Kept) → Keeps k kept [] → Tallied r′ true buf′ first-place buf″ k′ (check-all d kept 0 d)) where
+        second : Tallied r′ true buf′ first-place buf″ k′ (check-fused d)
+        second = subst (λ (x : Got Tally). Tallied r′ true buf′ first-place buf″ k′ x) (fused .again d (done .0) (done .1) ∙ sym (done .1)) (R′ (done .0 .kept) (done .4))
+
         rewritten : {q′ : Place} {rounds′ : ℕ} → r′ ≡ checks.Done q′ rounds′ → accepted (q .at) (q .reports) rounds buf″ ≡ answer-checked c buf
         rewritten {q′} {rounds′} e′ =
-            let t = subst (λ (x : Checked). Tallied x true buf′ first-place buf″ k′ (check-fused d)) e′ R′ in
+            let t = subst (λ (x : Checked). Tallied x true buf′ first-place buf″ k′ (check-fused d)) e′ second in
             let u : t .0 ≡ tally-of c = unless-going (c .full) (tally-of c) (t .0) (sym (fused .whole d) ∙ t .1) .1 in
             let w = subst (λ (l : List Report). Appended true buf′ first-place (show-reports l) (length l) buf″ q′) (ap (λ (y : Tally). y .reports) u) (t .2 (within-first buf′)) in
             let l = ap length same in
@@ -142,7 +146,7 @@ module _ (d : Design) (buf buf′ : Bytes) (k : List ℕ) (r : Checked) (R : Tal
 
         by-run : (x : Checked) → r′ ≡ x → accepted (q .at) (q .reports) rounds buf″ ≡ answer-checked c buf
         by-run checks.Full e′ =
-            let t = subst (λ (x : Checked). Tallied x true buf′ first-place buf″ k′ (check-fused d)) e′ R′ in
+            let t = subst (λ (x : Checked). Tallied x true buf′ first-place buf″ k′ (check-fused d)) e′ second in
             absurd (true≢false (sym (fused .full-exactly d .0 (t .0)) ∙ known .0))
         by-run (checks.Done q′ rounds′) e′ = rewritten e′
 

@@ -13,8 +13,8 @@ use Rattle.spec.specs.Refusal.{decode}
 use Rattle.spec.specs.Summary.{Kept}
 use Rattle.spec.specs.Report.{Report}
 use Rattle.lines.proofs.Said.{says}
-use Rattle.walk.specs.Walk.{Got, full, going, then-go, Tally, check-one, check-all, check-fused}
-use Rattle.summary.specs.Keeps.{Keeps, kept-places}
+use Rattle.walk.specs.Walk.{Got, full, going, then-go, Tally, check-one, check-all}
+use Rattle.summary.specs.Keeps.{Keeps}
 use Rattle.collect.specs.Cycle.{Tabled}
 use Rattle.drivers.specs.Emits.{Emits}
 use Rattle.drivers.specs.Check.{Enough, Checking, Tallied, FewRounds, first-place}
@@ -39,6 +39,10 @@ enough-same E names′ own′ g′ w′ k′ a b c d e =
     let w = E .roomy in
     let k = E .keeping in
     record { named = omega arith; owned = b ∙ E .owned; graphed = omega arith; roomy = omega arith; keeping = omega arith }
+
+-- so do other words for the summaries
+pub enough-kept : {names own g w k : List ℕ} → Enough names own g w k → (k′ : List ℕ) → length k′ ≡ length k → Enough names own g w k′
+enough-kept {names} {own} {g} {w} E k′ e = enough-same E names own g w k′ refl refl refl refl e
 
 -- the rounds of a module
 pub few-taken : (r : Checked) {next : Place} {taken : ℕ} → FewRounds r → r ≡ checks.Done next taken → taken ≤ 4096
@@ -82,22 +86,25 @@ next-module [] m h = absurd (omega arith)
 next-module (x ∷ ks) zero h = (x, refl, refl)
 next-module (x ∷ ks) (suc m) h = next-module ks m (omega arith)
 
+-- every module, from the summaries kept before the first
+abbrev all-from : Bytes → Kept → Got Tally
+all-from text start = check-all (decode text) start 0 (decode text)
+
 -- the modules before m are checked: what the others give comes behind their reports and rounds
-pub record Turning (text : Bytes) (write : Bool) (old : Bytes) (m rounds : ℕ) (new : Bytes) (q : Place) (k : List ℕ) : Type 0 where
+pub record Turning (text : Bytes) (start : Kept) (write : Bool) (old : Bytes) (m rounds : ℕ) (new : Bytes) (q : Place) (k : List ℕ) : Type 0 where
   pub kept : Kept
   pub reports : List Report
   pub emitted : Emits write old first-place reports new q
   pub keeps : Keeps k kept []
-  pub whole : check-fused (decode text) ≡ behind reports rounds (check-all (decode text) kept m (drop m (decode text)))
+  pub whole : all-from text start ≡ behind reports rounds (check-all (decode text) kept m (drop m (decode text)))
 
-pub turn-start : (text : Bytes) (write : Bool) (old : Bytes) (k : List ℕ) {k′ : List ℕ} → (kept-places ≤ length k → Keeps k′ [] []) → kept-places ≤ length k → Turning text write old 0 0 old first-place k′
-unfolding check-fused
-turn-start text write old k f h =
-    record { kept = []; reports = []; emitted = emit-none; keeps = f h; whole = behind-none (check-all (decode text) [] 0 (decode text)) }
+pub turn-start : (text : Bytes) (write : Bool) (old : Bytes) {k : List ℕ} {start : Kept} → Keeps k start [] → Turning text start write old 0 0 old first-place k
+turn-start text write old {k} {start} keeps =
+    record { kept = start; reports = []; emitted = emit-none; keeps = keeps; whole = behind-none (all-from text start) }
 
-module _ {text kinds mods : List ℕ} {count : ℕ} (T : Tabled text kinds mods count) {write : Bool} {old : Bytes} {m rounds : ℕ} {mid : Bytes} {q : Place} {k : List ℕ}
-    (G : Turning text write old m rounds mid q k) where
-  pub turn-end : count ≤ m → Tallied (checks.Done q rounds) write old first-place mid k (check-fused (decode text))
+module _ {text kinds mods : List ℕ} {count : ℕ} (T : Tabled text kinds mods count) {start : Kept} {write : Bool} {old : Bytes} {m rounds : ℕ} {mid : Bytes} {q : Place} {k : List ℕ}
+    (G : Turning text start write old m rounds mid q k) where
+  pub turn-end : count ≤ m → Tallied (checks.Done q rounds) write old first-place mid k (all-from text start)
   turn-end h =
       let e : drop m (decode text) ≡ [] = drop-of-length-le (decode text) {i = m} (omega (arith, T .modules)) in
       let z : rounds + 0 ≡ rounds = omega arith in (
@@ -118,17 +125,17 @@ module _ {text kinds mods : List ℕ} {count : ℕ} (T : Tabled text kinds mods 
     checking : Checking text kinds mods count m names own g w k (found .0) (G .kept)
     checking = record { tabled = T; enough = E; there = found .1; keeps = G .keeps }
 
-    whole-here : check-fused (decode text) ≡ behind (G .reports) rounds (check-all (decode text) (G .kept) m (found .0 ∷ drop (suc m) (decode text)))
+    whole-here : all-from text start ≡ behind (G .reports) rounds (check-all (decode text) (G .kept) m (found .0 ∷ drop (suc m) (decode text)))
     whole-here = G .whole ∙ ap (λ (l : List Module). behind (G .reports) rounds (check-all (decode text) (G .kept) m l)) (found .2)
 
-    pub turn-full : r ≡ checks.Full → Tallied checks.Full write old first-place new k′ (check-fused (decode text))
+    pub turn-full : r ≡ checks.Full → Tallied checks.Full write old first-place new k′ (all-from text start)
     turn-full e =
         let t = subst (λ (c : Checked). Tallied c write mid q new k′ (check-one (decode text) (G .kept) m (found .0))) e (one (found .0) (G .kept) checking) in (
           whole-here ∙ ap (behind (G .reports) rounds) (all-full (decode text) (G .kept) m (found .0) (drop (suc m) (decode text)) (t .0)),
           λ i f. t .1 (appended-within (G .emitted i)) f ∙ G .emitted i .kept f,
         )
 
-    pub turn-on : {next : Place} {taken : ℕ} → r ≡ checks.Done next taken → Turning text write old (m + 1) (rounds + taken) new next k′
+    pub turn-on : {next : Place} {taken : ℕ} → r ≡ checks.Done next taken → Turning text start write old (m + 1) (rounds + taken) new next k′
     turn-on {next} {taken} e =
         let t = subst (λ (c : Checked). Tallied c write mid q new k′ (check-one (decode text) (G .kept) m (found .0))) e (one (found .0) (G .kept) checking) in
         let a = t .0 in

@@ -7,6 +7,7 @@ use lines::tables;
 use lines::tables::Read;
 use steps::modules;
 ghost use mathlib.Core.Path.{_≡_};
+ghost use mathlib.Core.List.{[]};
 ghost use lib.ListN.{length, replicate};
 ghost use Rattle.spec.specs.Bytes.{Bytes};
 ghost use Rattle.spec.specs.Syntax.{Module};
@@ -14,7 +15,8 @@ ghost use Rattle.spec.specs.Refusal.{decode};
 ghost use Rattle.spec.specs.Summary.{Kept};
 ghost use Rattle.spec.specs.Check.{check-design, answer-checked, too-short, check-call};
 ghost use Rattle.spec.specs.Check as check;
-ghost use Rattle.walk.specs.Walk.{check-one, check-fused};
+ghost use Rattle.walk.specs.Walk.{check-one, check-all};
+ghost use Rattle.summary.specs.Keeps.{Keeps};
 ghost use Rattle.collect.specs.Cycle.{Tabled};
 ghost use Rattle.drivers.specs.Check.{Enough, Checking, Tallied, FewRounds, first-place, answer-of, accepted, lent-places, exit-of, slices};
 
@@ -65,7 +67,7 @@ fn check_module_drivers(
     }
 }
 
-// Every module of an accepted text in order, to the first that is full.
+// Every module of an accepted text in order, to the first that is full, from the summaries that are kept already.
 fn check_modules(
     text: &[u8],
     kinds: &[u8],
@@ -79,15 +81,16 @@ fn check_modules(
     buf: &mut [u8],
     write: bool,
 ) -> Checked
-    ensures { λ r. ⌜ (Tabled (now (text .entry)) (now (kinds .entry)) (now (mods .entry)) count
+    ensures { λ r. ⌜ ((kept : Kept) → Tabled (now (text .entry)) (now (kinds .entry)) (now (mods .entry)) count
         → Enough (now (names .entry)) (now (own .entry)) (now (g .entry)) (now (w .entry)) (now (k .entry))
-        → Tallied r write (now (buf .entry)) first-place (now (buf .exit)) (now (k .exit)) (check-fused (decode (now (text .entry))))) ⌝ }
+        → Keeps (now (k .entry)) kept []
+        → Tallied r write (now (buf .entry)) first-place (now (buf .exit)) (now (k .exit))
+        (check-all (decode (now (text .entry))) kept 0 (decode (now (text .entry))))) ⌝ }
 {
     // No accepted text has more: this only bounds the sum of the rounds.
     if 32 < count {
         return Checked::Full;
     }
-    summary::reset(k);
     let mut q = Place { at: 0, reports: 0 };
     let mut rounds: u32 = 0;
     let mut m: u32 = 0;
@@ -145,7 +148,7 @@ fn accept(bytes: usize, reports: usize, rounds: u32) -> Answer
     }
 }
 
-// An accepted text: 20, 21, or its reports, written once it is known that they fit.
+// An accepted text: 20, 21, or its reports, written once it is known that they fit, with the summaries that were made to count them.
 fn check_accepted(
     text: &[u8],
     kinds: &[u8],
@@ -162,6 +165,7 @@ fn check_accepted(
         → Enough (now (names .entry)) (now (own .entry)) (now (g .entry)) (now (w .entry)) (now (k .entry))
         → answer-of r (now (report .exit)) ≡ answer-checked (check-design (decode (now (text .entry)))) (now (report .entry))) ⌝ }
 {
+    summary::reset(k);
     match check_modules(text, kinds, mods, count, names, own, g, w, k, report, false) {
         Checked::Full => refuse(20, 0),
         Checked::Done(q, rounds) => {
