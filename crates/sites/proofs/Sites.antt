@@ -12,8 +12,8 @@ use borrow.Author.Tests.{eq-eqb, ne-eqb, lt-leb, le-leb}
 use Rattle.spec.specs.Site.{Extent, Whole, Range, Dynamic, Unknown, Site, meets, sites-of, meets-any, first-conflict}
 use Rattle.sites.specs.declared.Extent as declared
 use Rattle.sites.specs.declared.Extent.the-variants as extent
-use Rattle.sites.specs.Own.{extent-of, extent-from, run, row, site-table, site-from, before, hits}
-use Rattle.sites.proofs.Rows.{run-step, run-end, row-at}
+use Rattle.sites.specs.Own.{extent-of, extent-from, run, row, site-table, site-from, before, hits, NoneBefore}
+use Rattle.sites.proofs.Rows.{run-step, run-end, run-all, row-at}
 use Rattle.sites.proofs.Pairs.{row-name}
 
 -- an extent by its code
@@ -45,6 +45,13 @@ hits-own n x s e = rw (eq-eqb n (s .name) (sym e), hits)
 pub ranges-apart : (l h l′ h′ : ℕ) → h′ < l → (leb l h′ && leb l′ h) ≡ false
 ranges-apart l h l′ h′ e = rw (lt-leb l h′ e)
 
+ranges-below : (l h l′ h′ : ℕ) → h < l′ → (leb l h′ && leb l′ h) ≡ false
+ranges-below l h l′ h′ e = rw (lt-leb l′ h e) (and-false (leb l h′))
+  where
+    and-false : (b : Bool) → (b && false) ≡ false
+    and-false true = refl
+    and-false false = refl
+
 pub ranges-from : (l h l′ h′ : ℕ) → l ≤ h′ → (leb l h′ && leb l′ h) ≡ ltb l′ (h + 1)
 ranges-from l h l′ h′ e = rw (le-leb l h′ e) (sym (leb·suc-suc l′ h) ∙ ap (ltb l′) (sym (add-one h)))
 
@@ -71,9 +78,9 @@ module _ (n : ℕ) (f : ℕ → Site) where
       no-eq : _≡_ {A = Bool} false true → ⊥
       no-eq z = let y : _≡_ {A = ℕ} 0 1 = cc in omega arith
 
-  pub any-none : (x : Extent) → meets-any (before n f 0) x ≡ false
-  unfolding before meets-any
-  any-none x = refl
+  pub any-none : (m i : ℕ) (x : Extent) → NoneBefore n f m i → meets-any (before n f i) x ≡ false
+  unfolding meets-any
+  any-none m i x h = rw (h .none)
 
   pub any-miss : (k : ℕ) (x : Extent) → 0 < k → hits n x (f (k - 1)) ≡ false → meets-any (before n f (k - 1)) x ≡ meets-any (before n f k) x
   any-miss k x p h = let e : suc (k - 1) ≡ k = omega arith in sym (any-step (k - 1) x (eqb n (f (k - 1) .name)) refl h) ∙ ap (λ (j : ℕ). meets-any (before n f j) x) e
@@ -110,9 +117,16 @@ module _ (n : ℕ) (f : ℕ → Site) where
   unfolding first-conflict sites-of
   conflict-end i m h = sym (rw (run-end f i m h))
 
-  pub conflict-start : (m : ℕ) → search-from 0 m ≡ first-conflict [] (sites-of n (run f 0 m))
+  -- the first row of the name
+  pub none-at-start : (m : ℕ) → NoneBefore n f m 0
   unfolding before
-  conflict-start m = let e : m - 0 ≡ m = omega arith in ap (λ (k : ℕ). first-conflict [] (sites-of n (run f 0 k))) e
+  none-at-start m = record { inside = omega arith; none = refl; rest = ap (sites-of n) (run-all f m) }
+
+  pub none-skip : (m i : ℕ) → i < m → ¬ (f i .name ≡ n) → NoneBefore n f m i → NoneBefore n f m (i + 1)
+  none-skip m i h d l = record { inside = omega arith; none = before-other i d ∙ l .none; rest = sym (here-other i m h d) ∙ l .rest }
+
+  pub conflict-start : (m i : ℕ) → NoneBefore n f m i → search-from i m ≡ first-conflict [] (sites-of n (run f 0 m))
+  conflict-start m i l = rw (l .none, l .rest)
 
 -- a site as it stands in its row
 pub site-read : (own : List ℕ) (i : ℕ) (x : declared.Extent) → extent-of x ≡ extent-from (getD own (8 + 5 * i + 1) 0) (getD own (8 + 5 * i + 2) 0) (getD own (8 + 5 * i + 3) 0)
@@ -127,3 +141,24 @@ site-read own i x e =
       extent = (e ∙ (λ k. extent-from (sym a k) (sym b k) (sym c k))) j;
       start = sym d j;
     }
+
+-- a row that is asked for
+module _ (own : List ℕ) (i n : ℕ) where
+  pub row-called : getD own (8 + 5 * i) 0 ≡ n → site-from (row site-table own i) .name ≡ n
+  row-called e = row-name site-table own i (omega arith) ∙ e
+
+  pub row-other : ¬ (getD own (8 + 5 * i) 0 ≡ n) → ¬ (site-from (row site-table own i) .name ≡ n)
+  row-other d e = d (sym (row-name site-table own i (omega arith)) ∙ e)
+
+  -- a range and an extent that is one
+  pub hits-range : (l h : ℕ) → getD own (8 + 5 * i) 0 ≡ n → getD own (8 + 5 * i + 1) 0 ≡ 1
+      → (leb (getD own (8 + 5 * i + 2) 0) h && leb l (getD own (8 + 5 * i + 3) 0)) ≡ hits n (Range l h) (site-from (row site-table own i))
+  hits-range l h e c =
+      let a = getD own (8 + 5 * i + 2) 0 in
+      let b = getD own (8 + 5 * i + 3) 0 in
+      let s = site-read own i (extent.Range a b) (extent-range a b (omega arith) c) in
+      ap (λ (t : Site). meets (t .extent) (Range l h)) s ∙ sym (hits-own n (Range l h) (site-from (row site-table own i)) (row-called e))
+
+  pub hits-below : (l h : ℕ) → getD own (8 + 5 * i) 0 ≡ n → getD own (8 + 5 * i + 1) 0 ≡ 1 → getD own (8 + 5 * i + 3) 0 < l
+      → false ≡ hits n (Range l h) (site-from (row site-table own i))
+  hits-below l h e c b = sym (ranges-below (getD own (8 + 5 * i + 2) 0) (getD own (8 + 5 * i + 3) 0) l h b) ∙ hits-range l h e c

@@ -308,6 +308,12 @@ unfoldable pub before : ℕ → (ℕ → site.Site) → ℕ → List site.Site
 before n f zero = []
 before n f (suc k) = elim (eqb n (f k .name)) [ true ↦ f k ∷ before n f k | false ↦ before n f k ]
 
+-- 01, The site: of m rows, none before row i has a site of a name, and so the sites of the name stand from row i on
+pub record NoneBefore (n : ℕ) (f : ℕ → site.Site) (m i : ℕ) : Type 0 where
+  pub inside : i ≤ m
+  pub none : before n f i ≡ []
+  pub rest : site.sites-of n (run f i (m - i)) ≡ site.sites-of n (run f 0 m)
+
 -- 01, The site: whether a site is one of a name and meets an extent
 unfoldable pub hits : ℕ → site.Extent → site.Site → Bool
 hits n x s = elim (eqb n (s .name)) [ true ↦ site.meets (s .extent) x | false ↦ false ]

@@ -14,7 +14,7 @@ ghost use Rattle.sites.specs.declared.Blocks.the-variants as blocks;
 ghost use Rattle.sites.specs.declared.Cover.the-variants as cover;
 ghost use Rattle.spec.specs.Refusal.{has-name};
 ghost use Rattle.spec.specs.Block.{has-pair, block-count};
-ghost use Rattle.sites.specs.Own.{extent-of, site-of, misuse-of, extent-from, misuse-from, pair-from, row, rows-in, pair-table, site-table, site-from, found-of, hits, value-of, blocks-by, cover-by, range-test, unmarked-from, within, Marked, conflict-of, conflict-row, conflict-rows, conflict-table, conflict-step, with-conflicts, poisoned-names, misuse-poison, row-names, skip-at, site-row, Front, table, Shape, pushed, push-answer, first-row, places, run, own-of, added, add-site, add-pair, add-output, add-reg, add-mem, add-misuse, names, reg-table, mem-table, port-table, misuse-table, storage-of, storage-from, port-of, port-from, misused-of, misused-from};
+ghost use Rattle.sites.specs.Own.{extent-of, site-of, misuse-of, extent-from, misuse-from, pair-from, row, rows-in, pair-table, site-table, site-from, found-of, hits, value-of, blocks-by, cover-by, range-test, unmarked-from, within, Marked, conflict-of, conflict-row, conflict-rows, conflict-table, conflict-step, with-conflicts, poisoned-names, misuse-poison, row-names, skip-at, site-row, NoneBefore, Front, table, Shape, pushed, push-answer, first-row, places, run, own-of, added, add-site, add-pair, add-output, add-reg, add-mem, add-misuse, names, reg-table, mem-table, port-table, misuse-table, storage-of, storage-from, port-of, port-from, misused-of, misused-from};
 
 // How many names there are at most.
 pub const NAMES: usize = 256;
@@ -381,17 +381,42 @@ fn ranges_meet(low: u32, high: u32, from: u32, to: u32) -> bool
     (from as usize) < end
 }
 
-// Whether the site in row i is one of the name and meets the extent.
+// Whether the site in row i is one of the name and meets the extent. Two ranges, the usual pair, are compared without making the
+// site, first whether the one in the row ends below the other, as it does where a module drives its bits upwards.
 fn meets_at(own: &[u32], i: usize, name: u32, x: Extent) -> bool
     requires { ⌜ (length (now own) ≡ places) × (i < 1024) ⌝ }
     ensures { λ r. ⌜ r ≡ hits name (extent-of x) (site-from (row site-table (now (own .entry)) i)) ⌝ }
 {
-    let s = site_at(own, i);
-    if s.name != name {
+    let at = SITES + 5 * i;
+    if own[at] != name {
         return false;
     }
+    if let Extent::Range { low, high } = x {
+        if own[at + 1] == 1 {
+            if own[at + 3] < low {
+                return false;
+            }
+            return ranges_meet(own[at + 2], own[at + 3], low, high);
+        }
+    }
+    let s = site_at(own, i);
     let y = s.extent;
     meets(y, x)
+}
+
+// The row of the name's first site among n, or n. A search for conflicts needs no row before it.
+fn first_site(own: &[u32], n: usize, name: u32) -> usize
+    requires { ⌜ (length (now own) ≡ places) × (n ≤ 1024) ⌝ }
+    ensures { λ r. ⌜ NoneBefore name (site-row (now (own .entry))) n r ⌝ }
+{
+    let mut i: usize = 0;
+    while i < n {
+        if own[SITES + 5 * i] == name {
+            return i;
+        }
+        i += 1;
+    }
+    i
 }
 
 // The START of the first later site of a name that meets an earlier one.
@@ -403,17 +428,18 @@ pub fn first_conflict(own: &[u32], name: u32) -> Found
         return Found::Nothing;
     }
     let n = site_count(own);
+    let first = first_site(own, n, name);
     let mut found = Found::Nothing;
-    let mut later: usize = 0;
+    let mut later = first;
     'search: while later < n {
-        let s = site_at(own, later);
-        if s.name != name {
+        if own[SITES + 5 * later] != name {
             later += 1;
             continue;
         }
+        let s = site_at(own, later);
         let x = s.extent;
         let mut earlier = later;
-        while 0 < earlier {
+        while first < earlier {
             earlier -= 1;
             if meets_at(own, earlier, name, x) {
                 found = Found::At(s.start);
