@@ -10,8 +10,8 @@ use Rattle.spec.specs.Bytes.{Bytes}
 use Rattle.spec.specs.Syntax.{Inst, Item, Items, inst, Header}
 use Rattle.spec.specs.Value.{Names}
 use Rattle.consteval.specs.Worth.{pairs, names-of}
-use Rattle.runs.specs.Run.{RunOf, item-end}
-use Rattle.runs.proofs.Items.{FirstOf, end-of-run}
+use Rattle.runs.specs.Run.{RunOf}
+use Rattle.runs.proofs.Items.{item-end, FirstOf, end-of-run}
 use Rattle.walk.specs.Walk.{Got, full, going, then-go, Walked, walk-inner, walk-items, State}
 use Rattle.steps.specs.Steps.{plain}
 use Rattle.collect.specs.declared.Walked.the-variants as walks

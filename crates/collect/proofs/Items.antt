@@ -12,8 +12,8 @@ use Rattle.spec.specs.Value.{Names}
 use Rattle.spec.specs.Refusal.{decode}
 use Rattle.lines.specs.Parts.{piece}
 use Rattle.consteval.specs.Worth.{names-of}
-use Rattle.runs.specs.Run.{ShowsItem, form-length, item-end}
-use Rattle.runs.proofs.Items.{FirstOf, first-of-run}
+use Rattle.runs.specs.Run.{ShowsItem, form-length}
+use Rattle.runs.proofs.Items.{item-end, FirstOf, first-of-run}
 use Rattle.walk.specs.Walk.{Got, full, Walked, State, ask-walk}
 use Rattle.steps.specs.Steps.{HeadIs}
 use Rattle.steps.specs.declared.Head as H

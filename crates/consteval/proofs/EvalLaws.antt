@@ -12,10 +12,11 @@ use borrow.Author.Tests.{eq-eqb, ne-eqb, lt-ltb, le-ltb, ltb-true, ltb-false}
 use Rattle.spec.specs.Bytes.{Bytes, lookup-word, number, is-form, parts}
 use Rattle.spec.specs.Syntax.{Expr, lit, truth, name, field, index, if-else, unary, binary, neg, not, clog2, add, sub, mul, eq, ne, lt, le, gt, ge, and, or, shl, shr, band, bor, bxor}
 use Rattle.spec.specs.Decode.{with-one, with-two, with-three, by-head, ExprHead, expr-heads, no-expr, no-value, expr-by, decode-atom, decode-expr}
-use Rattle.spec.specs.Value.{Value, known, missing, outside, Names, value-of-name, within, is-zero, unary-value, binary-value, and-then, value}
-use Rattle.lines.specs.Parts.{part-end, piece, next-end, others, single-of, pair-of, triple-of}
-use Rattle.lines.specs.Words.{word-of, expr-head, on-word}
-use Rattle.lines.proofs.PartLaws.{parts-form, one-is, one-not, two-is, two-not, three-is, three-not}
+use Rattle.spec.specs.Value.{Value, known, missing, outside, Names, value-of-name, within, is-zero, truth-value, unary-value, binary-value, and-then, value}
+use Rattle.lines.specs.Parts.{part-end, piece, next-end, single-of, pair-of, triple-of}
+use Rattle.lines.specs.Words.{word-of}
+use Rattle.lines.proofs.WordTables.{expr-head, on-word}
+use Rattle.lines.proofs.PartLaws.{others, parts-form, one-is, one-not, two-is, two-not, three-is, three-not}
 use Rattle.lines.proofs.WordLaws.{expr-words, truth-word}
 use Rattle.lines.specs.declared.parts.Single.{Single}
 use Rattle.lines.specs.declared.parts.Single.the-variants.{Is, Not as not-one}
@@ -25,7 +26,7 @@ use Rattle.lines.specs.declared.parts.Triple.{Triple}
 use Rattle.lines.specs.declared.parts.Triple.the-variants.{Are as three, Not as not-three}
 use Rattle.lines.specs.declared.words.Word.{Word}
 use Rattle.lines.specs.declared.words.Word.the-variants.{N as N-word, F as F-word, Ix as Ix-word, If as If-word, All as All-word, Neg as Neg-word, Not as Not-word, Clog2 as Clog2-word, Add as Add-word, Sub as Sub-word, Mul as Mul-word, Eq as Eq-word, Ne as Ne-word, Lt as Lt-word, Le as Le-word, Gt as Gt-word, Ge as Ge-word, And as And-word, Or as Or-word, Shl as Shl-word, Shr as Shr-word, Band as Band-word, Bor as Bor-word, Bxor as Bxor-word, True as True-word, False as False-word, Bit as Bit-word, Opaque as Opaque-word, Bits as Bits-word, Signed as Signed-word, Lv as Lv-word, Set as Set-word, Default as Default-word, Loop as Loop-word, When as When-word, Then as Then-word, Else as Else-word, Conn as Conn-word, Dash as Dash-word, Port as Port-word, Wire as Wire-word, Reg as Reg-word, Mem as Mem-word, Const as Const-word, Drive as Drive-word, On as On-word, Inst as Inst-word, Repeat as Repeat-word, ConstIf as ConstIf-word, In as In-word, Out as Out-word, Module as Module-word, Kind as Kind-word, Val as Val-word, Bound as Bound-word, Unbound as Unbound-word, Other as Other-word}
-use Rattle.consteval.specs.Worth.{signed, worth, pairs, names-of, unary-of, binary-of, shape, by-shape, by-atom, room, pushed}
+use Rattle.consteval.specs.Worth.{signed, worth, pairs, names-of, unary-of, binary-of, shape, room, pushed}
 use Rattle.consteval.specs.declared.Value.{Value as Answer}
 use Rattle.consteval.specs.declared.Value.the-variants.{Known, Missing, Outside}
 use Rattle.consteval.specs.declared.shape.Unary.{Unary as One-word}
@@ -33,6 +34,29 @@ use Rattle.consteval.specs.declared.shape.Binary.{Binary as Two-word}
 use Rattle.consteval.specs.declared.shape.Shape.{Shape}
 use Rattle.consteval.specs.declared.shape.Shape.the-variants.{Name, If, One, Two, True, False, None}
 use Rattle.consteval.proofs.ArithLaws.{zero-test, pos-out}
+
+-- ---- the value by shape
+
+-- 01, The value: the value of a form of that shape with these parts behind its head, f being what a part is
+abbrev pub by-shape : Names → (Bytes → Expr) → Shape → List Bytes → Value
+by-shape names f Name ps = with-one missing (λ n. value-of-name names (number n)) ps
+by-shape names f If ps =
+    with-three missing (λ c a b. and-then (value names (f c)) (λ x. elim (is-zero x) [ true ↦ value names (f b) | false ↦ value names (f a) ])) ps
+by-shape names f (One o) ps = with-one missing (λ a. and-then (value names (f a)) (unary-value (unary-of o))) ps
+by-shape names f (Two o) ps = with-two missing (λ a b. and-then (value names (f a)) (λ x. and-then (value names (f b)) (binary-value (binary-of o) x))) ps
+by-shape names f True ps = missing
+by-shape names f False ps = missing
+by-shape names f None ps = missing
+
+-- 01, The value: the value of bytes that are no form, by the shape of their word, n being the number that they are
+abbrev pub by-atom : Shape → ℕ → Value
+by-atom Name n = within (pos n)
+by-atom If n = within (pos n)
+by-atom (One o) n = within (pos n)
+by-atom (Two o) n = within (pos n)
+by-atom True n = truth-value true
+by-atom False n = truth-value false
+by-atom None n = within (pos n)
 
 -- ---- atoms
 

@@ -18,9 +18,10 @@ use Rattle.spec.specs.Refusal.{lines}
 use Rattle.spec.specs.Value.{Value, known, missing, outside, Names, within, value}
 use Rattle.spec.proofs.Numbers.{if-case}
 use Rattle.lines.specs.Numbers.{biased}
-use Rattle.lines.specs.Parts.{part-end, piece, next-end, others, pair-of}
-use Rattle.lines.specs.Words.{word-of, line-head, item-head-of}
-use Rattle.lines.proofs.PartLaws.{parts-form, two-is, two-not}
+use Rattle.lines.specs.Parts.{part-end, piece, next-end, pair-of}
+use Rattle.lines.specs.Words.{word-of}
+use Rattle.lines.proofs.WordTables.{line-head, item-head-of}
+use Rattle.lines.proofs.PartLaws.{others, parts-form, two-is, two-not}
 use Rattle.lines.proofs.WordLaws.{line-words, item-words}
 use Rattle.lines.specs.declared.parts.Pair.{Pair}
 use Rattle.lines.specs.declared.parts.Pair.the-variants.{Are as two, Not as not-two}

@@ -4,13 +4,11 @@
 use mathlib.Core.Bool.{Bool, true, false}
 use mathlib.Core.List.{List, [], _∷_}
 use Prim.Native.Nat.{ℕ, zero, suc, _+_, _/_, min}
-use lib.IntN.{ℤ, pos, subℕ}
+use lib.IntN.{ℤ, subℕ}
 use lib.ListN.{length, getD, set}
 use lib.Dec.{ltb}
-use Rattle.spec.specs.Bytes.{Bytes, number}
-use Rattle.spec.specs.Syntax.{Unary, neg, not, clog2, Binary, add, sub, mul, eq, ne, lt, le, gt, ge, and, or, shl, Expr}
-use Rattle.spec.specs.Decode.{with-one, with-two, with-three}
-use Rattle.spec.specs.Value.{Value, known, missing, outside, Names, value-of-name, within, is-zero, truth-value, unary-value, binary-value, and-then, value}
+use Rattle.spec.specs.Syntax.{Unary, neg, not, clog2, Binary, add, sub, mul, eq, ne, lt, le, gt, ge, and, or, shl}
+use Rattle.spec.specs.Value.{Value, known, missing, outside, Names}
 use Rattle.lines.specs.declared.words.Word.{Word}
 use Rattle.lines.specs.declared.words.Word.the-variants.{N as N-word, F as F-word, Ix as Ix-word, If as If-word, All as All-word, Neg as Neg-word, Not as Not-word, Clog2 as Clog2-word, Add as Add-word, Sub as Sub-word, Mul as Mul-word, Eq as Eq-word, Ne as Ne-word, Lt as Lt-word, Le as Le-word, Gt as Gt-word, Ge as Ge-word, And as And-word, Or as Or-word, Shl as Shl-word, Shr as Shr-word, Band as Band-word, Bor as Bor-word, Bxor as Bxor-word, True as True-word, False as False-word, Bit as Bit-word, Opaque as Opaque-word, Bits as Bits-word, Signed as Signed-word, Lv as Lv-word, Set as Set-word, Default as Default-word, Loop as Loop-word, When as When-word, Then as Then-word, Else as Else-word, Conn as Conn-word, Dash as Dash-word, Port as Port-word, Wire as Wire-word, Reg as Reg-word, Mem as Mem-word, Const as Const-word, Drive as Drive-word, On as On-word, Inst as Inst-word, Repeat as Repeat-word, ConstIf as ConstIf-word, In as In-word, Out as Out-word, Module as Module-word, Kind as Kind-word, Val as Val-word, Bound as Bound-word, Unbound as Unbound-word, Other as Other-word}
 use Rattle.consteval.specs.declared.Value.{Value as Answer}
@@ -122,27 +120,6 @@ shape Val-word = None
 shape Bound-word = None
 shape Unbound-word = None
 shape Other-word = None
-
--- 01, The value: the value of a form of that shape with these parts behind its head, f being what a part is
-abbrev pub by-shape : Names → (Bytes → Expr) → Shape → List Bytes → Value
-by-shape names f Name ps = with-one missing (λ n. value-of-name names (number n)) ps
-by-shape names f If ps =
-    with-three missing (λ c a b. and-then (value names (f c)) (λ x. elim (is-zero x) [ true ↦ value names (f b) | false ↦ value names (f a) ])) ps
-by-shape names f (One o) ps = with-one missing (λ a. and-then (value names (f a)) (unary-value (unary-of o))) ps
-by-shape names f (Two o) ps = with-two missing (λ a b. and-then (value names (f a)) (λ x. and-then (value names (f b)) (binary-value (binary-of o) x))) ps
-by-shape names f True ps = missing
-by-shape names f False ps = missing
-by-shape names f None ps = missing
-
--- 01, The value: the value of bytes that are no form, by the shape of their word, n being the number that they are
-abbrev pub by-atom : Shape → ℕ → Value
-by-atom Name n = within (pos n)
-by-atom If n = within (pos n)
-by-atom (One o) n = within (pos n)
-by-atom (Two o) n = within (pos n)
-by-atom True n = truth-value true
-by-atom False n = truth-value false
-by-atom None n = within (pos n)
 
 -- 01, The value: whether there is room for one more pair behind those that are used
 abbrev pub room : List ℕ → ℕ → Bool

@@ -15,7 +15,7 @@ use Rattle.lines.specs.Parse.{kindOf}
 use Rattle.lines.specs.Read.{lineStep}
 use Rattle.lines.specs.Verdict.{Ended, modules-in, told}
 use Rattle.lines.specs.Tables.{entries, marked, secondKey, flagOf}
-use Rattle.lines.specs.Filled.{Filling}
+use Rattle.lines.proofs.Filled.{Filling}
 use Rattle.lines.specs.declared.read.Step.{Step}
 use Rattle.lines.specs.declared.read.Step.the-variants.{Fault, Module, Kind, Val, Item}
 use Rattle.lines.specs.declared.read.Verdict.the-variants.{Refused, Formed}

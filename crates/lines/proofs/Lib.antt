@@ -2,8 +2,10 @@ pub mod Answers
 pub mod Atoms
 pub mod Built
 pub mod Complete
+pub mod Filled
 pub mod Filling
 pub mod Formed
+pub mod Going
 pub mod Laws
 pub mod Made
 pub mod MadeItems
@@ -18,3 +20,4 @@ pub mod Tabled
 pub mod Trees
 pub mod Turns
 pub mod WordLaws
+pub mod WordTables

@@ -15,7 +15,7 @@ use Rattle.spec.specs.Bytes.{Bytes, same-bytes, digits, show-number, show-int, 
 use Rattle.spec.specs.Refusal.{in-int}
 use Rattle.spec.proofs.Numbers.{if-case, Between, Digits, number-digits, number-show}
 use Rattle.spec.proofs.Shown.{same-self}
-use Rattle.lines.specs.Numbers.{all-digits, plain-number, num-of, biased, int-of, Below}
+use Rattle.lines.specs.Numbers.{all-digits, plain-number, num-of, biased, int-of}
 use Rattle.lines.proofs.WordLaws.{same-eq}
 use Rattle.lines.specs.declared.numbers.Num.{Num}
 use Rattle.lines.specs.declared.numbers.Num.the-variants.{Is, Large, Bad}
@@ -237,6 +237,12 @@ module _ (l n : ℕ) where
       go (Is m) q = absurd (omega (arith, shown-same n m (q .0), q .1))
       go Large q = refl
       go Bad q = absurd (q n refl)
+
+-- 01, The line: a number that was read is below the limit; of one that is too large or badly written nothing is said
+abbrev pub Below : ℕ → Num → Type 0
+Below limit (Is n) = n < limit
+Below limit Large = Unit {0}
+Below limit Bad = Unit {0}
 
 pub num-below : (l : ℕ) (s : Bytes) → Below l (num-of l s)
 num-below l s = go (num-of l s) (number-means l s)

@@ -13,7 +13,7 @@ use borrow.Author.Tests.{ne-eqb, eqb-true, ltb-true, ltb-false}
 use Rattle.spec.specs.Bytes.{Bytes, onto, parts-from, parts}
 use Rattle.spec.specs.Decode.{with-one, with-two, with-three}
 use Rattle.spec.proofs.Numbers.{if-case}
-use Rattle.lines.specs.Parts.{scan, part-end, piece, follows, next-end, parts-behind, others, four-or-more, three-or-more, two-or-more, one-or-more, operands-of, to-single, to-pair, to-triple, single-of, pair-of, triple-of}
+use Rattle.lines.specs.Parts.{scan, part-end, piece, follows, next-end, four-or-more, three-or-more, two-or-more, one-or-more, operands-of, to-single, to-pair, to-triple, single-of, pair-of, triple-of}
 use Rattle.lines.specs.declared.parts.Operands.{Operands}
 use Rattle.lines.specs.declared.parts.Operands.the-variants.{Zero, One, Two, Three, Four, More}
 use Rattle.lines.specs.declared.parts.Single.{Single}
@@ -112,6 +112,14 @@ follows-in s e t = go (ltb e (length s)) refl
     go false q = let h = ltb-false e (length s) q in absurd (omega (arith, eqb-true (getD s e 0) 32 t, past-end s e h))
 
 -- ---- a form falls into its parts
+
+-- 01, The line: the parts that stand behind the byte at `before`
+unfoldable pub parts-behind : Bytes → ℕ → List Bytes
+parts-behind s before = parts-from 0 (drop (before + 1) s)
+
+-- 01, The line: the parts behind the one that ends at `end`: none where no space stands there
+unfoldable pub others : Bytes → ℕ → List Bytes
+others s end = elim (follows s end) [ true ↦ parts-behind s end | false ↦ [] ]
 
 -- the parts behind one that has ended: another follows a space
 unfoldable pub parts-after : Bytes → List Bytes

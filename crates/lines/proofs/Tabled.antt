@@ -20,7 +20,7 @@ use Rattle.lines.specs.Bytes.{classOf}
 use Rattle.lines.specs.Parse.{key, code-after, wordAt, kindOf, kind-numbers, lookup-key}
 use Rattle.lines.specs.Read.{numberAfter}
 use Rattle.lines.specs.Tables.{kind-number, flag, put-header, put-kinds, entries, marked, header-size, items-size, header-at, put-mods, secondBehind, secondKey, flagOf}
-use Rattle.lines.specs.Filled.{mark-if, header-if, rest-at, rest-of, Filled}
+use Rattle.lines.proofs.Filled.{mark-if, header-if, rest-at, rest-of, Filled}
 use Rattle.lines.proofs.Laws.{if-case, inside}
 use Rattle.lines.specs.declared.parse.Number.{Number}
 use Rattle.lines.specs.declared.parse.Number.the-variants.{Is}

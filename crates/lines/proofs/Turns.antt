@@ -16,7 +16,8 @@ use Rattle.spec.specs.Show.{show-line}
 use Rattle.spec.specs.Refusal.{Verdict, well-formed, refused, lines, ends-in-feed, Before, at-start, after-line, has-name, line-fault, lines-fault, decode-lines, gather, in-set, byte-fault, set-fault, refusal, decode}
 use Rattle.spec.proofs.Shown.{decode-show-line, show-line-set}
 use Rattle.lines.specs.Read.{fault-line, setLine, lineStep}
-use Rattle.lines.specs.Verdict.{told, Ended, modules-in, Going}
+use Rattle.lines.specs.Verdict.{told, Ended, modules-in}
+use Rattle.lines.proofs.Going.{Going}
 use Rattle.lines.specs.declared.read.Step.{Step}
 use Rattle.lines.specs.declared.read.Step.the-variants.{Module, Kind, Val, Item}
 use Rattle.lines.specs.declared.read.Verdict.the-variants.{Refused, Formed}

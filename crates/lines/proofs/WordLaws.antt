@@ -13,7 +13,8 @@ use Rattle.spec.specs.Bytes.{Bytes, bytes, same-bytes, lookup-word}
 use Rattle.spec.specs.Decode.{expr-heads, no-expr, stmt-heads, no-stmt, item-heads, no-item, bits-head, signed-head, no-width, module-head, kind-head, val-head, item-head, kinds}
 use Rattle.spec.specs.Syntax.{inst-kind}
 use Rattle.spec.proofs.Numbers.{if-case}
-use Rattle.lines.specs.Words.{words, word-of, key, key-of, expr-head, stmt-head, item-head-of, line-head, width-head, kind-of, on-word}
+use Rattle.lines.specs.Words.{words, word-of, key, key-of}
+use Rattle.lines.proofs.WordTables.{expr-head, stmt-head, item-head-of, line-head, width-head, kind-of, on-word}
 use Rattle.lines.specs.declared.words.Word.{Word}
 use Rattle.lines.specs.declared.words.Word.the-variants.{Other, True, False, Bit, Lv, Then, Else, Conn, Dash, Bound, Out}
 

@@ -1,5 +1,4 @@
 pub mod Bytes
-pub mod Filled
 pub mod Numbers
 pub mod Parse
 pub mod Parts

@@ -2,7 +2,7 @@
 -- Assumes nothing: these are definitions.
 use mathlib.Core.Bool.{Bool, true, false}
 use mathlib.Core.List.{[], _∷_}
-use Prim.Native.Nat.{ℕ, suc, _+_, _-_, _<_}
+use Prim.Native.Nat.{ℕ, suc, _+_, _-_}
 use lib.IntN.{ℤ, pos, negsuc}
 use lib.ListN.{length, getD}
 use lib.Dec.{eqb, ltb}
@@ -41,9 +41,3 @@ int-of s =
       | true ↦ elim (in-int (integer s)) [ true ↦ Is (biased (integer s)) | false ↦ Large ]
       | false ↦ Bad
     ]
-
--- 01, The line: a number that was read is below the limit; of one that is too large or badly written nothing is said
-abbrev pub Below : ℕ → Num → Type 0
-Below limit (Is n) = n < limit
-Below limit Large = Unit {0}
-Below limit Bad = Unit {0}

@@ -1,11 +1,11 @@
 -- Where the parts of a form begin and end in its bytes. 01: The line; Forms for specific places.
 -- Assumes nothing: these are definitions.
 use mathlib.Core.Bool.{Bool, true, false}
-use mathlib.Core.List.{List, [], _∷_}
+use mathlib.Core.List.{[], _∷_}
 use Prim.Native.Nat.{ℕ, zero, suc, _+_, _-_}
 use lib.ListN.{take, drop, getD}
 use lib.Dec.{eqb}
-use Rattle.spec.specs.Bytes.{Bytes, parts-from}
+use Rattle.spec.specs.Bytes.{Bytes}
 use Rattle.lines.specs.declared.parts.Operands.{Operands}
 use Rattle.lines.specs.declared.parts.Operands.the-variants.{Zero, One, Two, Three, Four, More}
 use Rattle.lines.specs.declared.parts.Single.{Single}
@@ -46,14 +46,6 @@ follows s end = eqb (getD s end 0) 32
 -- 01, The line: the end of the part that stands behind the byte at `before`
 unfoldable pub next-end : Bytes → ℕ → ℕ
 next-end s before = part-end s (before + 1)
-
--- 01, The line: the parts that stand behind the byte at `before`
-unfoldable pub parts-behind : Bytes → ℕ → List Bytes
-parts-behind s before = parts-from 0 (drop (before + 1) s)
-
--- 01, The line: the parts behind the one that ends at `end`: none where no space stands there
-unfoldable pub others : Bytes → ℕ → List Bytes
-others s end = elim (follows s end) [ true ↦ parts-behind s end | false ↦ [] ]
 
 -- 01, The line: four parts, which end at a, b, c and d, or more than four
 unfoldable pub four-or-more : Bytes → ℕ → ℕ → ℕ → ℕ → Operands

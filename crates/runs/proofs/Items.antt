@@ -13,8 +13,12 @@ use Rattle.spec.specs.Show.{show-item, show-items}
 use Rattle.spec.specs.Refusal.{one-form, item-depth, items-depth, item-in-range, items-in-range}
 use Rattle.spec.proofs.Nodes.{and-parts}
 use Rattle.lines.specs.Parts.{piece}
-use Rattle.runs.specs.Run.{form-length, item-end, Run, last, next, ShowsItem, RunOf}
+use Rattle.runs.specs.Run.{form-length, Run, last, next, ShowsItem, RunOf}
 use Rattle.runs.proofs.Run.{form-alone-length}
+
+-- 01, The line: where the item ends that stands behind the byte at `at`
+unfoldable pub item-end : Bytes → ℕ → ℕ
+item-end s at = at + 1 + form-length 0 (drop (at + 1) s)
 
 run-some : {s : Bytes} {xs : List Bytes} → Run s xs → 0 < length s
 run-some (last b) = omega arith

@@ -5,8 +5,7 @@
 use mathlib.Core.Path.{_≡_}
 use mathlib.Core.Bool.{true, false}
 use mathlib.Core.List.{List, [], _∷_, _++_}
-use Prim.Native.Nat.{ℕ, zero, suc, _+_, _≤_}
-use lib.ListN.{drop}
+use Prim.Native.Nat.{ℕ, zero, suc, _≤_}
 use lib.Dec.{eqb}
 use Rattle.spec.specs.Bytes.{Bytes}
 use Rattle.spec.specs.Syntax.{Item, Items}
@@ -26,10 +25,6 @@ form-length k (c ∷ s) =
         | false ↦ suc (form-length k s)
       ]
     ]
-
--- 01, The line: where the item ends that stands behind the byte at `at`
-unfoldable pub item-end : Bytes → ℕ → ℕ
-item-end s at = at + 1 + form-length 0 (drop (at + 1) s)
 
 -- 01, The line: where the head word of a form ends
 abbrev pub head-end : Bytes → ℕ

@@ -17,8 +17,8 @@ use Rattle.spec.specs.Edge.{Head, Summary}
 use Rattle.spec.specs.Summary.{Kept, triples, is-input, inputs-reached, paired, top-outputs, module-summary}
 use Rattle.spec.proofs.Numbers.{if-case}
 use Rattle.lines.specs.Parts.{piece}
-use Rattle.runs.specs.Run.{form-length, item-end, ShowsItem, RunOf}
-use Rattle.runs.proofs.Items.{FirstOf, first-of-run, end-of-run}
+use Rattle.runs.specs.Run.{form-length, ShowsItem, RunOf}
+use Rattle.runs.proofs.Items.{item-end, FirstOf, first-of-run, end-of-run}
 use Rattle.graph.specs.Stands.{Stands}
 use Rattle.graph.specs.Reach.{found, Clean, KindsAre, Inputs}
 use Rattle.graph.proofs.Lifted.{reached-once}

@@ -1,6 +1,6 @@
 -- `consteval::atom` meets its contract, by the shape of the word. Assumes nothing.
-use Rattle.consteval.proofs.EvalLaws.{atom-law}
-use Rattle.consteval.specs.Worth.{shape, by-atom}
+use Rattle.consteval.proofs.EvalLaws.{by-atom, atom-law}
+use Rattle.consteval.specs.Worth.{shape}
 use Rattle.consteval.specs.declared.shape.Shape.{Shape}
 use Rattle.spec.specs.Bytes.{number}
 use mathlib.Core.List.{[]}

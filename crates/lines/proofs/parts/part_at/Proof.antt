@@ -1,8 +1,8 @@
 -- `lines::parts::part_at` meets its contract. The invariant: the part sought is the one that many parts on from the place reached. Assumes nothing.
 use borrow.Author.Needs.{needs}
 use native.Mathlib.Omega.{arith}
-use Rattle.lines.specs.Parts.{piece, others}
-use Rattle.lines.proofs.PartLaws.{at-first, at-step, at-none, at-here, at-empty, part-end-le, follows-in}
+use Rattle.lines.specs.Parts.{piece}
+use Rattle.lines.proofs.PartLaws.{others, at-first, at-step, at-none, at-here, at-empty, part-end-le, follows-in}
 use Rattle.spec.specs.Bytes.{parts}
 use lib.ListN.{length, getD}
 use borrow.Author.Tests.{not-true, not-false}

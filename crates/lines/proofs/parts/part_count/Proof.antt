@@ -1,8 +1,7 @@
 -- `lines::parts::part_count` meets its contract. The invariant: the parts counted and those behind the place reached are all. Assumes nothing.
 use borrow.Author.Needs.{needs}
 use native.Mathlib.Omega.{arith}
-use Rattle.lines.specs.Parts.{others}
-use Rattle.lines.proofs.PartLaws.{count-first, count-step, count-none, parts-empty, part-end-le, follows-in}
+use Rattle.lines.proofs.PartLaws.{others, count-first, count-step, count-none, parts-empty, part-end-le, follows-in}
 use Rattle.spec.specs.Bytes.{parts}
 use lib.ListN.{length}
 use mathlib.Core.Path.{_≡_, sym, ap, _∙_}

@@ -2,7 +2,7 @@
 use borrow.Author.Needs.{needs}
 use Rattle.spec.specs.Syntax.{name-bound}
 use Rattle.lines.proofs.Turns.{pass-room, going-start, going-right, going-module, going-kind, going-val, going-item, going-fault, going-end}
-use Rattle.lines.specs.Verdict.{Going}
+use Rattle.lines.proofs.Going.{Going}
 use Rattle.lines.specs.declared.read.Step.the-variants.{Fault, Module, Kind, Val, Item}
 use lib.ListN.{length, length-set, length-replicate}
 use Prim.Native.Nat.{ℕ, _-_}

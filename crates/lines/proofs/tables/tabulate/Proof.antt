@@ -4,7 +4,7 @@ use Rattle.lines.proofs.Filling.{formed-ended, filling-start, filling-f
 use Rattle.lines.proofs.Tabled.{filled-end}
 use Rattle.lines.specs.Parse.{kindOf}
 use Rattle.lines.specs.Tables.{flagOf}
-use Rattle.lines.specs.Filled.{Filling}
+use Rattle.lines.proofs.Filled.{Filling}
 use lib.ListN.{length}
 use Prim.Native.Nat.{_-_}
 use mathlib.Core.Path.{sym, ap, _∙_}

@@ -10,8 +10,8 @@ use lib.ListN.{length, drop}
 use Rattle.spec.specs.Bytes.{Bytes}
 use Rattle.spec.specs.Syntax.{name-bound, Header}
 use Rattle.spec.specs.Refusal.{lines, decode-lines, gather, Gathered, decode}
-use Rattle.lines.specs.Verdict.{Going}
 use Rattle.lines.specs.Tables.{put-header, put-kinds, marked, header-size, items-size, put-mods}
+use Rattle.lines.proofs.Going.{Going}
 
 -- 01, The line: what the lines from `at` on are: the header and items of the module before them, and the modules among them
 unfoldable pub rest-of : Bytes → ℕ → Gathered
