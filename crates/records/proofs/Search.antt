@@ -13,7 +13,7 @@ use Rattle.sites.specs.declared.Extent.{Extent}
 use Rattle.sites.specs.declared.Extent.the-variants as extent
 use Rattle.sites.specs.declared.Site as declared
 use Rattle.sites.specs.Own.{run, before, hits, extent-from, extent-of, site-of}
-use Rattle.sites.proofs.Sites.{search-from, conflict-skip, conflict-hit, conflict-miss, conflict-end, conflict-start, any-none, any-miss, any-hit}
+use Rattle.sites.proofs.Sites.{search-from, conflict-skip, conflict-hit, conflict-miss, conflict-end, conflict-start, none-at-start, any-none, any-miss, any-hit}
 use Rattle.records.specs.declared.Record.{Record}
 use Rattle.records.specs.Run.{site-in, sites-in, coded, record-of, clashes}
 
@@ -91,7 +91,7 @@ module _ (n : ℕ) (rs : List Record) where
   Inner i t = (t ≤ i) × (f i .name ≡ n → meets-any (before n f t) (f i .extent) ≡ meets-any (before n f i) (f i .extent))
 
   pub outer-start : Outer 0
-  outer-start = (omega arith, conflict-start n f m ∙ ap (λ l. first-conflict [] (sites-of n l)) (run-sites rs f 0 (λ k. ap f (zero-plus k))))
+  outer-start = (omega arith, conflict-start n f m 0 (none-at-start n f m) ∙ ap (λ l. first-conflict [] (sites-of n l)) (run-sites rs f 0 (λ k. ap f (zero-plus k))))
     where
       zero-plus : (k : ℕ) → 0 + k ≡ k
       zero-plus k = omega arith
@@ -116,7 +116,7 @@ module _ (n : ℕ) (rs : List Record) where
       conflict-hit n f i m l e (sym (h .1 e) ∙ any-hit n f t (f i .extent) p (sym (clash-own n (f (t - 1)) (f i) e) ∙ c)) ∙ o .1
 
   stepped : (i : ℕ) → i < m → Inner i 0 → (b : Bool) → eqb n (f i .name) ≡ b → search-from n f (i + 1) m ≡ search-from n f i m
-  stepped i l h true e = let d : f i .name ≡ n = sym (eqb→eq n (f i .name) (rw e tt)) in conflict-miss n f i m l d (sym (h .1 d) ∙ any-none n f (f i .extent))
+  stepped i l h true e = let d : f i .name ≡ n = sym (eqb→eq n (f i .name) (rw e tt)) in conflict-miss n f i m l d (sym (h .1 d) ∙ any-none n f m 0 (f i .extent) (none-at-start n f m))
   stepped i l h false e = conflict-skip n f i m l (λ d. absurd (no-true (sym e ∙ eq-eqb n (f i .name) (sym d))))
 
   pub outer-next : (i t : ℕ) → i < m → t ≤ 0 → Outer i → Inner i t → Outer (i + 1)
