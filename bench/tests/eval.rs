@@ -192,7 +192,7 @@ fn show_operators(exact: &Exact) {
     assert!(exact.done.iter().all(|done| *done > 0));
 }
 
-/// Answers that the scope page states, and the ends of INT.
+/// Answers that the scope states, and the ends of INT.
 #[test]
 fn stated_answers() {
     let names = Names::of(&[(0, i32::MIN), (1, i32::MAX), (2, 9), (2, 5)]);

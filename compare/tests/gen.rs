@@ -6,7 +6,7 @@ use compare::model;
 use std::collections::HashSet;
 use std::path::Path;
 
-/// The text of case P1 as the scope page has it.
+/// The text of case P1 as the scope has it.
 const P1: &str = "\
 (module 0 bound)
 (kind 1 in)

@@ -1,4 +1,4 @@
-//! The value of an expression by the words of the scope page, "The value", in 128 bits: operands
+//! The value of an expression by the words of the scope, "The value", in 128 bits: operands
 //! left to right, a missing one ends it, `if` takes one branch, and a part outside INT that is
 //! evaluated makes the whole outside.
 

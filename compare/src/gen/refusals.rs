@@ -1,6 +1,6 @@
 //! Texts that are refused, and their neighbours that are just accepted.
 //!
-//! Every refusal here was worked out by hand from the scope page (01) and the decisions on what
+//! Every refusal here was worked out by hand from the scope (01) and the decisions on what
 //! it leaves open; the remark above an entry, or above a run of entries, is the sentence that
 //! decides. No checker computes any of these answers. Entries with `ok` are accepted, and their
 //! answer is the one of the Rust.

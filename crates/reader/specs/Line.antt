@@ -1,4 +1,4 @@
--- What the reader gives at its position. 01: The line.
+-- What the reader gives at its position. 01: The line; Refused because of the text; Refused because of the state; Worthless checks.
 -- Assumes nothing: these are definitions.
 use mathlib.Core.Path.{_≡_}
 use mathlib.Core.List.{List, [], _∷_}
@@ -28,11 +28,13 @@ line-at t at = first-line (drop at t)
 unfoldable pub behind-line : Bytes → ℕ → ℕ
 behind-line t at = min (length t) (at + length (line-at t at) + 1)
 
--- 01, The line: the reader holds the text and its position: what the text from there on is refused with, or how many modules it has.
+-- 01, The line; Refused because of the text: what the text from the reader's position on is refused with, lines being counted from there, or
+-- how many modules it has.
 unfoldable pub verdict-at : Bytes → ℕ → Verdict
 verdict-at t at = told (refusal (drop at t)) (length (decode (drop at t)))
 
--- 01, The line: the reader holds the text and its position: the answer for a text and two lent tables, and what they hold afterwards.
+-- 01, Refused because of the text; Refused because of the state; Worthless checks: the answer for a text and two lent tables, and what they
+-- hold afterwards.
 abbrev pub Filled : Bytes → List ℕ → List ℕ → Read → List ℕ → List ℕ → Type 0
 Filled t kinds mods r kinds′ mods′ =
     (r ≡ read-as (length kinds) (length mods) t)

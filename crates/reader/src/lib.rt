@@ -1,6 +1,6 @@
 // The reader holds the text and its position. Each function over it takes it apart and leaves the work to one on the slice and the
-// number, since a function over such a struct is proved by a walk of its code. `read` and `read_text` make a reader of a whole text:
-// their callers need no such walk.
+// number, since a function over such a struct is proved by hand, step by step along its compiled code. `read` and `read_text` make a
+// reader of a whole text: their callers need no such proof.
 ghost use mathlib.Core.Path.{_≡_};
 ghost use Prim.Native.Nat.{_+_};
 ghost use lib.ListN.{length, drop};
@@ -100,7 +100,7 @@ pub fn skip_line<'a>(r: Reader<'a>) -> Reader<'a>
     }
 }
 
-// What the text from here on is refused with, or how many modules it has.
+// What the text from here on is refused with, its lines counted from here, or how many modules it has.
 pub fn verdict<'a>(r: Reader<'a>) -> Verdict
     ensures { λ v. ⌜ v ≡ verdict-at (now (r .entry .text)) (r .entry .at) ⌝ }
 {
@@ -114,7 +114,7 @@ pub fn read(text: &[u8]) -> Verdict
     verdict(new(text))
 }
 
-// What the text from here on is refused with, or its tables.
+// What the text from here on is refused with, or its tables, lines and places counted from here.
 pub fn fill<'a, 'k, 'm>(r: Reader<'a>, kinds: &'k mut [u8], mods: &'m mut [u32]) -> tables::Read
     ensures { λ v. ⌜ Filled (drop (r .entry .at) (now (r .entry .text))) (now (kinds .entry)) (now (mods .entry)) v (now (kinds .exit)) (now (mods .exit)) ⌝ }
 {

@@ -1,6 +1,6 @@
 // A lent run of records, each a drive site in numbers: a site is stored among them, and the first conflict of a name is found.
-// The borrow checker covers no function over a slice of structs, so those here are few: each is proved by a walk of its code, by hand,
-// and leaves making a record and testing two to covered functions.
+// The kit writes no part of the proof of a function over a slice of structs, so those here are few: each is proved by hand, step by step
+// along its compiled code, and leaves making a record and testing two to functions on records by value.
 ghost use mathlib.Core.Path.{_≡_};
 ghost use mathlib.Core.List.{[], _∷_};
 ghost use lib.ListN.{length, set};

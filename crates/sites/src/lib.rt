@@ -404,7 +404,8 @@ fn meets_at(own: &[u32], i: usize, name: u32, x: Extent) -> bool
     meets(y, x)
 }
 
-// The row of the name's first site among n, or n. A search for conflicts needs no row before it.
+// A row before which no site has the name: that of its first site among n, or n. A search for conflicts needs no row before it; that it is the
+// first is a matter of speed alone.
 fn first_site(own: &[u32], n: usize, name: u32) -> usize
     requires { ⌜ (length (now own) ≡ places) × (n ≤ 1024) ⌝ }
     ensures { λ r. ⌜ NoneBefore name (site-row (now (own .entry))) n r ⌝ }
