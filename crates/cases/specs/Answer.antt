@@ -1,5 +1,5 @@
 -- What the program prints for a text, and whether a stored answer is that. 01: The report.
--- Assumes nothing: these are definitions.
+-- To a reader: definitions to believe; the promise of compare, which holds a stored answer against what is printed, cites them.
 use mathlib.Core.Bool.{Bool}
 use mathlib.Core.List.{[]}
 use lib.ListN.{replicate}

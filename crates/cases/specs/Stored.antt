@@ -1,11 +1,11 @@
 -- A file of stored cases, and what is counted over it. 01: The report. compare/README.md: Stored cases.
--- Assumes nothing: these are definitions.
+-- To a reader: definitions to believe; the promise of run, which counts the cases and those that differ, cites file-of and tally.
 use mathlib.Core.Bool.{Bool, true, false}
-use mathlib.Core.List.{List, [], _∷_, _++_}
+use mathlib.Core.List.{List, [], _∷_}
 use Prim.Native.Nat.{ℕ, zero, suc, _+_, _-_}
 use lib.Dec.{eqb, ltb}
 use lib.ListN.{length, getD, take, drop}
-use Rattle.spec.specs.Bytes.{Bytes, bytes, show-number, show-form}
+use Rattle.spec.specs.Bytes.{Bytes, bytes}
 use Rattle.lines.specs.Parse.{key, wordAt}
 use Rattle.lines.specs.Parts.{part-end, piece}
 use Rattle.lines.specs.Read.{numberAfter}
@@ -16,21 +16,12 @@ use Rattle.cases.specs.declared.record.Record.{Record}
 use Rattle.cases.specs.declared.record.Record.the-variants as stored
 use Rattle.cases.specs.declared.run.Tally.{Tally}
 
--- a stored case: its name, its text, the stored answer
+-- a stored case: its name, its text, the stored answer. In a file it is a line `(case NAME TEXTLEN ANSWERLEN)`, the text, the answer, and
+-- nothing stands between two.
 pub record Case : Type 0 where
   pub name : Bytes
   pub text : Bytes
   pub answer : Bytes
-
--- the record of a case: a line `(case NAME TEXTLEN ANSWERLEN)`, the text, the answer
-unfoldable pub show-case : Case → Bytes
-show-case c =
-    show-form (bytes "case") (c .name ∷ show-number (length (c .text)) ∷ show-number (length (c .answer)) ∷ []) ++ 10 ∷ c .text ++ c .answer
-
--- a file of cases: their records, with nothing between them
-unfoldable pub show-cases : List Case → Bytes
-show-cases [] = []
-show-cases (c ∷ cs) = show-case c ++ show-cases cs
 
 -- `(` and the word `case` stand at the head
 unfoldable pub caseKey : Bytes → Bool

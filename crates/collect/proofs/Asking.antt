@@ -164,7 +164,7 @@ module _ (text kinds mods : List ℕ) (count m : ℕ) (k : List ℕ) (kept : Kep
       pub ask-again : s ≡ states.Kept → AskedFor asked.Kept k m busy (asking fuel)
       ask-again e =
           let q = said states.Kept e in
-          back asked.Kept k (answered (q .0) kept, ask-kept (fuel - 1) (decode text) busy kept m (it .0) (it .1) (q .0) (q .1), q .2, keeps, small)
+          back asked.Kept k (answered (q .0) kept, ask-kept (fuel - 1) (decode text) busy kept m (it .0) (it .1) (q .0) (q .1) (q .3), q .2, keeps, small)
 
       pub ask-within : s ≡ states.Busy → AskedFor asked.Empty k m busy (asking fuel)
       ask-within e =
@@ -245,12 +245,12 @@ module _ (text kinds mods : List ℕ) (count m : ℕ) (k : List ℕ) (kept : Kep
 
           module _ (l : ℕ) (left : v ≡ walks.Left l) (b : Bool) (k″ : List ℕ)
               (made : (d : ℕ) (M : Module) (heads : List Head) (kept : Kept) (busy : List ℕ) → RunOf d run (M .items) → KindsOf ks (M .header) → Stands g′ heads → Keeps k′ kept (m ∷ busy) → m < 32
-              → Made b k″ m M heads kept busy) where
+              → has-name m busy ≡ false → Made b k″ m M heads kept busy) where
             ended : Ends (walks.Left l) (mode false false) text own′ g′ k′ (m ∷ busy) (walked-by (name-table (own-vals this) this .names))
             ended = subst (λ (y : W.Walked). Ends y (mode false false) text own′ g′ k′ (m ∷ busy) (walked-by (name-table (own-vals this) this .names))) left walks-as
 
             makes : Made b k″ m this (ended .0 .heads) (ended .0 .kept) busy
-            makes = made depth-limit this (ended .0 .heads) (ended .0 .kept) busy run-of kinds-told (ended .2 .stands) (ended .2 .keeps) low
+            makes = made depth-limit this (ended .0 .heads) (ended .0 .kept) busy run-of kinds-told (ended .2 .stands) (ended .2 .keeps) low free
 
             pub make-over : b ≡ false → asking (suc fuel) ≡ full
             make-over e =

@@ -220,9 +220,9 @@ module _ (fuel : ℕ) (d : Design) (busy : List ℕ) (kept : Kept) (m : ℕ) whe
 
   abbrev by-state : Module → Option Summary → Bool → Got Answered
   by-state k o b =
-      elim o as (λ _. Got Answered) [
-        | some s ↦ going (answered s kept)
-        | none ↦ elim b as (λ _. Got Answered) [ true ↦ going (answered [] kept) | false ↦ makes k ]
+      elim b as (λ _. Got Answered) [
+        | true ↦ going (answered [] kept)
+        | false ↦ elim o as (λ _. Got Answered) [ some s ↦ going (answered s kept) | none ↦ makes k ]
       ]
 
   asked : ask-walk (suc fuel) d busy kept m
@@ -239,12 +239,12 @@ module _ (fuel : ℕ) (d : Design) (busy : List ℕ) (kept : Kept) (m : ℕ) whe
     found =
         asked ∙ ap (λ (o : Option Module). elim o as (λ _. Got Answered) [ none ↦ going (answered [] kept) | some k ↦ by-state k (kept-summary kept m) (has-name m busy) ]) there
 
-    pub ask-kept : (s : Summary) → kept-summary kept m ≡ some s → ask-walk (suc fuel) d busy kept m ≡ going (answered s kept)
-    ask-kept s e = found ∙ ap (λ (o : Option Summary). by-state k o (has-name m busy)) e
+    pub ask-kept : (s : Summary) → kept-summary kept m ≡ some s → has-name m busy ≡ false → ask-walk (suc fuel) d busy kept m ≡ going (answered s kept)
+    ask-kept s e free = found ∙ ap (λ (o : Option Summary). by-state k o (has-name m busy)) e ∙ ap (λ (b : Bool). by-state k (some s) b) free
 
     module _ (new : kept-summary kept m ≡ none) where
       pub ask-busy : has-name m busy ≡ true → ask-walk (suc fuel) d busy kept m ≡ going (answered [] kept)
-      ask-busy e = found ∙ ap (λ (o : Option Summary). by-state k o (has-name m busy)) new ∙ ap (λ (b : Bool). by-state k none b) e
+      ask-busy e = found ∙ ap (λ (b : Bool). by-state k (kept-summary kept m) b) e
 
       module _ (free : has-name m busy ≡ false) where
         ask-makes : ask-walk (suc fuel) d busy kept m ≡ makes k

@@ -1,6 +1,6 @@
 -- What the walk over a module's items needs of the text, and what it leaves. 01: The line; The value; The collected item; The site; The block; The
 -- edge; Refused because of the state; Worthless checks.
--- Assumes nothing: these are definitions and statements.
+-- To a reader: definitions that contracts of this and other crates cite; each such contract is proved; check_drivers' own promise cites none of them.
 use mathlib.Core.Path.{_≡_}
 use mathlib.Core.Bool.{Bool, true, false}
 use mathlib.Core.List.{List, []}

@@ -1,6 +1,6 @@
 -- What collecting a module in its own check needs, and what it leaves. 01: The value; The collected item; The site; The block; The edge; Refused
 -- because of the state; Worthless checks.
--- Assumes nothing: these are definitions and statements.
+-- To a reader: definitions that the contracts of this crate cite; each such contract is proved; check_drivers' own promise cites none of them.
 use mathlib.Core.Path.{_≡_}
 use mathlib.Core.Bool.{true, false}
 use mathlib.Core.List.{List, []}

@@ -1,6 +1,6 @@
 -- What a collected line leaves, without the items that it holds and the summary that it asks for. 01: The site; The block; The edge; Refused because
 -- of the state; Worthless checks.
--- Assumes nothing: these are definitions and statements.
+-- To a reader: definitions that the contracts of this crate cite; each such contract is proved; check_drivers' own promise cites none of them.
 use mathlib.Core.Path.{_≡_}
 use mathlib.Core.Bool.{Bool, true, false}
 use mathlib.Core.List.{List, []}

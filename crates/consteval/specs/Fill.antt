@@ -1,6 +1,6 @@
 -- The name table of a module as it is filled: what each line adds, line by line, until a line stops it. 01: The line; The value; Refused because of
 -- the text; Refused because of the state.
--- Assumes nothing: these are definitions.
+-- To a reader: definitions that contracts of this and other crates cite, and a statement, Fills, proved in proofs/TableLaws.
 use mathlib.Core.Path.{_≡_}
 use mathlib.Core.Bool.{Bool, true, false, _&&_}
 use mathlib.Core.List.{List, [], _∷_}

@@ -1,6 +1,6 @@
 -- What the code's enums mean: a value in whole numbers, the name table, what a head word makes of an expression. 01: The value; Refused because of
 -- the state; Forms for specific places.
--- Assumes nothing: these are definitions.
+-- To a reader: definitions that contracts of this and other crates cite; each such contract is proved; check_drivers' own promise cites none of them.
 use mathlib.Core.Bool.{Bool, true, false}
 use mathlib.Core.List.{List, [], _∷_}
 use Prim.Native.Nat.{ℕ, zero, suc, _+_, _/_, min}

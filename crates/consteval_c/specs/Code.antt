@@ -1,5 +1,5 @@
 -- A value as one number, for programs in other languages. 01: The line; The value; Refused because of the state.
--- Assumes nothing: these are definitions.
+-- To a reader: definitions to believe: what drivercheck_eval takes and gives.
 use Prim.Native.Nat.{ℕ, _+_, _-_}
 use mathlib.Core.Bool.{true, false}
 use lib.Dec.{ltb}

@@ -6,11 +6,11 @@ use Prim.Native.Nat.{ℕ, zero, suc, _+_, _*_, _≤_}
 use native.Mathlib.Omega.{arith}
 use lib.ListN.{length, length-append}
 use Rattle.spec.specs.Graph.{_∈_, Once}
-use Rattle.spec.specs.Search.{Searched, backwards, in-turn, among, back-to, step, search}
+use Rattle.spec.specs.DepthFirst.{Searched, backwards, in-turn, among, back-to, step, search}
 use Rattle.spec.specs.Edge.{Node, same-node, Head, all-nodes}
-use Rattle.spec.specs.Walk.{next-nodes, roots, find-cycles}
+use Rattle.spec.specs.FindCycles.{next-nodes, roots, find-cycles}
 use Rattle.spec.proofs.Lists.{once-length}
-use Rattle.spec.proofs.Search.{reached-in, search-finds}
+use Rattle.spec.proofs.DepthFirst.{reached-in, search-finds}
 use Rattle.spec.proofs.Nodes.{same-node-yes, same-node-refl, headed-all, roots-headed, roots-rising, rising-once, read-all, next-read, next-once}
 use Rattle.graph.specs.Table.{count}
 use Rattle.graph.specs.Stands.{nodes, Stands}

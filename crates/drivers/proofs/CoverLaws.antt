@@ -36,9 +36,9 @@ use Rattle.items.proofs.Places.{part-follows}
 use Rattle.drivers.specs.declared.emit.Place.{Place}
 use Rattle.drivers.specs.declared.groups.Covered.{Covered}
 use Rattle.drivers.specs.declared.groups.Covered.the-variants as covered
-use Rattle.drivers.specs.Emits.{Emits, Emitting}
+use Rattle.drivers.specs.Emits.{Emits}
 use Rattle.drivers.specs.Groups.{Reported}
-use Rattle.drivers.proofs.EmitLaws.{emitting-start, emitting-then, emitting-end, appended-within}
+use Rattle.drivers.proofs.EmitLaws.{emitting-start, emitting-then, emitting-end, appended-within, Emitting}
 use Rattle.drivers.proofs.GroupLaws.{emits-same, emits-nothing}
 
 -- ---- a width from its bytes

@@ -15,7 +15,13 @@ use Rattle.report.specs.declared.Put.{Put}
 use Rattle.report.specs.declared.Put.the-variants as put
 use Rattle.report.proofs.Laws.{sets-append, line-length}
 use Rattle.drivers.specs.declared.emit.Place.{Place}
-use Rattle.drivers.specs.Emits.{Within, Appended, Appends, Emits, Emitting}
+use Rattle.drivers.specs.Emits.{Within, Appended, Appends, Emits}
+
+-- 01, The report; Refused because of the state: of the reports `all`, which begin at the place p, those before `rest` are appended
+pub record Emitting (write : Bool) (old : Bytes) (p : Place) (all rest : List Report) (new : Bytes) (q : Place) : Type 0 where
+  pub before : List Report
+  pub split : before ++ rest ≡ all
+  pub emitted : Emits write old p before new q
 
 placed-fits : (l s : Bytes) (at : ℕ) → at + length s ≤ length l → placed l at s ≡ put-by (put.At (at + length s)) (take at l ++ s ++ drop (at + length s) l)
 unfolding placed

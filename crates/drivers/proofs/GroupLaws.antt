@@ -19,8 +19,8 @@ use Rattle.sites.specs.Own.{Table, places, names, run, row as row-at, rows-in, 
 use Rattle.sites.proofs.Rows.{run-step, run-end, run-all}
 use Rattle.sites.proofs.Reports.{misuse-row, misuse-next, conflict-next, reg-said, mem-said, reg-next, mem-next, storage-poisoned}
 use Rattle.drivers.specs.declared.emit.Place.{Place}
-use Rattle.drivers.specs.Emits.{Emits, Emitting}
-use Rattle.drivers.proofs.EmitLaws.{emit-none, emitting-then, emitting-end}
+use Rattle.drivers.specs.Emits.{Emits}
+use Rattle.drivers.proofs.EmitLaws.{emit-none, emitting-then, emitting-end, Emitting}
 
 -- ---- the same reports
 

@@ -9,7 +9,7 @@ use lib.ListN.{length, getD}
 use Rattle.spec.specs.Bytes.{Bytes, show-number, show-rest, show-form}
 use Rattle.spec.specs.Report.{Report, loop-report, show-node, show-nodes, show-report, show-reports}
 use Rattle.spec.specs.Edge.{Node, Head}
-use Rattle.spec.specs.Walk.{find-cycles}
+use Rattle.spec.specs.FindCycles.{find-cycles}
 use Rattle.spec.specs.Check.{loop-reports}
 use Rattle.report.specs.declared.Node as rnode
 use Rattle.report.specs.Line.{field, walk-head, walk-node, walk-tail, node-of, node-bytes as report-node}
@@ -19,10 +19,15 @@ use Rattle.graph.specs.Cycles.{words-from, Awaits, Next}
 use Rattle.graph.specs.declared.Cycle as C
 use Rattle.graph.specs.declared.Cycle.the-variants as cycles
 use Rattle.drivers.specs.declared.emit.Place.{Place}
-use Rattle.drivers.specs.Emits.{Appends, Emits, Emitting}
-use Rattle.drivers.specs.Loops.{node-bytes, walk-bytes, path-nodes, path-report}
-use Rattle.drivers.proofs.EmitLaws.{append-then, emitting-start, emitting-then, emitting-end}
+use Rattle.drivers.specs.Emits.{Appends, Emits}
+use Rattle.drivers.specs.Loops.{node-bytes, path-nodes, path-report}
+use Rattle.drivers.proofs.EmitLaws.{append-then, emitting-start, emitting-then, emitting-end, Emitting}
 use Rattle.drivers.proofs.Bound.{few-cycles}
+
+-- 01, The report: a space and a node, for each node
+unfoldable pub walk-bytes : List Node → Bytes
+walk-bytes [] = []
+walk-bytes (n ∷ ns) = node-bytes n ++ walk-bytes ns
 
 -- a node's bytes
 node-piece : (n : rnode.Node) {x y : Node} → node-of n ≡ x → x ≡ y → walk-node n ≡ node-bytes y

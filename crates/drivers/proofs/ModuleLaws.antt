@@ -9,7 +9,7 @@ use Rattle.spec.specs.Value.{Names}
 use Rattle.spec.specs.Site.{Site, Output, Misused, Conflict, misused-names, conflicts, conflict-names}
 use Rattle.spec.specs.Block.{Pair, Storage}
 use Rattle.spec.specs.Edge.{Head}
-use Rattle.spec.specs.Walk.{find-cycles}
+use Rattle.spec.specs.FindCycles.{find-cycles}
 use Rattle.spec.specs.Report.{Report}
 use Rattle.spec.specs.Check.{misuse-reports, conflict-reports, output-reports, widths-out, reg-report, mem-report, storage-reports, loop-reports}
 use Rattle.sites.specs.Own as table

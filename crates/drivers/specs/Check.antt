@@ -1,6 +1,6 @@
 -- The whole check over the lent slices: what a module's check needs of them, what it leaves, and the answer.
 -- 01: The collected item; Refused because of the state; The report.
--- Assumes nothing: these are definitions and statements.
+-- To a reader: definitions to believe (exit-of and slices, in check_drivers' promise; they only gather), and definitions that other contracts of this crate cite.
 use mathlib.Core.Path.{_≡_}
 use mathlib.Core.Bool.{Bool, false}
 use mathlib.Core.List.{List, [], _∷_}

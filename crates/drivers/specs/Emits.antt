@@ -1,5 +1,5 @@
 -- What counting or writing report lines does to the next place and to the lent buffer. 01: The report; Refused because of the state.
--- Assumes nothing: these are definitions and statements.
+-- To a reader: definitions that the contracts of this crate cite; each such contract is proved; check_drivers' own promise cites none of them.
 use mathlib.Core.Path.{_≡_}
 use mathlib.Core.Bool.{Bool, true, false}
 use mathlib.Core.List.{List, _++_}
@@ -32,9 +32,3 @@ Appends write old p s k new q = Within old p → Appended write old p s k new q
 -- 01, The report; Refused because of the state: the lines of some reports are appended, if p is such a place
 abbrev pub Emits : Bool → Bytes → Place → List Report → Bytes → Place → Type 0
 Emits write old p rs new q = Appends write old p (show-reports rs) (length rs) new q
-
--- 01, The report; Refused because of the state: of the reports `all`, which begin at the place p, those before `rest` are appended
-pub record Emitting (write : Bool) (old : Bytes) (p : Place) (all rest : List Report) (new : Bytes) (q : Place) : Type 0 where
-  pub before : List Report
-  pub split : before ++ rest ≡ all
-  pub emitted : Emits write old p before new q

@@ -1,5 +1,5 @@
 -- What reporting a module's own tables leaves. 01: The site; Refused because of the state.
--- Assumes nothing: these are definitions and statements.
+-- To a reader: definitions that the contracts of this crate cite; each such contract is proved; check_drivers' own promise cites none of them.
 use mathlib.Core.Path.{_≡_}
 use mathlib.Core.Bool.{Bool, true, false}
 use mathlib.Core.List.{List}

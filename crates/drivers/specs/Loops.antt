@@ -1,5 +1,5 @@
 -- Loop reports as the code writes them: from the path that the search leaves in the work slice. 01: The walk; The report.
--- Assumes nothing: these are definitions.
+-- To a reader: definitions that the contracts of this crate cite; each such contract is proved; check_drivers' own promise cites none of them.
 use mathlib.Core.List.{List, [], _∷_, _++_, map}
 use Prim.Native.Nat.{ℕ, _+_, _-_}
 use lib.ListN.{getD}
@@ -12,11 +12,6 @@ use Rattle.graph.specs.Cycles.{words-from}
 -- 01, The report: a space and a node
 unfoldable pub node-bytes : Node → Bytes
 node-bytes n = 32 ∷ show-node n
-
--- 01, The report: a space and a node, for each node
-unfoldable pub walk-bytes : List Node → Bytes
-walk-bytes [] = []
-walk-bytes (n ∷ ns) = node-bytes n ++ walk-bytes ns
 
 -- 01, The report: the nodes of the path from one place to before another, and then the node i
 abbrev pub path-nodes : List ℕ → List ℕ → ℕ → ℕ → ℕ → List Node

@@ -5,7 +5,7 @@ use graph::Cycle;
 ghost use mathlib.Core.Path.{_≡_};
 ghost use mathlib.Core.List.{List, [], _∷_};
 ghost use Rattle.spec.specs.Edge.{Head};
-ghost use Rattle.spec.specs.Walk.{find-cycles};
+ghost use Rattle.spec.specs.FindCycles.{find-cycles};
 ghost use Rattle.spec.specs.Check.{loop-reports};
 ghost use Rattle.graph.specs.Table as table;
 ghost use Rattle.graph.specs.Stands.{Stands};

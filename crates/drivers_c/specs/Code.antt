@@ -1,5 +1,5 @@
 -- What a call leaves, as numbers, for programs in other languages. 01: Refused because of the state; Worthless checks.
--- Assumes nothing: these are definitions and statements.
+-- To a reader: definitions to believe: what drivercheck_check returns and stores.
 use mathlib.Core.Path.{_≡_}
 use mathlib.Core.List.{List}
 use Prim.Native.Nat.{ℕ}

@@ -8,7 +8,7 @@ use Prim.Native.Nat.{ℕ, zero, suc, _≤_, _<_, min}
 use native.Mathlib.Omega.{arith}
 use lib.ListN.{drop, getD}
 use Rattle.spec.specs.Bytes.{Bytes, bytes, number, show-number, show-rest, show-form}
-use Rattle.spec.specs.Syntax.{Kind, reg-kind, mem-kind, inst-kind, neg, not, clog2, add, sub, mul, eq, ne, lt, le, gt, ge, and, or, shl, shr, band, bor, bxor, Expr, lit, truth, name, field, index, if-else, unary, binary, all, Header}
+use Rattle.spec.specs.Syntax.{Kind, reg-kind, mem-kind, inst-kind, neg, not, clog2, add, sub, mul, eq, ne, lt, le, gt, ge, and, or, shl, shr, band, bor, bxor, Expr, Exprs, lit, truth, name, field, index, if-else, unary, binary, all, Header}
 use Rattle.spec.specs.Show.{show-expr, show-exprs}
 use Rattle.spec.specs.Refusal.{expr-in-range, expr-depth}
 use Rattle.spec.specs.Value.{Names}
@@ -20,12 +20,24 @@ use Rattle.graph.specs.Stands.{Heading, Read}
 use Rattle.graph.specs.declared.Added as A
 use Rattle.graph.specs.declared.Added.the-variants as added
 use Rattle.edges.specs.Reads.{kind-word, KindsOf, ReadAll}
-use Rattle.edges.specs.Shows.{children, ShowsExpr, NameRead, NamedBy}
+use Rattle.edges.specs.Shows.{ShowsExpr, NameRead, NamedBy}
 use Rattle.edges.proofs.ReadLaws.{read-none, read-one}
 use Rattle.runs.proofs.Inside.{placed}
 use Rattle.edges.specs.declared.Named.the-variants as named
 use Rattle.lines.specs.Parts.{part-end, piece, next-end}
 use borrow.Author.Tests.{ltb-true}
+
+-- 01, The edge: the parts of a form that are read one behind the other: all of them, of a name and of an `f` none
+unfoldable pub children : Expr → Exprs
+children (lit n) = Exprs.none
+children (truth b) = Exprs.none
+children (name n) = Exprs.none
+children (field e n) = Exprs.none
+children (index e i) = Exprs.more e (Exprs.more i Exprs.none)
+children (if-else c a b) = Exprs.more c (Exprs.more a (Exprs.more b Exprs.none))
+children (unary o a) = Exprs.more a Exprs.none
+children (binary o a b) = Exprs.more a (Exprs.more b Exprs.none)
+children (all es) = es
 
 -- a number begins with no bracket
 digit-first : (s : Bytes) → Digits s → getD s 0 0 ≡ 40 → ⊥

@@ -24,9 +24,9 @@ use Rattle.runs.proofs.Inside.{placed}
 use Rattle.edges.specs.declared.Named as N
 use Rattle.edges.specs.declared.Named.the-variants as named
 use Rattle.edges.specs.Reads.{ReadAll}
-use Rattle.edges.specs.Shows.{children, ShowsExpr, ShowsExprs, NameRead, NamedBy, FieldRead, FieldFormRead, ExprRead, PartsRead}
+use Rattle.edges.specs.Shows.{ShowsExpr, ShowsExprs, NameRead, NamedBy, FieldRead, FieldFormRead, ExprRead, PartsRead}
 use Rattle.edges.proofs.ReadLaws.{read-none, read-then, read-stops}
-use Rattle.edges.proofs.ExprLaws.{Told, an-atom, a-name, a-field, a-form, told}
+use Rattle.edges.proofs.ExprLaws.{Told, an-atom, a-name, a-field, a-form, told, children}
 use Rattle.edges.proofs.FieldLaws.{getD-drop-here, as-not, as-is}
 
 -- ---- `next_end` and `number_at`

@@ -1,5 +1,5 @@
 -- What the heads of a collected line leave in the graph of a module. 01: The line; The edge; Refused because of the state.
--- Assumes nothing: these are definitions and statements.
+-- To a reader: definitions that contracts of this and other crates cite; each such contract is proved; check_drivers' own promise cites none of them.
 use mathlib.Core.Path.{_≡_}
 use mathlib.Core.Bool.{Bool, true}
 use mathlib.Core.List.{List, [], _∷_}

@@ -1,6 +1,6 @@
 -- What reading leaves in the graph of a module: the reads of an expression behind those that the head has already, or a limit passed or
 -- an index outside INT. 01: The line; The edge; Refused because of the state.
--- Assumes nothing: these are definitions and statements.
+-- To a reader: definitions that contracts of this and other crates cite; each such contract is proved; check_drivers' own promise cites none of them.
 use mathlib.Core.Path.{_≡_}
 use mathlib.Core.Bool.{Bool, true, false, _||_}
 use mathlib.Core.List.{List, [], _∷_, _++_}

@@ -1,13 +1,13 @@
 -- Expressions as the code reads them: by the first bytes of a form, and then part by part. 01: The line; The edge; Refused because of the
 -- state.
--- Assumes nothing: these are definitions and statements.
+-- To a reader: definitions that the contracts of this crate cite; each such contract is proved; check_drivers' own promise cites none of them.
 use mathlib.Core.Path.{_≡_}
 use mathlib.Core.Bool.{Bool, true, false}
 use mathlib.Core.List.{List, [], _∷_}
 use mathlib.Core.Option.{Option}
 use Prim.Native.Nat.{ℕ, suc, _≤_}
 use Rattle.spec.specs.Bytes.{Bytes, show-rest}
-use Rattle.spec.specs.Syntax.{Kind, Expr, Exprs, lit, truth, name, field, index, if-else, unary, binary, all, Header}
+use Rattle.spec.specs.Syntax.{Kind, Expr, Exprs, name, field, Header}
 use Rattle.spec.specs.Show.{show-expr, show-exprs}
 use Rattle.spec.specs.Refusal.{expr-in-range, exprs-in-range, expr-depth, exprs-depth}
 use Rattle.spec.specs.Value.{Names}
@@ -17,18 +17,6 @@ use Rattle.graph.specs.Stands.{Heading}
 use Rattle.edges.specs.declared.Named as N
 use Rattle.edges.specs.declared.Named.the-variants as named
 use Rattle.edges.specs.Reads.{KindsOf, ReadAll}
-
--- 01, The edge: the parts of a form that are read one behind the other: all of them, of a name and of an `f` none
-unfoldable pub children : Expr → Exprs
-children (lit n) = Exprs.none
-children (truth b) = Exprs.none
-children (name n) = Exprs.none
-children (field e n) = Exprs.none
-children (index e i) = Exprs.more e (Exprs.more i Exprs.none)
-children (if-else c a b) = Exprs.more c (Exprs.more a (Exprs.more b Exprs.none))
-children (unary o a) = Exprs.more a Exprs.none
-children (binary o a b) = Exprs.more a (Exprs.more b Exprs.none)
-children (all es) = es
 
 -- 01, The line: the bytes e show x, which is in range and at most d brackets deep
 pub record ShowsExpr (e : Bytes) (d : ℕ) (x : Expr) : Type 0 where

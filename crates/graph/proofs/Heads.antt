@@ -7,9 +7,9 @@ use Prim.Native.Nat.{ℕ, suc, _+_}
 use native.Mathlib.Omega.{arith}
 use lib.ListN.{length}
 use Rattle.spec.specs.Graph.{_∈_, Once}
-use Rattle.spec.specs.Search.{among, each-once}
+use Rattle.spec.specs.DepthFirst.{among, each-once}
 use Rattle.spec.specs.Edge.{Node, same-node, Head, all-nodes, head-nodes, all-reads, reads-of, edges-from, edge-count}
-use Rattle.spec.specs.Walk.{start-of}
+use Rattle.spec.specs.FindCycles.{start-of}
 use Rattle.spec.proofs.Lists.{once-length}
 use Rattle.spec.proofs.Numbers.{if-case}
 use Rattle.spec.proofs.Nodes.{same-node-yes, same-node-refl, node-in, node-out, each-once-in, in-each-once, each-once-once, reads-of-read, read-reads-of, reads-of-once, reader-headed, headed-all}

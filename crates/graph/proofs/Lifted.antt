@@ -12,14 +12,14 @@ use lib.Seq.{getD-set-same}
 use lib.Dec.{eqb, ltb}
 use borrow.Author.Tests.{eqb-true, eq-eqb, ne-eqb}
 use Rattle.spec.specs.Graph.{_∈_, Once, Chain, last}
-use Rattle.spec.specs.Search.{among, search, each-once}
-use Rattle.spec.specs.Walks.{Reached, FindsLoops}
+use Rattle.spec.specs.DepthFirst.{among, search, each-once}
+use Rattle.spec.specs.DepthFirstFinds.{Reached, FindsLoops}
 use Rattle.spec.specs.Syntax.{Header}
 use Rattle.spec.specs.Site.{kind-of}
 use Rattle.spec.specs.Edge.{Node, signal, inst-out, same-node, Head, all-nodes, all-reads, reads-of}
 use Rattle.spec.specs.Summary.{is-input, onward, inputs-among, inputs-reached}
 use Rattle.spec.proofs.Numbers.{if-case}
-use Rattle.spec.proofs.Search.{search-finds, reached-root, reached-next}
+use Rattle.spec.proofs.DepthFirst.{search-finds, reached-root, reached-next}
 use Rattle.spec.proofs.Nodes.{same-node-yes, same-node-refl, node-in, read-all, reads-of-read, read-reads-of, headed-all}
 use Rattle.graph.specs.Table.{count, edge-total, node-words, node-at, source, target, edges-below, out, Found}
 use Rattle.graph.specs.Stands.{nodes, edges, Stands}

@@ -9,7 +9,7 @@ use lib.ListN.{length, getD, replicate, length-replicate, getD-replicate}
 use lib.Dec.{ltb}
 use borrow.Author.Tests.{lt-ltb, ltb-true}
 use Rattle.spec.specs.Graph.{_∈_}
-use Rattle.spec.specs.Search.{each-once}
+use Rattle.spec.specs.DepthFirst.{each-once}
 use Rattle.spec.specs.Edge.{Node, same-node, Head, all-nodes, all-reads, reads-of, edges-from, edge-count, over-graph}
 use Rattle.spec.proofs.Lists.{once-length}
 use Rattle.spec.proofs.Nodes.{same-node-yes, same-node-refl, each-once-in, in-each-once, each-once-once, reads-of-read, read-reads-of, reads-of-once, or-parts}

@@ -11,10 +11,10 @@ use lib.Seq.{getD-set-same}
 use lib.Dec.{eqb, ltb}
 use borrow.Author.Tests.{lt-ltb, ltb-false, eqb-true, eqb-false, eq-eqb, ne-eqb}
 use Rattle.spec.specs.Graph.{_∈_, Once}
-use Rattle.spec.specs.Search.{among}
-use Rattle.spec.specs.Walks.{Reached}
+use Rattle.spec.specs.DepthFirst.{among}
+use Rattle.spec.specs.DepthFirstFinds.{Reached}
 use Rattle.spec.proofs.Lists.{once-length}
-use Rattle.spec.proofs.Search.{reached-root, reached-next}
+use Rattle.spec.proofs.DepthFirst.{reached-root, reached-next}
 use Rattle.graph.specs.Table.{OnLinks, target, link, edges-below, out}
 use Rattle.graph.specs.Reach.{words-below, reached, found, Queued, Sound, stops, next-of, Spread, Flooded, Gathered, names-in}
 use Rattle.graph.proofs.Tables.{pick-true, pick-false, miss, links-start, links-all, links-next, links-less, links-step}

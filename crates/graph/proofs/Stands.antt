@@ -12,12 +12,12 @@ use lib.Seq.{getD-set-same}
 use lib.Dec.{eqb, ltb}
 use borrow.Author.Tests.{lt-ltb, le-ltb, eqb-true, eqb-false, eq-eqb, ne-eqb}
 use Rattle.spec.specs.Graph.{_∈_, Once}
-use Rattle.spec.specs.Search.{among, each-once}
+use Rattle.spec.specs.DepthFirst.{among, each-once}
 use Rattle.spec.specs.Edge.{Node, same-node, Head, all-nodes, head-nodes, all-reads, reads-of, edges-from, edge-count, over-graph}
-use Rattle.spec.specs.Walk.{start-of}
+use Rattle.spec.specs.FindCycles.{start-of}
 use Rattle.spec.proofs.Numbers.{if-case}
 use Rattle.spec.proofs.Nodes.{same-node-yes, node-in, headed-all, read-all}
-use Rattle.spec.proofs.Search.{among-yes, among-no}
+use Rattle.spec.proofs.DepthFirst.{among-yes, among-no}
 use Rattle.spec.proofs.HeadLaws.{true-left, true-right}
 use Rattle.graph.specs.Table.{count, edge-total, node-words, node-at, start-at, headed-at, nodes-below, source, target, edges-below, out, Linked, pushed, stored, Found, node-of}
 use Rattle.graph.specs.Stands.{nodes, edges, Holds, Stands, IsNode, Heading, head-of, Got, Headed, Read}

@@ -10,7 +10,7 @@ use lib.ListN.{length, getD, set, length-set}
 use lib.Seq.{getD-set-same, getD-set-other}
 use lib.Dec.{eqb}
 use borrow.Author.Tests.{eqb-true, eqb-false, eq-eqb, ne-eqb}
-use Rattle.spec.specs.Search.{among}
+use Rattle.spec.specs.DepthFirst.{among}
 use Rattle.spec.proofs.Numbers.{if-case}
 use Rattle.graph.specs.Table.{OnLinks, source, target, link, newest, edges-below, out, Linked, pushed}
 

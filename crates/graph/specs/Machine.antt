@@ -1,9 +1,9 @@
 -- The search for cycles as a machine with a stack, one step at a time. 01: The walk.
--- Assumes nothing: these are definitions.
+-- To a reader: definitions that contracts cite through Cycles; that run gives the reports of DepthFirst.search is proved in proofs/Machine.
 use mathlib.Core.Bool.{Bool, true, false}
 use mathlib.Core.List.{List, [], _∷_}
 use Prim.Native.Nat.{ℕ, zero, suc}
-use Rattle.spec.specs.Search.{among, back-to}
+use Rattle.spec.specs.DepthFirst.{among, back-to}
 
 -- 01, The walk: the open path, the last entered first, of a stack of nodes with their next nodes that are still to be taken
 unfoldable pub path : {A : Type 0} → List (A × List A) → List A
@@ -28,8 +28,3 @@ module _ {A : Type 0} (same : A → A → Bool) (next : A → List A) (root : A 
         | true ↦ back-to same t (s ∷ path fs) (t ∷ []) ∷ run k ((s, ts) ∷ fs) rs l
         | false ↦ elim (among same t l) [ true ↦ run k ((s, ts) ∷ fs) rs l | false ↦ run k ((t, next t) ∷ (s, ts) ∷ fs) rs l ]
       ]
-
--- 01, The walk: the members of a list that are roots, in its order
-unfoldable pub only : {A : Type 0} → (A → Bool) → List A → List A
-only root [] = []
-only root (a ∷ l) = elim (root a) [ true ↦ a ∷ only root l | false ↦ only root l ]

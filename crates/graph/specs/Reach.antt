@@ -1,5 +1,5 @@
 -- What a search for the inputs that an output reaches gives and leaves. 01: The edge; The walk.
--- Assumes nothing: these are definitions and statements.
+-- To a reader: definitions that contracts of this and other crates cite; each such contract is proved; check_drivers' own promise cites none of them.
 use mathlib.Core.Path.{_≡_}
 use mathlib.Core.Bool.{Bool, true, false}
 use mathlib.Core.Logic.{_↔_, _⊎_}
@@ -8,8 +8,8 @@ use Prim.Native.Nat.{ℕ, zero, suc, _+_, _<_, _≤_}
 use lib.ListN.{length, getD}
 use lib.Dec.{eqb, ltb}
 use Rattle.spec.specs.Graph.{_∈_, Once}
-use Rattle.spec.specs.Search.{among}
-use Rattle.spec.specs.Walks.{Reached}
+use Rattle.spec.specs.DepthFirst.{among}
+use Rattle.spec.specs.DepthFirstFinds.{Reached}
 use Rattle.spec.specs.Syntax.{Header}
 use Rattle.spec.specs.Site.{kind-of}
 use Rattle.spec.specs.Edge.{Head}

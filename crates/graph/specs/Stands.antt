@@ -1,5 +1,5 @@
 -- The heads for which a graph's slice stands. 01: The edge; The walk; Refused because of the state; Worthless checks.
--- Assumes nothing: these are definitions and statements.
+-- To a reader: definitions that contracts of this and other crates cite; each such contract is proved; check_drivers' own promise needs only graph-places.
 use mathlib.Core.Path.{_≡_}
 use mathlib.Core.Bool.{true}
 use mathlib.Core.List.{List, [], _∷_, _++_}
@@ -7,9 +7,9 @@ use Prim.Native.Nat.{ℕ, _<_, _≤_}
 use lib.ListN.{length}
 use lib.Dec.{eqb, ltb}
 use Rattle.spec.specs.Graph.{_∈_, Once}
-use Rattle.spec.specs.Search.{among}
+use Rattle.spec.specs.DepthFirst.{among}
 use Rattle.spec.specs.Edge.{Node, same-node, Head, all-nodes, head-nodes, all-reads, edges-from, over-graph}
-use Rattle.spec.specs.Walk.{start-of}
+use Rattle.spec.specs.FindCycles.{start-of}
 use Rattle.spec.specs.Cleared.{Cleared}
 use Rattle.graph.specs.Table.{count, edge-total, node-at, start-at, headed-at, nodes-below, source, target, edges-below, out, Linked}
 use Rattle.graph.specs.declared.Added as A

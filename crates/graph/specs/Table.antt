@@ -1,6 +1,6 @@
 -- What the words of a graph's slice say: nodes, and a table of edges with the edges of each source linked.
 -- 01: The value; The edge; The walk; Refused because of the state.
--- Assumes nothing: these are definitions.
+-- To a reader: definitions that contracts of this and other crates cite; each such contract is proved; check_drivers' own promise cites none of them.
 use mathlib.Core.Path.{_≡_}
 use mathlib.Core.Bool.{true, false}
 use mathlib.Core.List.{List, [], _∷_}

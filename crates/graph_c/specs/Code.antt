@@ -1,6 +1,6 @@
 -- The answers of the graph as numbers, for programs in other languages.
 -- 01: The edge; The walk; Refused because of the state; Worthless checks.
--- Assumes nothing: these are definitions and statements.
+-- To a reader: definitions to believe: what the numbers that the functions of this crate return and store stand for.
 use mathlib.Core.Path.{_≡_}
 use mathlib.Core.Bool.{true, false}
 use mathlib.Core.List.{List, [], _∷_, _++_, map}

@@ -9,7 +9,7 @@ ghost use mathlib.Core.List.{List, []};
 ghost use Prim.Native.Nat.{ℕ, _+_, _≤_};
 ghost use lib.ListN.{length, set, replicate};
 ghost use Rattle.spec.specs.Edge.{Node as SpecNode, Head};
-ghost use Rattle.spec.specs.Walk.{find-cycles};
+ghost use Rattle.spec.specs.FindCycles.{find-cycles};
 ghost use Rattle.graph.specs.Table.{node-of, node-words, start-at};
 ghost use Rattle.graph.specs.Stands.{Stands, Heading, Headed, Read, ClearedAtFull};
 ghost use Rattle.graph.specs.Cycles.{Roomy, Awaits};

@@ -1,5 +1,5 @@
 -- What a read of standard input says. 01: The report, which gives the program its text there and says nothing of a read that fails.
--- Assumes nothing: these are definitions.
+-- To a reader: definitions to believe; the contracts of this crate cite them.
 use mathlib.Core.List.{List}
 use Prim.Native.Nat.{ℕ, min}
 use lib.IntN.{ℤ, pos, negsuc}

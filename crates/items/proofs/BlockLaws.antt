@@ -14,7 +14,7 @@ use Rattle.spec.specs.Syntax.{name-bound, number-bound, Kind, Stmt, Stmts, set,
 use Rattle.spec.specs.Show.{show-stmt, show-stmts, show-item}
 use Rattle.spec.specs.Refusal.{stmt-depth, stmts-depth, stmt-in-range, stmts-in-range, item-depth, item-in-range}
 use Rattle.spec.specs.Value.{Names}
-use Rattle.spec.specs.Search.{among}
+use Rattle.spec.specs.DepthFirst.{among}
 use Rattle.spec.specs.Site.{kind-of, driving, set-misuse, line-sites, line-constants, any-outside, Misused, stmt-misuses, stmts-misuses, line-misuses, line-outputs, arrow}
 use Rattle.spec.specs.Block.{Pair, is-reg, is-mem, pair-if, stmt-pairs, stmts-pairs, line-pairs, has-pair, line-regs, line-mems}
 use Rattle.spec.specs.Check.{pair-limit}

@@ -13,7 +13,7 @@ use Rattle.spec.specs.Bytes.{Bytes}
 use Rattle.spec.specs.Syntax.{name-bound}
 use Rattle.spec.specs.Refusal.{has-name}
 use Rattle.spec.specs.Graph.{_∈_}
-use Rattle.spec.specs.Search.{among}
+use Rattle.spec.specs.DepthFirst.{among}
 use Rattle.spec.specs.Site.{Site, Output, Misused}
 use Rattle.spec.specs.Block.{Pair, Storage}
 use Rattle.spec.proofs.Numbers.{if-case}

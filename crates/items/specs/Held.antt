@@ -1,6 +1,6 @@
 -- The tables of a module's own check as the code holds them, and what a collected line leaves in them. 01: The line; The site;
 -- The block; Refused because of the state.
--- Assumes nothing: these are definitions and statements.
+-- To a reader: definitions that contracts of this and other crates cite; each such contract is proved; check_drivers' own promise cites none of them.
 use mathlib.Core.Path.{_≡_}
 use mathlib.Core.Bool.{Bool, true, false, _||_}
 use mathlib.Core.List.{List, [], _∷_}

@@ -1,6 +1,6 @@
 -- What the code says of a collected line and of the parts of one. 01: The line; The value; The site; The block; Refused because
 -- of the state.
--- Assumes nothing: these are definitions and statements.
+-- To a reader: definitions that contracts of this and other crates cite; each such contract is proved; check_drivers' own promise cites none of them.
 use mathlib.Core.Path.{_≡_}
 use mathlib.Core.Bool.{Bool, true, false}
 use mathlib.Core.List.{List, [], _∷_}

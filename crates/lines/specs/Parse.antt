@@ -1,6 +1,6 @@
 -- What the code of src/parse.rt does, on the bytes of a text and a position in it. proofs/ ties it to the bytes that show a tree. 01: The line;
 -- Refused because of the text.
--- Assumes nothing: these are definitions.
+-- To a reader: definitions that contracts of this and other crates cite; each such contract is proved; check_drivers' own promise cites none of them.
 use mathlib.Core.Bool.{Bool, true, false, _&&_, not}
 use mathlib.Core.List.{List, [], _∷_}
 use Prim.Native.Nat.{ℕ, zero, suc, _+_, _*_, _-_}

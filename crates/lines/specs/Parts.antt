@@ -1,5 +1,5 @@
 -- Where the parts of a form begin and end in its bytes. 01: The line; Forms for specific places.
--- Assumes nothing: these are definitions.
+-- To a reader: definitions that contracts of this and other crates cite; each such contract is proved; check_drivers' own promise cites none of them.
 use mathlib.Core.Bool.{Bool, true, false}
 use mathlib.Core.List.{[], _∷_}
 use Prim.Native.Nat.{ℕ, zero, suc, _+_, _-_}

@@ -1,5 +1,5 @@
 -- What the tables of an accepted text say of its design. 01: The line; Refused because of the text.
--- Assumes nothing: these are definitions, and a statement that proofs/Said.antt proves.
+-- To a reader: definitions, of which the contracts of steps cite Placed, and a statement, Says, proved in proofs/Said.
 use mathlib.Core.Path.{_≡_}
 use mathlib.Core.Option.{Option, none, some}
 use mathlib.Core.List.{List, [], _∷_}

@@ -1,6 +1,6 @@
 -- The tables of a design: what the reader leaves in the lent slices of a text that it accepts. 01: The line; Refused because of the text; Refused
 -- because of the state.
--- Assumes nothing: these are definitions.
+-- To a reader: definitions that contracts of this and other crates cite; each such contract is proved; check_drivers' own promise cites none of them.
 use mathlib.Core.Path.{_≡_}
 use mathlib.Core.Bool.{Bool, true, false}
 use mathlib.Core.List.{List, [], _∷_}

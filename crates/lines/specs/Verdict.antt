@@ -1,5 +1,5 @@
 -- What the reader answers, in terms of Refusal. 01: Refused because of the text; Forms for specific places.
--- Assumes nothing: these are definitions.
+-- To a reader: definitions that contracts of this and other crates cite; number-of and line-of, an answer's number and line in 01, are to believe.
 use mathlib.Core.Path.{_≡_}
 use mathlib.Core.Bool.{true}
 use mathlib.Core.List.{List}

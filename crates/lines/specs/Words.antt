@@ -1,5 +1,5 @@
 -- The words of 01 as one table, and a word's number. 01: The line.
--- Assumes nothing: these are definitions.
+-- To a reader: definitions that the contracts of this crate cite; each such contract is proved; check_drivers' own promise cites none of them.
 use mathlib.Core.Bool.{true, false}
 use mathlib.Core.List.{List, [], _∷_}
 use Prim.Native.Nat.{ℕ, _+_, _*_}

@@ -1,5 +1,5 @@
 -- A verdict as one number, for programs in other languages. 01: Refused because of the text.
--- Assumes nothing: these are definitions.
+-- To a reader: definitions to believe: what the number that drivercheck_lines returns stands for.
 use Prim.Native.Nat.{ℕ, _+_, _*_}
 use Rattle.spec.specs.Refusal.{Verdict, well-formed, refused}
 

@@ -1,5 +1,5 @@
 -- What the reader gives at its position. 01: The line; Refused because of the text; Refused because of the state; Worthless checks.
--- Assumes nothing: these are definitions.
+-- To a reader: definitions that the contracts of this crate cite; each such contract is proved; check_drivers' own promise cites none of them.
 use mathlib.Core.Path.{_≡_}
 use mathlib.Core.List.{List, [], _∷_}
 use Prim.Native.Nat.{ℕ, _+_, min}

@@ -1,5 +1,5 @@
 -- A run of records: the sites that they stand for, and what is stored there. 01: The site.
--- Assumes nothing: these are definitions.
+-- To a reader: definitions that the contracts of this crate cite; each such contract is proved; check_drivers does not use this crate.
 use mathlib.Core.Bool.{Bool, true, false}
 use mathlib.Core.List.{List, [], _∷_}
 use Prim.Native.Nat.{ℕ}

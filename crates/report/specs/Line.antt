@@ -1,5 +1,5 @@
 -- Report lines in pieces, what the code's records mean, and what writing a piece does to a lent buffer. 01: The report; Refused because of the state.
--- Assumes nothing: these are definitions.
+-- To a reader: definitions that contracts of this and other crates cite; each such contract is proved; check_drivers' own promise cites none of them.
 use mathlib.Core.Path.{_≡_}
 use mathlib.Core.Bool.{Bool, true, false}
 use mathlib.Core.List.{[], _∷_, _++_}

@@ -1,5 +1,5 @@
 -- Where the lines of a module stand in an accepted text, and what is known of them. 01: The line; Refused because of the text.
--- Assumes nothing: these are definitions.
+-- To a reader: definitions that the contracts of steps cite; each such contract is proved; check_drivers' own promise cites none of them.
 use mathlib.Core.Path.{_≡_}
 use mathlib.Core.Bool.{Bool, true, _&&_}
 use mathlib.Core.List.{List, [], _∷_}

@@ -11,7 +11,7 @@ use lib.Dec.{eqb, ltb}
 use lib.ListN.{length}
 use borrow.Author.Tests.{lt-ltb, le-ltb, ltb-true, ltb-false}
 use Rattle.spec.specs.Refusal.{has-name}
-use Rattle.spec.specs.Search.{among}
+use Rattle.spec.specs.DepthFirst.{among}
 use Rattle.spec.specs.Graph.{_∈_, Once}
 use Rattle.spec.specs.Site.{Site, Misused}
 use Rattle.spec.specs.Block.{Pair, Storage, has-pair}
@@ -20,8 +20,9 @@ use Rattle.spec.proofs.Lists.{once-length, once-append}
 use Rattle.spec.proofs.Flags.{unnamed}
 use Rattle.sites.specs.declared.Stored.{Stored}
 use Rattle.sites.specs.declared.Stored.the-variants as stored
-use Rattle.sites.specs.Own.{Own, Port, own-of, no-rows, row, rows-in, site-table, pair-table, site-from, pair-from, names, entry-names, first-kept, grown, room, added, add-site, add-pair, add-output, add-reg, add-mem, add-misuse, with-pairs}
+use Rattle.sites.specs.Own.{Own, Port, own-of, row, rows-in, site-table, pair-table, site-from, pair-from, names, entry-names, first-kept, grown, room, added, add-site, add-pair, add-output, add-reg, add-mem, add-misuse, with-pairs}
 use Rattle.sites.proofs.Rows.{run-length, rows-limit}
+use Rattle.sites.proofs.Cleared.{no-rows}
 use Rattle.sites.proofs.Kept.{with-pair}
 
 -- the numbers below n

@@ -1,6 +1,6 @@
 -- The tables of a module's own check, all in one run of numbers, and what it means. 01: The line; The value; The site; The block;
 -- Refused because of the state.
--- Assumes nothing: these are definitions.
+-- To a reader: definitions that contracts of this and other crates cite; each such contract is proved; check_drivers' own promise needs only places.
 use mathlib.Core.Path.{_≡_}
 use mathlib.Core.Bool.{Bool, true, false, _&&_, _||_}
 use mathlib.Core.List.{List, [], _∷_, _++_}
@@ -223,10 +223,6 @@ own-of own =
       misuses = items misused-from misuse-table own;
       conflicts = items conflict-from conflict-table own;
     }
-
--- 01, The site; The block: tables with no row
-abbrev pub no-rows : Own
-no-rows = record { sites = []; pairs = []; outputs = []; regs = []; mems = []; misuses = []; conflicts = [] }
 
 -- 01, The site; The block; Refused because of the state: what an addition answers, and the tables that it leaves
 pub record Added : Type 0 where

@@ -14,10 +14,10 @@ use Rattle.spec.specs.Value.{value-of-name, within, bit-length, clog2-bi
 use Rattle.spec.specs.Collect.{collect-rounds, repeat-rounds, collect-repeat, collect-branch, collect-inner, collect-items, collection}
 use Rattle.spec.specs.Site.{kind-of, lvalue-extent, line-sites, sites, index-constants, place-constants, line-constants, any-outside, lines-outside, sites-of, meets-any, first-conflict, stmt-misuses, stmts-misuses, line-misuses, misuses, once-a-name, misused-names, insert-conflict, conflicts, conflict-names, line-outputs, output-lines, first-lines, outputs, only-ranges, width-value, covered, gap-from, first-gap, deciding-width, coverage}
 use Rattle.spec.specs.Block.{stmt-pairs, stmts-pairs, line-pairs, has-pair, different-pairs, all-pairs, pairs, block-count, line-regs, line-mems, storage-lines, first-storage, regs, mems}
-use Rattle.spec.specs.Search.{backwards, in-turn, among, each-once, back-to, step, search}
+use Rattle.spec.specs.DepthFirst.{backwards, in-turn, among, each-once, back-to, step, search}
 use Rattle.spec.specs.Edge.{field-reads, expr-reads, exprs-reads, index-reads, reaches, conn-reads, place-value, has-output, output-heads, inst-edges, line-heads, inst-of, all-nodes, head-nodes, all-reads, reads-of, edges-from, edge-count, over-graph}
 use Rattle.spec.specs.Summary.{onward, inputs-among, inputs-reached, paired, top-outputs, outputs-reach, module-summary, kept-summary, triples, ask-for, lines-heads, make-summary, comb-summary, module-heads}
-use Rattle.spec.specs.Walk.{start-of, insert-node, ascending, next-nodes, roots, find-cycles}
+use Rattle.spec.specs.FindCycles.{start-of, insert-node, ascending, next-nodes, roots, find-cycles}
 use Rattle.spec.specs.Report.{show-node, show-nodes, show-report, show-reports}
 use Rattle.spec.specs.Check.{Answer, Checked, refuse, accept, answer-read, program-buffer, misuse-reports, conflict-reports, output-reports, widths-out, storage-reports, loop-reports, check-module-drivers, check-modules, check-design, answer-checked, check-drivers}
 use Rattle.spec.specs.Cases.{Outcome, accepted, refused, answer-of, Case, program-prints, Answers, Prints, Holds, P1, P2, P3, P4, P5, P6, P7, P8, P9, P10, Ten-cases}

@@ -1,5 +1,5 @@
 -- The graph that the check searches is the relation Edge: what a module's heads read, with plain summaries, are its edges, and so its
--- search reports nothing exactly where no edges lead back, and reports edge loops.
+-- search reports nothing exactly where no edges lead back, and reports edge loops. This asks something only of what the module leads to.
 -- Assumes nothing.
 use mathlib.Core.Path.{_≡_, refl, sym, _∙_, ap, subst, subst⁻¹, subst₂}
 use mathlib.Core.Logic.{_⊎_, inl, inr, ⊎-elim, _↔_}
@@ -10,21 +10,25 @@ use lib.ListN.{length, getElem?}
 use Rattle.spec.specs.Syntax.{Kind, in-kind, Expr, LValue, Inst, Item, port, wire, reg, mem, const, drive, on, inst, repeat, const-if, Header, Module, Design}
 use Rattle.spec.specs.Value.{Names}
 use Rattle.spec.specs.Collect.{Collected}
-use Rattle.spec.specs.Site.{kind-of, Output, Driving, an-output, a-wire, a-reg, a-mem, nothing, driving}
-use Rattle.spec.specs.Edge.{Node, signal, inst-out, Reads, Head, Heads, no-heads, Summary, drive-heads, output-heads, inst-edges, line-heads, inst-of, index-of, place-value, all-reads}
+use Rattle.spec.specs.Site.{kind-of, Driving, an-output, a-wire, a-reg, a-mem, nothing, driving}
+use Rattle.spec.specs.Edge.{Node, signal, inst-out, Reads, expr-reads, Head, Heads, no-heads, Summary, drive-heads, output-heads, inst-edges, line-heads, inst-of, index-of, place-value, all-reads}
 use Rattle.spec.specs.Summary.{is-input, onward, Kept, module-heads}
-use Rattle.spec.specs.Walk.{next-nodes, find-cycles}
+use Rattle.spec.specs.FindCycles.{next-nodes, find-cycles}
 use Rattle.spec.specs.Graph.{_∈_, Chain, last, ClosedWalk}
-use Rattle.spec.specs.Walks.{Reached}
-use Rattle.spec.specs.Opened.{lines-of, header-of, Instance, instances-from, instances, instance-index, own-heads, lines-own-heads, reads-to, top-outputs-of}
+use Rattle.spec.specs.DepthFirstFinds.{Reached}
+use Rattle.spec.specs.Hierarchy.{Instance, Acyclic, Unheaded, From}
+use Rattle.spec.specs.Opened.{connections-to}
+use Rattle.spec.specs.DesignHierarchy.{lines-of, header-of, line-instance-at, instances, own-heads, lines-own-heads, out-names, hierarchy}
 use Rattle.spec.specs.Premises.{NotWired}
-use Rattle.spec.specs.Summaries.{NoModuleInsideItself, summary-for, heads-by, own-graph, summary-to, plain-summary, plain-heads, PlainTable}
+use Rattle.spec.specs.Summaries.{summary-for, heads-by, own-graph, summary-to, plain-summary, plain-heads, PlainTable}
 use Rattle.spec.proofs.Numbers.{if-case}
 use Rattle.spec.proofs.Nodes.{read-by, reads-all, next-read, read-next, read-reads-of}
-use Rattle.spec.proofs.Loops.{loops}
-use Rattle.spec.proofs.HeadLaws.{headed-by, by-headed, own-headed, headed-own, line-or-inst, inst-no-own, conn-read, read-conn, output-head, head-output, instance-line, line-instance}
-use Rattle.spec.proofs.Summaries.{summaries, header-at, outputs-at, input-is, signal-same, signal-not-out, onward-reads, to-missing, to-own, of-summary}
-use Rattle.spec.proofs.ModuleEdge.{Edge, own, through, Walks, stop, step, EdgeChain, EdgeLoop}
+use Rattle.spec.proofs.CyclesFound.{cycles-found}
+use Rattle.spec.proofs.HeadLaws.{headed-by, by-headed, own-headed, headed-own, line-or-inst, inst-no-own, reads-to, conn-read, read-conn, output-head, head-output, instance-origin, origin-instance}
+use Rattle.spec.proofs.Summaries.{summaries, header-at, outputs-at, instances-missing, input-is, signal-same, signal-not-out, onward-reads, to-missing, to-own, of-summary}
+use Rattle.spec.proofs.Copies.{in-targets, leads-here, from-inside}
+use Rattle.spec.proofs.Acyclic.{acyclic-step}
+use Rattle.spec.specs.OwnGraph.{Edge, own, through, Walks, stop, step, EdgeChain, EdgeLoop}
 
 -- what an instance line heads
 inst-heads : (s : ℕ → Summary) (hs : List Header) (names : Names) (i : Inst)
@@ -34,13 +38,13 @@ inst-heads s hs names i = refl
 
 -- a read through an instance: a pair of its module's summary, and a connection to the input of that pair
 record Through (s : ℕ → Summary) (d : Design) (m : ℕ) (n x : Node) : Type 0 where
-  instance : Instance
+  instance : Instance ℕ
   out : ℕ
   input : ℕ
   listed : instance ∈ instances d m
-  pair : (out, input) ∈ s (instance .inst .«module»)
-  node : inst-out (instance .inst .name) (instance-index instance) out ≡ n
-  read : x ∈ reads-to (header-of d m) (instance .names) input (instance .inst .conns)
+  pair : (out, input) ∈ s (instance .target)
+  node : inst-out (instance .name) (instance .index) out ≡ n
+  read : x ∈ connections-to input (instance .connections)
 
 module _ (s : ℕ → Summary) (d : Design) (missing : (m : ℕ) → getElem? d m ≡ none → s m ≡ []) (m : ℕ) where
   -- the pair and the connection behind a head of an instance line
@@ -56,18 +60,14 @@ module _ (s : ℕ → Summary) (d : Design) (missing : (m : ℕ) → getElem? d 
       let q = conn-read (header-of d m) names (s (i .«module»)) (r .0) (i .conns) x (subst (λ z. x ∈ z) (r .1 .1) g) in
       (r .0, q .0, q .1, sym (r .1 .0) ∙ f, q .2)
 
-  behind-through : (n x : Node) (j : Instance) → j ∈ instances d m → Behind (j .inst) (j .names) n x → Through s d m n x
-  behind-through n x j l (o, p, a, b, c) = record { instance = j; out = o; input = p; listed = l; pair = a; node = b; read = c }
-
   inst-read : (n x : Node) (c : Collected) (i : Inst) → c ∈ lines-of d m → c .item ≡ inst i → Behind i (c .names) n x → Through s d m n x
-  unfolding instances
-  inst-read n x c i l e b = go (getElem? d (i .«module»)) refl
+  inst-read n x c i l e (o, p, a, b, r) = go (getElem? d (i .«module»)) refl
     where
-      go : (o : Option Module) → getElem? d (i .«module») ≡ o → Through s d m n x
-      go none f = absurd (List·Memᴰ·not-nil (subst (λ z. (b .0, b .1) ∈ z) (missing (i .«module») f) (b .2)))
+      go : (z : Option Module) → getElem? d (i .«module») ≡ z → Through s d m n x
+      go none f = absurd (List·Memᴰ·not-nil (subst (λ z. (o, p) ∈ z) (missing (i .«module») f) a))
       go (some k) f =
-          let r = line-instance d 0 (lines-of d m) c i k l e f in
-          behind-through n x (r .0) (r .1) (subst₂ (λ a b. Behind a b n x) (sym (r .2)) (sym (r .3)) b)
+          let (j, u) = origin-instance d m c i k l e f in
+          record { instance = line-instance-at (header-of d m) j i (c .names) (i .«module»); out = o; input = p; listed = u; pair = a; node = b; read = r }
 
   -- what the own graph reads: what own heads read, or what is read through an instance
   graph-reads : (n x : Node) → x ∈ all-reads (own-graph s d m) n → (x ∈ all-reads (own-heads d m) n) ⊎ Through s d m n x
@@ -100,45 +100,43 @@ module _ (s : ℕ → Summary) (d : Design) (missing : (m : ℕ) → getElem? d 
       go h c t (inr (i, e)) =
           absurd (List·Memᴰ·not-nil (subst (λ z. h ∈ z) (inst-no-own (header-of d m) (c .names) i) (subst (λ z. h ∈ line-heads (header-of d m) (c .names) [] z .heads) e t)))
 
-  through-read : (n x : Node) → Through s d m n x → x ∈ all-reads (own-graph s d m) n
-  unfolding own-graph instances
-  through-read n x t =
-      let j = t .instance in
-      let l = instance-line d 0 (lines-of d m) j (t .listed) in
-      let r = head-output (header-of d m) (j .names) (j .inst) (instance-index j) (s (j .inst .«module»)) (s (j .inst .«module»)) (t .out) (t .input) (t .pair) in
-      let h = subst (λ (z : Heads). r .0 ∈ z .heads) (sym (inst-heads s (header-of d m) (j .names) (j .inst))) (r .1) in
+  behind-read : (n x : Node) (c : Collected) (i : Inst) → c ∈ lines-of d m → c .item ≡ inst i → Behind i (c .names) n x → x ∈ all-reads (own-graph s d m) n
+  unfolding own-graph
+  behind-read n x c i l e (o, p, a, b, y) =
+      let r = head-output (header-of d m) (c .names) i (index-of (place-value (c .names) (i .place))) (s (i .«module»)) (s (i .«module»)) o p a in
+      let h = subst (λ (z : Heads). r .0 ∈ z .heads) (sym (inst-heads s (header-of d m) (c .names) i)) (r .1) in
       reads-all (heads-by s (header-of d m) (lines-of d m)) n
-      (by-headed s (header-of d m) (lines-of d m) (l .0) (r .0) (l .1)
-      (subst₂ (λ names z. r .0 ∈ line-heads (header-of d m) names (summary-for s (inst-of z)) z .heads) (sym (l .3)) (sym (l .2)) h))
-      (r .2 .0 ∙ t .node)
-      (subst (λ z. x ∈ z) (sym (r .2 .1)) (read-conn (header-of d m) (j .names) (s (j .inst .«module»)) (t .out) (t .input) (j .inst .conns) x (t .pair) (t .read)))
+      (by-headed s (header-of d m) (lines-of d m) c (r .0) l (subst (λ z. r .0 ∈ line-heads (header-of d m) (c .names) (summary-for s (inst-of z)) z .heads) (sym e) h))
+      (r .2 .0 ∙ b)
+      (subst (λ z. x ∈ z) (sym (r .2 .1)) (read-conn (header-of d m) (c .names) (s (i .«module»)) o p (i .conns) x a y))
+
+  through-read : (n x : Node) → Through s d m n x → x ∈ all-reads (own-graph s d m) n
+  through-read n x t =
+      let (c, i, l, q, e, f) = instance-origin d m (t .instance) (t .listed) in
+      behind-read n x c i l e
+      (t .out, t .input, subst (λ z. (t .out, t .input) ∈ s (z .target)) f (t .pair), subst (λ z. inst-out (z .name) (z .index) (t .out) ≡ n) f (t .node), subst (λ z. x ∈ connections-to (t .input) (z .connections)) f (t .read))
 
 -- Reads are edges, whatever the depth of the summaries: needs no premise.
 module _ (d : Design) where
   -- each pair of s is an output and an input of its module, and edges lead from the one to the other
   abbrev Sound : (ℕ → Summary) → Type 0
-  Sound s =
-      (m o p : ℕ) → (o, p) ∈ s m
-      → ((q : Output) × (q ∈ top-outputs-of d m) × (q .name ≡ o)) × (kind-of (header-of d m) p ≡ some in-kind) × Walks d m (signal o) (signal p)
+  Sound s = (m o p : ℕ) → (o, p) ∈ s m → (o ∈ out-names d m) × (kind-of (header-of d m) p ≡ some in-kind) × Walks (hierarchy d) m (signal o) (signal p)
 
-  through-edge : (s : ℕ → Summary) → Sound s → (m : ℕ) (n x : Node) → Through s d m n x → Edge d m n x
+  through-edge : (s : ℕ → Summary) → Sound s → (m : ℕ) (n x : Node) → Through s d m n x → Edge (hierarchy d) m n x
   through-edge s sound m n x t =
       let j = t .instance in
-      let r = sound (j .inst .«module») (t .out) (t .input) (t .pair) in
-      let q = r .0 .0 in
-      let w = subst (λ z. Walks d (j .inst .«module») (signal z) (signal (t .input))) (sym (r .0 .2)) (r .2) in
-      let e = through {m = m} {y = x} j q (t .input) (t .listed) (r .0 .1) (r .1) w (t .read) in
-      subst (λ z. Edge d m z x) (ap (λ z. inst-out (j .inst .name) (instance-index j) z) (r .0 .2) ∙ t .node) e
+      let r = sound (j .target) (t .out) (t .input) (t .pair) in
+      subst (λ z. Edge (hierarchy d) m z x) (t .node) (through {m = m} {y = x} j (t .out) (t .input) (t .listed) (r .0) (r .1) (r .2) (t .read))
 
-  graph-edge : (s : ℕ → Summary) → ((m : ℕ) → getElem? d m ≡ none → s m ≡ []) → Sound s → (m : ℕ) (n x : Node) → x ∈ all-reads (own-graph s d m) n → Edge d m n x
+  graph-edge : (s : ℕ → Summary) → ((m : ℕ) → getElem? d m ≡ none → s m ≡ []) → Sound s → (m : ℕ) (n x : Node) → x ∈ all-reads (own-graph s d m) n → Edge (hierarchy d) m n x
   graph-edge s missing sound m n x l = ⊎-elim (λ i. own i) (λ t. through-edge s sound m n x t) (graph-reads s d missing m n x l)
 
-  chain-walks : (m : ℕ) (next : Node → List Node) → ((a b : Node) → b ∈ next a → Edge d m a b) → (a : Node) (l : List Node) → Chain next a l → Walks d m a (last a l)
+  chain-walks : (m : ℕ) (next : Node → List Node) → ((a b : Node) → b ∈ next a → Edge (hierarchy d) m a b) → (a : Node) (l : List Node) → Chain next a l → Walks (hierarchy d) m a (last a l)
   chain-walks m next f a [] c = stop
   chain-walks m next f a (b ∷ l) c = step (f a b (c .0)) (chain-walks m next f b l (c .1))
 
-  pub reached-walks : (m : ℕ) (next : Node → List Node) → ((a b : Node) → b ∈ next a → Edge d m a b) → (a z : Node) → Reached next (a ∷ []) z → Walks d m a z
-  reached-walks m next f a z (r, l, i, c, e) = subst₂ (λ a z. Walks d m a z) (List·Memᴰ·eq-of-singleton i) e (chain-walks m next f r l c)
+  pub reached-walks : (m : ℕ) (next : Node → List Node) → ((a b : Node) → b ∈ next a → Edge (hierarchy d) m a b) → (a z : Node) → Reached next (a ∷ []) z → Walks (hierarchy d) m a z
+  reached-walks m next f a z (r, l, i, c, e) = subst₂ (λ a z. Walks (hierarchy d) m a z) (List·Memᴰ·eq-of-singleton i) e (chain-walks m next f r l c)
 
   to-sound : (f : ℕ) → Sound (summary-to f d)
   unfolding summary-to
@@ -146,21 +144,21 @@ module _ (d : Design) where
   to-sound (suc f) m o p i = go (to-sound f) (getElem? d m) refl
     where
       go : Sound (summary-to f d) → (x : Option Module) → getElem? d m ≡ x
-          → ((q : Output) × (q ∈ top-outputs-of d m) × (q .name ≡ o)) × (kind-of (header-of d m) p ≡ some in-kind) × Walks d m (signal o) (signal p)
+          → (o ∈ out-names d m) × (kind-of (header-of d m) p ≡ some in-kind) × Walks (hierarchy d) m (signal o) (signal p)
       go sound none e = absurd (List·Memᴰ·not-nil (subst (λ z. (o, p) ∈ z) (to-missing (suc f) d m e) i))
       go sound (some k) e =
           let g = own-graph (summary-to f d) d m in
           let r = of-summary k g o p (subst (λ z. (o, p) ∈ z) (to-own f d m k e) i) in (
-            (r .0 .0, subst (λ z. r .0 .0 ∈ z) (sym (outputs-at d m k e)) (r .0 .1), r .0 .2),
+            subst (λ z. o ∈ z) (sym (outputs-at d m k e)) (r .0),
             subst (λ z. kind-of z p ≡ some in-kind) (sym (header-at d m k e)) (r .1),
             reached-walks m (onward (k .header) g) (λ a b h. graph-edge (summary-to f d) (to-missing f d) sound m a b (onward-reads (k .header) g a b h)) (signal o) (signal p) (r .2),
           )
 
-  plain-edge : (m : ℕ) (n x : Node) → x ∈ all-reads (plain-heads d m) n → Edge d m n x
+  plain-edge : (m : ℕ) (n x : Node) → x ∈ all-reads (plain-heads d m) n → Edge (hierarchy d) m n x
   unfolding plain-heads plain-summary
   plain-edge m n x l = graph-edge (plain-summary d) (to-missing (suc (length d)) d) (to-sound (suc (length d))) m n x l
 
--- Edges are reads: needs that no module contains itself, and that no wire line heads an in-kind name.
+-- Edges are reads: needs that from the module on none contains itself, and that nothing there heads an in-kind name.
 
 -- a kind of which a drive heads nothing
 abbrev pub Undriven : Kind → Type 0
@@ -193,29 +191,51 @@ line-not k u hs names (inst j) h f i = absurd (List·Memᴰ·not-nil i)
 line-not k u hs names (repeat n l t is) h f i = absurd (List·Memᴰ·not-nil i)
 line-not k u hs names (const-if c is js) h f i = absurd (List·Memᴰ·not-nil i)
 
--- so such a name reads nothing by its module's lines
-pub own-not : (k : Kind) → Undriven k → (d : Design) → NotWired k d → (m n : ℕ) (x : Node) → x ∈ all-reads (own-heads d m) (signal n) → ¬ (kind-of (header-of d m) n ≡ some k)
-unfolding own-heads
-own-not k u d wires m n x j =
-    let r = read-by (lines-own-heads (header-of d m) (lines-of d m)) (signal n) j in
-    let c = own-headed (header-of d m) (lines-of d m) (r .0) (r .1) in
-    line-not k u (header-of d m) (c .0 .names) (c .0 .item) (r .0) (wires m (c .0) (c .1)) (c .2) n (r .2)
+-- a wire line heads its name, whatever the kind
+abbrev wire-head : List Header → Names → ℕ → Expr → ℕ → Head
+wire-head hs names n e start = record { node = signal n; start = start; reads = expr-reads e hs names .nodes }
 
-module _ (d : Design) (apart : NoModuleInsideItself d) (wires : NotWired in-kind d) where
+wire-heads : (hs : List Header) (names : Names) (n : ℕ) (e : Expr) (start : ℕ) → wire-head hs names n e start ∈ line-heads hs names [] (wire n e start) .heads
+unfolding line-heads
+wire-heads hs names n e start = List·Memᴰ·head refl
+
+-- so nothing heads a name of such a kind exactly where no wire line does
+pub unheaded : (k : Kind) → Undriven k → (d : Design) (m : ℕ) → NotWired k d m ↔ Unheaded (hierarchy d) k m
+unfolding own-heads
+unheaded k u d m = (
+  λ wires h i n e.
+      let c = own-headed (header-of d m) (lines-of d m) h i in
+      line-not k u (header-of d m) (c .0 .names) (c .0 .item) h (wires (c .0) (c .1)) (c .2) n e,
+  λ heads c i n start e f.
+      let h = wire-head (header-of d m) (c .names) n e start in
+      heads h
+      (headed-own (header-of d m) (lines-of d m) c h i (subst⁻¹ (λ z. h ∈ line-heads (header-of d m) (c .names) [] z .heads) f (wire-heads (header-of d m) (c .names) n e start))) n refl,
+)
+
+module _ (d : Design) where
+  -- what is asked of a module, and so of those that it leads to
+  abbrev pub Good : ℕ → Type 0
+  Good m = Acyclic (hierarchy d) m × From (hierarchy d) (Unheaded (hierarchy d) in-kind) m
+
+  good-inside : (m : ℕ) (i : Instance ℕ) → i ∈ instances d m → Good m → Good (i .target)
+  good-inside m i u g = (acyclic-step (hierarchy d) m (i .target) (in-targets u) (g .0), from-inside (hierarchy d) (Unheaded (hierarchy d) in-kind) m i u (g .1))
+
   plain-missing : (m : ℕ) → getElem? d m ≡ none → plain-summary d m ≡ []
-  plain-missing = summaries d apart .missing
+  plain-missing = summaries d .missing
 
   -- an in-kind name reads nothing in its module
-  input-no-reads : (m n : ℕ) (x : Node) → x ∈ all-reads (plain-heads d m) (signal n) → ¬ (kind-of (header-of d m) n ≡ some in-kind)
+  input-no-reads : (m : ℕ) → Good m → (n : ℕ) (x : Node) → x ∈ all-reads (plain-heads d m) (signal n) → ¬ (kind-of (header-of d m) n ≡ some in-kind)
   unfolding plain-heads
-  input-no-reads m n x i = ⊎-elim (λ j. own-not in-kind (λ lv r. refl) d wires m n x j) (λ t. absurd (signal-not-out n _ _ _ (sym (t .node)))) (graph-reads (plain-summary d) d plain-missing m (signal n) x i)
+  input-no-reads m good n x i =
+      ⊎-elim (λ j. let (h, u, e, v) = read-by (own-heads d m) (signal n) j in good .1 m (leads-here (hierarchy d) m) h u n e) (λ t. absurd (signal-not-out n _ _ _ (sym (t .node))))
+      (graph-reads (plain-summary d) d plain-missing m (signal n) x i)
 
   -- so a walk may as well stop there
-  read-onward : (m : ℕ) (n x : Node) → x ∈ all-reads (plain-heads d m) n → x ∈ onward (header-of d m) (plain-heads d m) n
+  read-onward : (m : ℕ) → Good m → (n x : Node) → x ∈ all-reads (plain-heads d m) n → x ∈ onward (header-of d m) (plain-heads d m) n
   unfolding onward
-  read-onward m (signal n) x i =
-      if-case (λ z. x ∈ z) (is-input (kind-of (header-of d m) n)) _ _ (λ e. absurd (input-no-reads m n x i (input-is (kind-of (header-of d m) n) e))) (λ e. read-reads-of (plain-heads d m) (signal n) i)
-  read-onward m (inst-out j y o) x i = read-reads-of (plain-heads d m) (inst-out j y o) i
+  read-onward m good (signal n) x i =
+      if-case (λ z. x ∈ z) (is-input (kind-of (header-of d m) n)) _ _ (λ e. absurd (input-no-reads m good n x i (input-is (kind-of (header-of d m) n) e))) (λ e. read-reads-of (plain-heads d m) (signal n) i)
+  read-onward m good (inst-out j y o) x i = read-reads-of (plain-heads d m) (inst-out j y o) i
 
   abbrev Onward : ℕ → Node → Node → Type 0
   Onward m a z = (l : List Node) × Chain (onward (header-of d m) (plain-heads d m)) a l × (last a l ≡ z)
@@ -223,17 +243,16 @@ module _ (d : Design) (apart : NoModuleInsideItself d) (wires : NotWired in-kind
   onward-reached : (m : ℕ) (a z : Node) → Onward m a z → Reached (onward (header-of d m) (plain-heads d m)) (a ∷ []) z
   onward-reached m a z (l, c, e) = (a, l, List·Memᴰ·head refl, c, e)
 
-  through-reads : (m : ℕ) (y : Node) (i : Instance) (o : Output) (p : ℕ) → i ∈ instances d m → o ∈ top-outputs-of d (i .inst .«module») → kind-of (header-of d (i .inst .«module»)) p ≡ some in-kind
-      → Onward (i .inst .«module») (signal (o .name)) (signal p) → y ∈ reads-to (header-of d m) (i .names) p (i .inst .conns)
-      → y ∈ all-reads (plain-heads d m) (inst-out (i .inst .name) (instance-index i) (o .name))
+  through-reads : (m : ℕ) (y : Node) (i : Instance ℕ) (o p : ℕ) → Acyclic (hierarchy d) (i .target) → i ∈ instances d m → o ∈ out-names d (i .target) → kind-of (header-of d (i .target)) p ≡ some in-kind
+      → Onward (i .target) (signal o) (signal p) → y ∈ connections-to p (i .connections) → y ∈ all-reads (plain-heads d m) (inst-out (i .name) (i .index) o)
   unfolding plain-heads
-  through-reads m y i o p l t k w r =
-      through-read (plain-summary d) d plain-missing m (inst-out (i .inst .name) (instance-index i) (o .name)) y (record {
+  through-reads m y i o p acyclic l t k w r =
+      through-read (plain-summary d) d plain-missing m (inst-out (i .name) (i .index) o) y (record {
         instance = i;
-        out = o .name;
+        out = o;
         input = p;
         listed = l;
-        pair = summaries d apart .reachability (i .inst .«module») (o .name) p .1 ((o, t, refl), k, onward-reached (i .inst .«module») (signal (o .name)) (signal p) w);
+        pair = summaries d .reachability (i .target) o p acyclic .1 (t, k, onward-reached (i .target) (signal o) (signal p) w);
         node = refl;
         read = r;
       })
@@ -242,75 +261,69 @@ module _ (d : Design) (apart : NoModuleInsideItself d) (wires : NotWired in-kind
   unfolding plain-heads
   own-reads m n x i = own-read (plain-summary d) d plain-missing m n x i
 
-  edge-read : {m : ℕ} {n x : Node} → Edge d m n x → x ∈ all-reads (plain-heads d m) n
-  edge-read {m} {n} {x} e = elim e as (λ m n x e′. x ∈ all-reads (plain-heads d m) n) (λ m a z w. Onward m a z) [
-    | own {m = m} {n = n} {x = x} i ↦ own-reads m n x i
-    | through {m = m} {y = y} i o p l t k (w → onward-w) r ↦ through-reads m y i o p l t k onward-w r
-    | stop ↦ ([], tt, refl)
-    | step {m = m} {a = a} {b = b} (e → read-e) (w → onward-w) ↦ (b ∷ onward-w .0, (read-onward m a b read-e, onward-w .1), onward-w .2)
+  edge-read : {m : ℕ} {n x : Node} → Edge (hierarchy d) m n x → Good m → x ∈ all-reads (plain-heads d m) n
+  edge-read {m} {n} {x} e = elim e as (λ m n x e′. Good m → x ∈ all-reads (plain-heads d m) n) (λ m a z w. Good m → Onward m a z) [
+    | own {m = m} {n = n} {x = x} i ↦ λ good. own-reads m n x i
+    | through {m = m} {y = y} i o p l t k (w → onward-w) r ↦ λ good. let g = good-inside m i l good in through-reads m y i o p (g .0) l t k (onward-w g) r
+    | stop ↦ λ good. ([], tt, refl)
+    | step {m = m} {a = a} {b = b} (e → read-e) (w → onward-w) ↦ λ good. let r = onward-w good in (b ∷ r .0, (read-onward m good a b (read-e good), r .1), r .2)
   ]
 
-  plain-edges : (m : ℕ) (n x : Node) → x ∈ next-nodes (plain-heads d m) n ↔ Edge d m n x
-  plain-edges m n x = (λ i. plain-edge d m n x (next-read (plain-heads d m) n i), λ e. read-next (plain-heads d m) n (edge-read e))
+  plain-edges : (m : ℕ) → Good m → (n x : Node) → x ∈ next-nodes (plain-heads d m) n ↔ Edge (hierarchy d) m n x
+  plain-edges m good n x = (λ i. plain-edge d m n x (next-read (plain-heads d m) n i), λ e. read-next (plain-heads d m) n (edge-read e good))
 
 -- A search whose next nodes are edges of a module,
-module _ (d : Design) (m : ℕ) (hs : List Head) (reads : (n x : Node) → x ∈ next-nodes hs n → Edge d m n x) where
-  chain-edges : (n : Node) (l : List Node) → Chain (next-nodes hs) n l → EdgeChain d m n l
+module _ (d : Design) (m : ℕ) (hs : List Head) (reads : (n x : Node) → x ∈ next-nodes hs n → Edge (hierarchy d) m n x) where
+  chain-edges : (n : Node) (l : List Node) → Chain (next-nodes hs) n l → EdgeChain (hierarchy d) m n l
   chain-edges n [] c = tt
   chain-edges n (x ∷ l) c = (reads n x (c .0), chain-edges x l (c .1))
 
-  walk-loop : (w : List Node) → ClosedWalk (next-nodes hs) w → EdgeLoop d m w
+  walk-loop : (w : List Node) → ClosedWalk (next-nodes hs) w → EdgeLoop (hierarchy d) m w
   walk-loop [] c = c
   walk-loop (n ∷ []) c = c
   walk-loop (n ∷ x ∷ l) c = (chain-edges n (x ∷ l) (c .0), c .1)
 
-  pub cycles-loop : (w : List Node) → w ∈ find-cycles hs → EdgeLoop d m w
-  cycles-loop w i = walk-loop w (loops hs .walks w i .0)
+  pub cycles-loop : (w : List Node) → w ∈ find-cycles hs → EdgeLoop (hierarchy d) m w
+  cycles-loop w i = walk-loop w (cycles-found hs .walks w i .0)
 
 -- and one whose next nodes are all of them.
-module _ (d : Design) (m : ℕ) (hs : List Head) (edges : (n x : Node) → x ∈ next-nodes hs n ↔ Edge d m n x) where
-  edges-chain : (n : Node) (l : List Node) → EdgeChain d m n l → Chain (next-nodes hs) n l
+module _ (d : Design) (m : ℕ) (hs : List Head) (edges : (n x : Node) → x ∈ next-nodes hs n ↔ Edge (hierarchy d) m n x) where
+  edges-chain : (n : Node) (l : List Node) → EdgeChain (hierarchy d) m n l → Chain (next-nodes hs) n l
   edges-chain n [] c = tt
   edges-chain n (x ∷ l) c = (edges n x .1 (c .0), edges-chain x l (c .1))
 
-  loop-walk : (w : List Node) → EdgeLoop d m w → ClosedWalk (next-nodes hs) w
+  loop-walk : (w : List Node) → EdgeLoop (hierarchy d) m w → ClosedWalk (next-nodes hs) w
   loop-walk [] c = c
   loop-walk (n ∷ []) c = c
   loop-walk (n ∷ x ∷ l) c = (edges-chain n (x ∷ l) (c .0), c .1)
 
-  cycles-none : find-cycles hs ≡ [] ↔ ((v : List Node) → ¬ EdgeLoop d m v)
-  cycles-none = (λ e v l. loops hs .none .0 e v (loop-walk v l), λ h. loops hs .none .1 (λ w c. h w (walk-loop d m hs (λ n x. edges n x .0) w c)))
+  cycles-none : find-cycles hs ≡ [] ↔ ((v : List Node) → ¬ EdgeLoop (hierarchy d) m v)
+  cycles-none = (λ e v l. cycles-found hs .none .0 e v (loop-walk v l), λ h. cycles-found hs .none .1 (λ w c. h w (walk-loop d m hs (λ n x. edges n x .0) w c)))
 
 -- A module past the end has no edges.
 own-heads-missing : (d : Design) (m : ℕ) → getElem? d m ≡ none → own-heads d m ≡ []
 unfolding own-heads lines-of lines-own-heads
 own-heads-missing d m e = rw (e, lines-of)
 
-instances-missing : (d : Design) (m : ℕ) → getElem? d m ≡ none → instances d m ≡ []
-unfolding instances lines-of instances-from
-instances-missing d m e = rw (e, lines-of)
-
-pub no-edge-missing : (d : Design) (m : ℕ) → getElem? d m ≡ none → (n x : Node) → ¬ Edge d m n x
+pub no-edge-missing : (d : Design) (m : ℕ) → getElem? d m ≡ none → (n x : Node) → ¬ Edge (hierarchy d) m n x
 unfolding all-reads
 no-edge-missing d m f n x (own i) = List·Memᴰ·not-nil (subst (λ z. x ∈ all-reads z n) (own-heads-missing d m f) i)
 no-edge-missing d m f n x (through j o p i t k w r) = List·Memᴰ·not-nil (subst (λ z. j ∈ z) (instances-missing d m f) i)
 
-pub no-loop-missing : (d : Design) (m : ℕ) → getElem? d m ≡ none → (v : List Node) → ¬ EdgeLoop d m v
+pub no-loop-missing : (d : Design) (m : ℕ) → getElem? d m ≡ none → (v : List Node) → ¬ EdgeLoop (hierarchy d) m v
 no-loop-missing d m f [] l = l
 no-loop-missing d m f (n ∷ []) l = l
 no-loop-missing d m f (n ∷ x ∷ v) l = no-edge-missing d m f n x (l .0 .0)
 
 -- The theorems, of the heads that the check of module m searches, whatever was summarised before.
-module _ (d : Design) (apart : NoModuleInsideItself d) (wires : NotWired in-kind d) (m : ℕ) (k : Module) (at : getElem? d m ≡ some k) (kept : Kept) (plain : PlainTable d kept) where
-  pub check-edge : (n x : Node) → x ∈ next-nodes (module-heads d kept k (lines-of d m) .heads) n ↔ Edge d m n x
-  check-edge n x =
-      subst⁻¹ (λ hs. x ∈ next-nodes hs n ↔ Edge d m n x) (summaries d apart .module-graph kept plain m k at)
-      (plain-edges d apart wires m n x)
+module _ (d : Design) (m : ℕ) (good : Good d m) (k : Module) (at : getElem? d m ≡ some k) (kept : Kept) (plain : PlainTable d kept) where
+  pub check-edge : (n x : Node) → x ∈ next-nodes (module-heads d kept k (lines-of d m) .heads) n ↔ Edge (hierarchy d) m n x
+  check-edge n x = subst⁻¹ (λ hs. x ∈ next-nodes hs n ↔ Edge (hierarchy d) m n x) (summaries d .headed kept plain m k at .0 (good .0)) (plain-edges d m good n x)
 
   -- no report just where no edges lead back
-  pub check-none : find-cycles (module-heads d kept k (lines-of d m) .heads) ≡ [] ↔ ((v : List Node) → ¬ EdgeLoop d m v)
+  pub check-none : find-cycles (module-heads d kept k (lines-of d m) .heads) ≡ [] ↔ ((v : List Node) → ¬ EdgeLoop (hierarchy d) m v)
   check-none = cycles-none d m (module-heads d kept k (lines-of d m) .heads) check-edge
 
   -- each walk reported leads back by edges
-  pub check-loop : (w : List Node) → w ∈ find-cycles (module-heads d kept k (lines-of d m) .heads) → EdgeLoop d m w
+  pub check-loop : (w : List Node) → w ∈ find-cycles (module-heads d kept k (lines-of d m) .heads) → EdgeLoop (hierarchy d) m w
   check-loop w i = cycles-loop d m (module-heads d kept k (lines-of d m) .heads) (λ n x. check-edge n x .0) w i

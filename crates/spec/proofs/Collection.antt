@@ -1,21 +1,21 @@
 -- Collection: rounds taken and left add up, no item is collected more often than there are rounds, and a place names one item.
 -- Assumes nothing.
-use mathlib.Core.Path.{_≡_, refl, sym, _∙_, ap}
+use mathlib.Core.Path.{_≡_, refl, sym, _∙_, ap, ap₂}
 use mathlib.Core.Bool.{Bool, true, false, cond, true≢false, false≢true}
 use mathlib.Core.Logic.{_⊎_, inl, inr}
-use mathlib.Core.List.{List, [], _∷_, _++_, append-assoc, List·Memᴰ·head, List·Memᴰ·tail, List·Memᴰ·not-nil, List·Memᴰ·cases-cons, List·Memᴰ·append-cases}
+use mathlib.Core.List.{List, [], _∷_, _++_, append-assoc, append-nil, List·Memᴰ·head, List·Memᴰ·tail, List·Memᴰ·not-nil, List·Memᴰ·cases-cons, List·Memᴰ·append-cases}
 use Prim.Native.Nat.{ℕ, zero, suc, _+_, _-_, _≤_, _<_, max}
 use native.Mathlib.Omega.{arith}
 use lib.ListN.{length, length-append}
 use lib.Dec.{eqb, ltb}
-use lib.IntN.{ℤ, pos, negsuc, subℕ, _+ℤ_, _-ℤ_}
-use borrow.Author.Tests.{eqb-true, eq-eqb, ltb-false, lt-ltb, le-ltb}
-use Rattle.spec.specs.Syntax.{Expr, Item, Items, port, wire, reg, mem, const, drive, on, inst, repeat, const-if, Module}
-use Rattle.spec.specs.Value.{Value, known, missing, outside, Names, value, is-zero, int-lt, name-table}
+use lib.IntN.{ℤ, pos, negsuc, subℕ, _+ℤ_, _-ℤ_, +ℤ-idr, +ℤ-assoc}
+use borrow.Author.Tests.{eqb-true, eq-eqb, ne-eqb, ltb-false, lt-ltb, le-ltb}
+use Rattle.spec.specs.Syntax.{Expr, name, Item, Items, port, wire, reg, mem, const, drive, on, inst, repeat, const-if, Module}
+use Rattle.spec.specs.Value.{Value, known, missing, outside, Names, value-of-name, value, is-zero, int-lt, name-table}
 use Rattle.spec.specs.Collect.{round-limit, Collected, Collection, then-collect, collect-none, collect-rounds, spent, repeat-rounds, collect-repeat, collect-branch, line-then, collect-inner, collect-items, collection}
 use Rattle.spec.specs.Graph.{_∈_}
 use Rattle.spec.proofs.Numbers.{if-case}
-use Rattle.spec.specs.Collection.{same-at, times, OneCollection, OneRepeat, OneConstIf, Collecting}
+use Rattle.spec.specs.Collection.{same-at, times, left-before, rounds-below, OneCollection, OneRepeat, OneConstIf, Collecting}
 
 -- `same-at` decides equality
 pub same-at-yes : (a b : List ℕ) → same-at a b ≡ true → a ≡ b
@@ -392,11 +392,84 @@ module _ (body : Names → ℕ → Collection) (n : ℕ) (names : Names) (left :
   repeat-once missing w f = refl
   repeat-once outside w f = refl
 
+-- ---- rounds in order
+
+then-same : (a : Collection) (f g : ℕ → Collection) → f (a .left) ≡ g (a .left) → then-collect a f ≡ then-collect a g
+then-same a f g e = ap (λ b. record { lines = a .lines ++ b .lines; left = b .left; taken = a .taken + b .taken }) e
+
+then-assoc : (a : Collection) (f g : ℕ → Collection) → then-collect a (λ l. then-collect (f l) g) ≡ then-collect (then-collect a f) g
+then-assoc a f g =
+    let b = f (a .left) in
+    let c = g (b .left) in
+    ap₂ (λ x t. record { lines = x; left = c .left; taken = t }) (sym (append-assoc (a .lines) (b .lines) (c .lines))) (omega arith)
+
+then-none : (a : Collection) → then-collect a (λ l. collect-none l) ≡ a
+then-none a = ap₂ (λ x t. record { lines = x; left = a .left; taken = t }) (append-nil (a .lines)) (omega arith)
+
+none-then : (left : ℕ) (f : ℕ → Collection) → then-collect (collect-none left) f ≡ f left
+none-then left f = ap (λ t. record { lines = f left .lines; left = f left .left; taken = t }) (omega arith)
+
+module _ (body : Names → ℕ → Collection) (n : ℕ) (names : Names) where
+  abbrev run : ℤ → ℕ → ℕ → Collection
+  run v i = body ((n, v +ℤ pos i) ∷ names)
+
+  -- one round more, at the end
+  rounds-last : (count : ℕ) (v : ℤ) (left : ℕ) → collect-rounds body n v (suc count) names left ≡ then-collect (collect-rounds body n v count names left) (run v count)
+  unfolding collect-rounds
+  rounds-last zero v left =
+      then-none (body ((n, v) ∷ names) left) ∙ ap (λ z. body ((n, z) ∷ names) left) (sym (+ℤ-idr v)) ∙ sym (none-then left (run v 0))
+  rounds-last (suc count) v left =
+      let a = body ((n, v) ∷ names) left in
+      let e : (v +ℤ pos 1) +ℤ pos count ≡ v +ℤ pos (suc count) = +ℤ-assoc v (pos 1) (pos count) ∙ ap (λ z. v +ℤ pos z) (omega arith) in
+      then-same a (collect-rounds body n (v +ℤ pos 1) (suc count) names) (λ l. then-collect (collect-rounds body n (v +ℤ pos 1) count names l) (run (v +ℤ pos 1) count)) (rounds-last count (v +ℤ pos 1) (a .left))
+      ∙ then-assoc a (collect-rounds body n (v +ℤ pos 1) count names) (run (v +ℤ pos 1) count)
+      ∙ ap (λ z. then-collect (then-collect a (collect-rounds body n (v +ℤ pos 1) count names)) (body ((n, z) ∷ names))) e
+
+  rounds-are : (count : ℕ) (v : ℤ) (left : ℕ) → collect-rounds body n v count names left ≡ rounds-below (run v) left count
+  unfolding collect-rounds rounds-below left-before
+  rounds-are zero v left = refl
+  rounds-are (suc count) v left = rounds-last count v left ∙ go count (rounds-are count v left)
+    where
+      left-is : (c : ℕ) → rounds-below (run v) left c .left ≡ left-before (run v) left c
+      left-is zero = refl
+      left-is (suc c) = refl
+
+      go : (c : ℕ) → collect-rounds body n v c names left ≡ rounds-below (run v) left c → then-collect (collect-rounds body n v c names left) (run v c) ≡ rounds-below (run v) left (suc c)
+      go c e = ap (λ b. then-collect b (run v c)) e ∙ ap (λ l. let r = run v c l in record { lines = rounds-below (run v) left c .lines ++ r .lines; left = r .left; taken = rounds-below (run v) left c .taken + r .taken }) (left-is c)
+
+-- ---- the names of a list of items
+
+beside : (is : Items) (at : List ℕ) (k : ℕ) (names : Names) (left : ℕ) (c : Collected) (j : ℕ) → c ∈ collect-items is at k names left .lines → c .at ≡ j ∷ at → c .names ≡ names
+unfolding collect-items
+beside Items.none at k names left c j m e = absurd (List·Memᴰ·not-nil m)
+beside (Items.more i is) at k names left c j m e =
+    let inner = collect-inner i (k ∷ at) names left in
+    first (List·Memᴰ·append-cases (record { at = k ∷ at; item = i; names = names } ∷ inner .lines) m) (λ h. beside is at (suc k) names (inner .left) c j h e)
+  where
+    in-first : (c ≡ record { at = k ∷ at; item = i; names = names }) ⊎ (c ∈ collect-inner i (k ∷ at) names left .lines) → c .names ≡ names
+    in-first (inl h) = ap (λ z. z .names) h
+    in-first (inr h) =
+        let kept = inner-kept i (k ∷ at) in
+        let w = kept .placed (c .at) (c .item) (kept .ok names left .each c h) in
+        absurd (omega (arith, ap length e, ap length (w .1 .1), length-append (w .1 .0) (w .0 ∷ k ∷ at)))
+
+    first : {rest : List Collected} → (c ∈ (record { at = k ∷ at; item = i; names = names } ∷ collect-inner i (k ∷ at) names left .lines)) ⊎ (c ∈ rest) → (c ∈ rest → c .names ≡ names) → c .names ≡ names
+    first (inl h) f = in-first (List·Memᴰ·cases-cons h)
+    first (inr h) f = f h
+
+own-value : (n : ℕ) (v : ℤ) (names : Names) → value ((n, v) ∷ names) (name n) ≡ known v
+unfolding value value-of-name
+own-value n v names = rw (eq-eqb n n refl, value-of-name)
+
+other-values : (n k : ℕ) (v : ℤ) (names : Names) → ¬ (k ≡ n) → value ((n, v) ∷ names) (name k) ≡ value names (name k)
+unfolding value value-of-name
+other-values n k v names d = rw (ne-eqb n k (λ e. d (sym e)), value-of-name)
+
 one-repeat : (n : ℕ) (low high : Expr) (is : Items) (at : List ℕ) (names : Names) (left : ℕ) → OneRepeat n low high is at names left
 unfolding collect-inner
 one-repeat n low high is at names left = record {
   none = λ l h e d g. both l h e d ∙ rounds-down body n names left l (h -ℤ l) (not-above l h g);
-  fitting = λ l h rounds e d g f. both l h e d ∙ rounds-fit body n names left l (h -ℤ l) rounds g f;
+  fitting = λ l h rounds e d g f. both l h e d ∙ rounds-fit body n names left l (h -ℤ l) rounds g f ∙ ap (spent rounds) (rounds-are body n names rounds l (left - rounds));
   too-many = λ l h rounds e d g f. both l h e d ∙ rounds-over body n names left l (h -ℤ l) rounds g f;
   no-bound = repeat-once body n names left (value names low) (value names high);
 }
@@ -424,4 +497,13 @@ one-const-if c is js at names left = record {
 
 -- The theorem.
 pub collecting : Collecting
-collecting = record { modules = one-collection; repeats = one-repeat; const-ifs = one-const-if }
+unfolding collect-items
+collecting = record {
+  modules = one-collection;
+  repeats = one-repeat;
+  const-ifs = one-const-if;
+  own-value = own-value;
+  other-values = other-values;
+  each-item = λ i is at k names left. refl;
+  beside = beside;
+}

@@ -14,7 +14,7 @@ use Rattle.spec.specs.Syntax.{Header}
 use Rattle.spec.specs.Refusal.{Before, decode, lines, ends-in-feed, Verdict, well-formed, refused, refusal}
 use Rattle.spec.specs.Collect.{Collected}
 use Rattle.spec.specs.Block.{Pair, has-pair, different-pairs, all-pairs, pairs}
-use Rattle.spec.specs.Search.{each-once}
+use Rattle.spec.specs.DepthFirst.{each-once}
 use Rattle.spec.specs.Edge.{Node, same-node, Head, all-nodes, head-nodes, reads-of, edges-from, edge-count}
 use Rattle.spec.specs.Report.{show-reports}
 use Rattle.spec.specs.Check.{check-design, refuse, Lent, too-short, check-drivers}

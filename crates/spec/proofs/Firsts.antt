@@ -8,7 +8,8 @@ use Prim.Native.Nat.{ℕ}
 use Rattle.spec.specs.Refusal.{has-name}
 use Rattle.spec.specs.Graph.{_∈_, Once}
 use Rattle.spec.specs.Situations.{First}
-use Rattle.spec.specs.Meaning.{InOrder, NamedBefore, StandsBefore}
+use Rattle.spec.specs.Meaning.{NamedBefore}
+use Rattle.spec.specs.DepthFirstFinds.{InOrder, StandsBefore}
 use Rattle.spec.proofs.Flags.{named-in, not-named, unnamed}
 
 -- ---- lists
@@ -54,12 +55,40 @@ order-stands {A} done (a ∷ l) = (
   subst (λ z. InOrder (StandsBefore z) l) (append-assoc done (a ∷ []) l) (order-stands (done ++ a ∷ []) l),
 )
 
-pub once-stands : {A : Type 0} {l : List A} {a : A} → Once l → ¬ StandsBefore l a a
-once-stands {A} {l} {a} o s = go (s .front) (subst Once (s .parted) o)
+-- where none stands twice, what stands behind does not stand before
+pub stands-one-way : {A : Type 0} (l : List A) (a b : A) → Once l → StandsBefore l a b → StandsBefore l b a → ⊥
+stands-one-way {A} l a b o p q = go (p .front) (q .front) (subst Once (p .parted) o) (sym (p .parted) ∙ q .parted)
   where
-    go : (front : List A) → Once (front ++ a ∷ s .back) → ⊥
-    go [] p = p .0 (s .behind)
-    go (b ∷ front) p = go front (p .1)
+    go : (f f′ : List A) → Once (f ++ a ∷ p .back) → f ++ a ∷ p .back ≡ f′ ++ b ∷ q .back → ⊥
+    go [] [] o e = o .0 (subst⁻¹ (λ z. a ∈ z) (tail-same e) (q .behind))
+    go [] (y ∷ f′) o e = o .0 (subst⁻¹ (λ z. a ∈ z) (tail-same e) (Memᴰ·append-right f′ (List·Memᴰ·tail (q .behind))))
+    go (x ∷ f) [] o e = o .0 (Memᴰ·cast (head-same e) (Memᴰ·append-right f (List·Memᴰ·tail (p .behind))))
+    go (x ∷ f) (y ∷ f′) o e = go f f′ (o .1) (tail-same e)
+
+-- ---- lists with the same members in the same order
+
+module _ {A : Type 0} (R : A → A → Type 0) (one-way : (a b : A) → R a b → R b a → ⊥) where
+  pub same-list : (l k : List A) → Once l → Once k → InOrder R l → InOrder R k → ((a : A) → a ∈ l ↔ a ∈ k) → l ≡ k
+  same-list [] [] o o′ p p′ h = refl
+  same-list [] (b ∷ k) o o′ p p′ h = absurd (List·Memᴰ·not-nil (h b .1 (List·Memᴰ·head refl)))
+  same-list (a ∷ l) [] o o′ p p′ h = absurd (List·Memᴰ·not-nil (h a .0 (List·Memᴰ·head refl)))
+  same-list (a ∷ l) (b ∷ k) o o′ p p′ h =
+      let e : a ≡ b = heads (List·Memᴰ·cases-cons (h a .0 (List·Memᴰ·head refl))) (List·Memᴰ·cases-cons (h b .1 (List·Memᴰ·head refl))) in
+      let t : l ≡ k = same-list l k (o .1) (o′ .1) (p .1) (p′ .1) (λ c. (λ i. down c e i (List·Memᴰ·cases-cons (h c .0 (List·Memᴰ·tail i))), λ i. up c e i (List·Memᴰ·cases-cons (h c .1 (List·Memᴰ·tail i))))) in
+      λ i. e i ∷ t i
+    where
+      heads : (a ≡ b) ⊎ (a ∈ k) → (b ≡ a) ⊎ (b ∈ l) → a ≡ b
+      heads (inl e) y = e
+      heads (inr i) (inl e) = sym e
+      heads (inr i) (inr j) = absurd (one-way a b (p .0 b j) (p′ .0 a i))
+
+      down : (c : A) → a ≡ b → c ∈ l → (c ≡ b) ⊎ (c ∈ k) → c ∈ k
+      down c e i (inl d) = absurd (o .0 (Memᴰ·cast (e ∙ sym d) i))
+      down c e i (inr j) = j
+
+      up : (c : A) → a ≡ b → c ∈ k → (c ≡ a) ⊎ (c ∈ l) → c ∈ l
+      up c e i (inl d) = absurd (o′ .0 (Memᴰ·cast (sym e ∙ sym d) i))
+      up c e i (inr j) = j
 
 -- ---- lists gathered from lists
 

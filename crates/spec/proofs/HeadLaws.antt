@@ -5,7 +5,8 @@ use mathlib.Core.Bool.{Bool, true, false, _&&_, _||_, true≢false, false≢true
 use mathlib.Core.Logic.{_⊎_, inl, inr, ⊎-elim}
 use mathlib.Core.Option.{Option, some, none, Option·some-injective, Option·none-ne-some}
 use mathlib.Core.List.{List, [], _∷_, _++_, List·Memᴰ·head, List·Memᴰ·tail, List·Memᴰ·not-nil, List·Memᴰ·cases-cons, List·Memᴰ·append-cases, Memᴰ·append-left, Memᴰ·append-right, Memᴰ·cast}
-use Prim.Native.Nat.{ℕ, suc}
+use Prim.Native.Nat.{ℕ, suc, _+_}
+use native.Mathlib.Omega.{arith}
 use lib.Dec.{eqb}
 use lib.ListN.{getElem?}
 use lib.IntN.{ℤ}
@@ -15,7 +16,9 @@ use Rattle.spec.specs.Syntax.{Conn, Inst, Item, Header, port, wire, reg,
 use Rattle.spec.specs.Collect.{Collected}
 use Rattle.spec.specs.Edge.{Node, signal, inst-out, Reads, expr-reads, Head, Heads, Summary, reaches, conn-reads, has-output, output-heads, inst-edges, line-heads, inst-of}
 use Rattle.spec.specs.Graph.{_∈_}
-use Rattle.spec.specs.Opened.{reads-to, lines-own-heads, Instance, exists, instances-from}
+use Rattle.spec.specs.Hierarchy.{Instance}
+use Rattle.spec.specs.Opened.{connections-to}
+use Rattle.spec.specs.DesignHierarchy.{lines-of, header-of, lines-own-heads, connections-of, line-instance-at, instances-from, module-opened, instances}
 use Rattle.spec.specs.Summaries.{summary-for, heads-by}
 use Rattle.spec.proofs.Numbers.{if-case}
 use Rattle.spec.proofs.Nodes.{and-parts, or-parts}
@@ -106,12 +109,15 @@ in-reaches o p (q ∷ s) m =
     (λ i. true-right (eqb o (q .0) && eqb p (q .1)) (reaches o p s) (in-reaches o p s i)) m
 
 -- what the connections to an input read
+abbrev pub reads-to : List Header → Names → ℕ → List Conn → List Node
+reads-to hs names p cs = connections-to p (connections-of hs names cs)
+
 pub to-later : (hs : List Header) (names : Names) (p : ℕ) (c : Conn) (cs : List Conn) {y : Node} → y ∈ reads-to hs names p cs → y ∈ reads-to hs names p (c ∷ cs)
-unfolding reads-to
+unfolding connections-to connections-of
 to-later hs names p c cs {y} m = if-case (λ z. y ∈ z) (eqb p (c .port)) _ _ (λ e. Memᴰ·append-right (expr-reads (c .signal) hs names .nodes) m) (λ e. m)
 
 pub to-first : (hs : List Header) (names : Names) (c : Conn) (cs : List Conn) {y : Node} → y ∈ expr-reads (c .signal) hs names .nodes → y ∈ reads-to hs names (c .port) (c ∷ cs)
-unfolding reads-to
+unfolding connections-to connections-of
 to-first hs names c cs {y} m = if-case (λ z. y ∈ z) (eqb (c .port) (c .port)) _ _ (λ e. Memᴰ·append-left (reads-to hs names (c .port) cs) m) (λ e. absurd (eqb-false (c .port) (c .port) e refl))
 
 -- the connections to the inputs that an output reaches
@@ -126,7 +132,7 @@ conn-read hs names s o (c ∷ cs) y m =
     (λ e i. let r = conn-read hs names s o cs y i in (r .0, r .1, to-later hs names (r .0) c cs (r .2))) m
 
 pub read-conn : (hs : List Header) (names : Names) (s : Summary) (o p : ℕ) (cs : List Conn) (y : Node) → (o, p) ∈ s → y ∈ reads-to hs names p cs → y ∈ conn-reads hs names s o cs .nodes
-unfolding conn-reads reads-to
+unfolding conn-reads connections-to connections-of
 read-conn hs names s o p [] y i m = absurd (List·Memᴰ·not-nil m)
 read-conn hs names s o p (c ∷ cs) y i m =
     if-case (λ (z : Reads). y ∈ z .nodes) (reaches o (c .port) s) _ _
@@ -193,46 +199,76 @@ pub inst-of-inst : (i : Inst) → inst-of (inst i) ≡ some i
 unfolding inst-of
 inst-of-inst i = refl
 
-pub there : {A : Type 0} (o : Option A) → exists o ≡ true → (a : A) × (o ≡ some a)
-there none e = absurd (false≢true e)
-there (some a) e = (a, refl)
+-- the instances among lines, which stand from k on, are the instance lines that open something; the position tells the line
+module _ {Key : Type 0} (opens : Inst → Names → Option Key) (hs : List Header) where
+  abbrev pub InstanceLine : ℕ → List Collected → Instance Key → Type 0
+  InstanceLine k cs i =
+      (c : Collected) × (a : Inst) × (n : ℕ) × (t : Key) × (c ∈ cs) × (c .item ≡ inst a) × (opens a (c .names) ≡ some t) × (i ≡ line-instance-at hs (k + n) a (c .names) t) × (getElem? cs n ≡ some c)
 
--- the instances among lines are the instance lines whose module exists
-abbrev pub InstanceLine : Design → List Collected → Instance → Type 0
-InstanceLine d cs i = (c : Collected) × (c ∈ cs) × (c .item ≡ inst (i .inst)) × (c .names ≡ i .names) × ((k : Module) × (getElem? d (i .inst .«module») ≡ some k))
+  line-later : (k : ℕ) (cs : List Collected) (i : Instance Key) (c : Collected) → InstanceLine (suc k) cs i → InstanceLine k (c ∷ cs) i
+  line-later k cs i c (l, a, n, t, m, e, g, f, q) =
+      let p : suc k + n ≡ k + suc n = omega arith in
+      (l, a, suc n, t, List·Memᴰ·tail m, e, g, f ∙ ap (λ z. line-instance-at hs z a (l .names) t) p, q)
 
-line-later : (d : Design) (cs : List Collected) (i : Instance) (c : Collected) → InstanceLine d cs i → InstanceLine d (c ∷ cs) i
-line-later d cs i c (b, m, e, f, g) = (b, List·Memᴰ·tail m, e, f, g)
+  pub instance-line : (k : ℕ) (cs : List Collected) (i : Instance Key) → i ∈ instances-from opens hs k cs → InstanceLine k cs i
+  unfolding instances-from
+  instance-line k [] i m = absurd (List·Memᴰ·not-nil m)
+  instance-line k (c ∷ cs) i m =
+      option-case (λ z. i ∈ z → InstanceLine k (c ∷ cs) i) (inst-of (c .item)) _ _
+      (λ e j. line-later k cs i c (instance-line (suc k) cs i j))
+      (λ a e. option-case (λ z. i ∈ z → InstanceLine k (c ∷ cs) i) (opens a (c .names)) _ _
+      (λ f j. line-later k cs i c (instance-line (suc k) cs i j))
+      (λ t f. let p : k ≡ k + 0 = omega arith in
+      in-first (λ g. (c, a, 0, t, List·Memᴰ·head refl, inst-is (c .item) a e, f, g ∙ ap (λ z. line-instance-at hs z a (c .names) t) p, refl))
+      (λ j. line-later k cs i c (instance-line (suc k) cs i j)))) m
 
-pub instance-line : (d : Design) (k : ℕ) (cs : List Collected) (i : Instance) → i ∈ instances-from d k cs → InstanceLine d cs i
-unfolding instances-from
-instance-line d k [] i m = absurd (List·Memᴰ·not-nil m)
-instance-line d k (c ∷ cs) i m =
-    option-case (λ z. i ∈ z → InstanceLine d (c ∷ cs) i) (inst-of (c .item)) _ _
-    (λ e j. line-later d cs i c (instance-line d (suc k) cs i j))
-    (λ a e. if-case (λ z. i ∈ z → InstanceLine d (c ∷ cs) i) (exists (getElem? d (a .«module»))) _ _
-    (λ f. in-first
-    (λ g. (
-      c,
-      List·Memᴰ·head refl,
-      inst-is (c .item) a e ∙ ap (λ z. inst (z .inst)) (sym g),
-      ap (λ z. z .names) (sym g),
-      there (getElem? d (i .inst .«module»)) (ap (λ z. exists (getElem? d (z .inst .«module»))) g ∙ f),
-    ))
-    (λ j. line-later d cs i c (instance-line d (suc k) cs i j)))
-    (λ f j. line-later d cs i c (instance-line d (suc k) cs i j))) m
+  pub line-instance : (k : ℕ) (cs : List Collected) (c : Collected) (a : Inst) (t : Key) → c ∈ cs → c .item ≡ inst a → opens a (c .names) ≡ some t
+      → (j : ℕ) × (line-instance-at hs j a (c .names) t ∈ instances-from opens hs k cs)
+  unfolding instances-from
+  line-instance k [] c a t m e f = absurd (List·Memᴰ·not-nil m)
+  line-instance k (l ∷ cs) c a t m e f =
+      option-case (λ (z : List (Instance Key)). (j : ℕ) × (line-instance-at hs j a (c .names) t ∈ z)) (inst-of (l .item)) _ _
+      (λ g. in-first (λ h. absurd (Option·none-ne-some a (sym g ∙ same h))) (λ j. line-instance (suc k) cs c a t j e f) m)
+      (λ a′ g. option-case (λ (z : List (Instance Key)). (j : ℕ) × (line-instance-at hs j a (c .names) t ∈ z)) (opens a′ (l .names)) _ _
+      (λ o. in-first (λ h. absurd (Option·none-ne-some t (sym o ∙ opened a′ g h))) (λ j. line-instance (suc k) cs c a t j e f) m)
+      (λ t′ o. in-first
+      (λ h.
+      let p : a′ ≡ a = Option·some-injective a′ a (sym g ∙ same h) in
+      let q : t′ ≡ t = Option·some-injective t′ t (sym o ∙ opened a′ g h) in
+      (k, List·Memᴰ·head (λ i. line-instance-at hs k (sym p i) (h i .names) (sym q i))))
+      (λ j. let r = line-instance (suc k) cs c a t j e f in (r .0, List·Memᴰ·tail (r .1))) m))
+    where
+      same : c ≡ l → inst-of (l .item) ≡ some a
+      same h = ap (λ z. inst-of (z .item)) (sym h) ∙ ap inst-of e ∙ inst-of-inst a
 
-pub line-instance : (d : Design) (k : ℕ) (cs : List Collected) (c : Collected) (a : Inst) (b : Module) → c ∈ cs → c .item ≡ inst a → getElem? d (a .«module») ≡ some b
-    → (i : Instance) × (i ∈ instances-from d k cs) × (i .inst ≡ a) × (i .names ≡ c .names)
-unfolding instances-from
-line-instance d k [] c a b m e f = absurd (List·Memᴰ·not-nil m)
-line-instance d k (l ∷ cs) c a b m e f =
-    option-case (λ (z : List Instance). (i : Instance) × (i ∈ z) × (i .inst ≡ a) × (i .names ≡ c .names)) (inst-of (l .item)) _ _
-    (λ g. in-first (λ h. absurd (Option·none-ne-some a (sym g ∙ ap (λ z. inst-of (z .item)) (sym h) ∙ ap inst-of e ∙ inst-of-inst a))) (λ j. line-instance d (suc k) cs c a b j e f) m)
-    (λ a′ g. if-case (λ (z : List Instance). (i : Instance) × (i ∈ z) × (i .inst ≡ a) × (i .names ≡ c .names)) (exists (getElem? d (a′ .«module»))) _ _
-    (λ t. in-first (λ h. (record { position = k; inst = a′; names = l .names }, List·Memᴰ·head refl, same a′ g h, ap (λ z. z .names) (sym h)))
-    (λ j. let r = line-instance d (suc k) cs c a b j e f in (r .0, List·Memᴰ·tail (r .1), r .2, r .3)) m)
-    (λ t. in-first (λ h. absurd (true≢false (ap exists (sym f) ∙ ap (λ z. exists (getElem? d (z .«module»))) (sym (same a′ g h)) ∙ t))) (λ j. line-instance d (suc k) cs c a b j e f) m))
+      opened : (a′ : Inst) → inst-of (l .item) ≡ some a′ → c ≡ l → opens a′ (l .names) ≡ some t
+      opened a′ g h = let p : a′ ≡ a = Option·some-injective a′ a (sym g ∙ same h) in (λ i. opens (p i) (sym h i .names)) ∙ f
+
+-- of a design: an instance line opens its module where that exists
+pub module-there : (d : Design) (a : Inst) (names : Names) (b : Module) → getElem? d (a .«module») ≡ some b → module-opened d a names ≡ some (a .«module»)
+unfolding module-opened
+module-there d a names b e = rw (e, module-opened)
+
+pub there-module : (d : Design) (a : Inst) (names : Names) (t : ℕ) → module-opened d a names ≡ some t → (t ≡ a .«module») × ((b : Module) × (getElem? d (a .«module») ≡ some b))
+unfolding module-opened
+there-module d a names t e = go (getElem? d (a .«module»)) refl e
   where
-    same : (a′ : Inst) → inst-of (l .item) ≡ some a′ → c ≡ l → a′ ≡ a
-    same a′ g h = Option·some-injective a′ a (sym g ∙ ap (λ z. inst-of (z .item)) (sym h) ∙ ap inst-of e ∙ inst-of-inst a)
+    go : (o : Option Module) → getElem? d (a .«module») ≡ o → elim o as (λ _. Option ℕ) [ none ↦ none | some k ↦ some (a .«module») ] ≡ some t → (t ≡ a .«module») × ((b : Module) × (getElem? d (a .«module») ≡ some b))
+    go none q f = absurd (Option·none-ne-some t f)
+    go (some b) q f = (sym (Option·some-injective (a .«module») t f), (b, q))
+
+-- an instance's line, found by its position
+pub instance-origin : (d : Design) (m : ℕ) (i : Instance ℕ) → i ∈ instances d m
+    → (c : Collected) × (a : Inst) × (c ∈ lines-of d m) × (getElem? (lines-of d m) (i .position) ≡ some c) × (c .item ≡ inst a) × (i ≡ line-instance-at (header-of d m) (i .position) a (c .names) (a .«module»))
+unfolding instances
+instance-origin d m i h =
+    let (c, a, n, t, x, e, g, f, q) = instance-line (module-opened d) (header-of d m) 0 (lines-of d m) i h in
+    let p : i .position ≡ 0 + n = ap (λ z. z .position) f in
+    let r : i .position ≡ n = omega (arith, p) in
+    let s = there-module d a (c .names) t g .0 in
+    (c, a, x, ap (getElem? (lines-of d m)) r ∙ q, e, f ∙ (λ j. line-instance-at (header-of d m) (sym p j) a (c .names) (s j)))
+
+pub origin-instance : (d : Design) (m : ℕ) (c : Collected) (a : Inst) (b : Module) → c ∈ lines-of d m → c .item ≡ inst a → getElem? d (a .«module») ≡ some b
+    → (j : ℕ) × (line-instance-at (header-of d m) j a (c .names) (a .«module») ∈ instances d m)
+unfolding instances
+origin-instance d m c a b x e f = line-instance (module-opened d) (header-of d m) 0 (lines-of d m) c a (a .«module») x e (module-there d a (c .names) b f)

@@ -1,13 +1,14 @@
 -- Lists: membership decided and searched, a list with one place left out, lists with no member twice.
 -- Assumes nothing.
 use Prim.Native.Nat.{suc, _≤_}
-use mathlib.Core.Path.{_≡_, refl, sym, _∙_, ap, subst⁻¹}
+use mathlib.Core.Path.{_≡_, refl, sym, _∙_, ap, subst, subst⁻¹}
 use mathlib.Core.Logic.{_⊎_, inl, inr}
-use mathlib.Core.List.{List, [], _∷_, _++_, map, List·Memᴰ·head, List·Memᴰ·tail, List·Memᴰ·not-nil, List·Memᴰ·cases-cons, List·Memᴰ·append-cases, Memᴰ·cast, Memᴰ·of-map}
+use mathlib.Core.List.{List, [], _∷_, _++_, map, List·Memᴰ·head, List·Memᴰ·tail, List·Memᴰ·not-nil, List·Memᴰ·cases-cons, List·Memᴰ·append-cases, Memᴰ·append-left, Memᴰ·append-right, Memᴰ·cast, Memᴰ·of-map}
 use mathlib.Core.HLevel.{hedberg}
 use lib.ListN.{length}
 use native.Mathlib.Omega.{arith}
 use Rattle.spec.specs.Graph.{_∈_, Once}
+use Rattle.spec.specs.Opened.{concat-map}
 
 module _ {A : Type 0} where
   -- a list with one place left out
@@ -82,3 +83,19 @@ once-append {l = a ∷ l} {k = k} o p apart = (λ m. either (List·Memᴰ·appen
 pub once-map : {A B : Type 0} (f : A → B) → ((a b : A) → f a ≡ f b → a ≡ b) → (l : List A) → Once l → Once (map f l)
 once-map f inj [] o = tt
 once-map f inj (a ∷ l) o = (λ m. let r = Memᴰ·of-map f l m in o .0 (Memᴰ·cast (sym (inj (r .0) a (r .2))) (r .1)), once-map f inj l (o .1))
+
+module _ {A B : Type 0} (f : A → List B) where
+  -- members of what f gives of each member
+  pub in-concat : {a : A} {b : B} (l : List A) → a ∈ l → b ∈ f a → b ∈ concat-map f l
+  unfolding concat-map
+  in-concat {b = b} (c ∷ l) (List·Memᴰ·head e) h = Memᴰ·append-left (concat-map f l) (subst (λ z. b ∈ f z) e h)
+  in-concat (c ∷ l) (List·Memᴰ·tail i) h = Memᴰ·append-right (f c) (in-concat l i h)
+
+  pub of-concat : (b : B) (l : List A) → b ∈ concat-map f l → (a : A) × (a ∈ l) × (b ∈ f a)
+  unfolding concat-map
+  of-concat b [] h = absurd (List·Memᴰ·not-nil h)
+  of-concat b (a ∷ l) h = pick (of-concat b l) (List·Memᴰ·append-cases (f a) h)
+    where
+      pick : (b ∈ concat-map f l → (c : A) × (c ∈ l) × (b ∈ f c)) → (b ∈ f a) ⊎ (b ∈ concat-map f l) → (c : A) × (c ∈ (a ∷ l)) × (b ∈ f c)
+      pick on (inl u) = (a, List·Memᴰ·head refl, u)
+      pick on (inr u) = let r = on u in (r .0, List·Memᴰ·tail (r .1), r .2)

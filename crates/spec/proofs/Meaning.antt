@@ -19,19 +19,20 @@ use Rattle.spec.specs.Site.{Extent, Whole, Dynamic, Unknown, Range, Site
 use Rattle.spec.specs.Block.{all-pairs, pairs, block-count, Storage, line-regs, line-mems, storage-lines, regs, mems}
 use Rattle.spec.specs.Edge.{Node, Head, all-reads}
 use Rattle.spec.specs.Summary.{Kept, module-heads}
-use Rattle.spec.specs.Walk.{start-of, find-cycles, next-nodes}
+use Rattle.spec.specs.FindCycles.{start-of, find-cycles, next-nodes, roots}
+use Rattle.spec.specs.FirstWays.{Reported}
 use Rattle.spec.specs.Report.{Detail, misused, many, never, gap, no-block, blocks, mem-blocks, Report, report, loop-report}
 use Rattle.spec.specs.Check.{misuse-reports, conflict-reports, coverage-report, output-reports, reg-report, mem-report, storage-reports, loop-reports, check-module-drivers, check-modules, check-design}
 use Rattle.spec.specs.Graph.{_∈_, Chain, ClosedWalk}
 use Rattle.spec.specs.Situations.{own-lines, own-names, First, misuses-of, IsMisused, sites-named, Has, Meet, Conflicts, Poisoned, IsOutput, IsRange, AllRanges, SetBy, Several, Holds}
-use Rattle.spec.specs.Meaning.{heads-at, BeginsAt, InOrder, NamedBefore, number-of, stage, StageOrder, Precedes, by-module, by-stage, in-stage, ExactlyOne, Means, all-rounds, Meaning}
+use Rattle.spec.specs.Meaning.{heads-at, BeginsAt, NamedBefore, number-of, stage, StageOrder, Precedes, by-module, by-stage, in-stage, ExactlyOne, Means, all-rounds, Meaning}
+use Rattle.spec.specs.DepthFirstFinds.{InOrder}
 use Rattle.spec.proofs.Flags.{which}
 use Rattle.spec.proofs.Numbers.{if-case}
-use Rattle.spec.proofs.Firsts.{part-at, order-append, order-weaken, order-once, order-stands, once-stands, gather, of-gather, in-gather, gather-order, firsts, firsts-say, first-of, firsts-order}
+use Rattle.spec.proofs.Firsts.{part-at, order-append, order-weaken, order-once, gather, of-gather, in-gather, gather-order, firsts, firsts-say, first-of, firsts-order}
 use Rattle.spec.proofs.Meetings.{meeting-up, no-meetings, conflicts-order, SomeHas, gap-says, no-gap, never-says, gap-covers, none-says, several-says}
-use Rattle.spec.proofs.LoopsOnce.{cycles-once}
 use Rattle.spec.proofs.Nodes.{next-read, read-next}
-use Rattle.spec.proofs.Loops.{loops}
+use Rattle.spec.proofs.CyclesFound.{cycles-found, loops-one-way}
 use Rattle.spec.proofs.Refusals.{accepted-is}
 use Rattle.spec.proofs.Situations.{once-firsts, lines-firsts, storage-firsts, sites-in, misused-in, conflicts-in, poisoned-in, misused-say, sites-fit, conflict-says, clean-says, outputs-say, regs-say, mems-say}
 
@@ -395,7 +396,7 @@ module _ (hs : List Head) (m : ℕ) (k : Module) where
   loop-part = subst⁻¹ (Part hs m k 5) (loops-gathered m hs (find-cycles hs)) (record {
     up = λ r i. let (w, j, x) = of-gather (loop-of m hs) (find-cycles hs) i in loop-up w j r x .0;
     down = down;
-    order = gather-order (loop-of m hs) (find-cycles hs) (order-stands [] (find-cycles hs)) single
+    order = gather-order (loop-of m hs) (find-cycles hs) (cycles-found hs .by-ways .order) single
         (λ a a′ b b′ i i′ s x y. subst₂ (StageOrder hs k) (sym (loop-up a i b x .1 .1)) (sym (loop-up a′ i′ b′ y .1 .1)) s);
   })
     where
@@ -574,7 +575,7 @@ closed-along f g h (n ∷ []) c = c
 closed-along f g h (n ∷ m ∷ l) c = (chain-along f g h n (m ∷ l) (c .0), c .1)
 
 found-closed : (hs : List Head) (w : List Node) → w ∈ find-cycles hs → ClosedWalk (all-reads hs) w
-found-closed hs w i = closed-along (next-nodes hs) (all-reads hs) (λ n m j. next-read hs n j) w (loops hs .walks w i .0)
+found-closed hs w i = closed-along (next-nodes hs) (all-reads hs) (λ n m j. next-read hs n j) w (cycles-found hs .walks w i .0)
 
 closed-found : (hs : List Head) (w : List Node) → ClosedWalk (all-reads hs) w → (n : Node) × (l : List Node) × ((n ∷ l) ∈ find-cycles hs)
 closed-found hs w c = go (find-cycles hs) refl
@@ -584,7 +585,7 @@ closed-found hs w c = go (find-cycles hs) refl
     first (n ∷ l) i = (n, l, i)
 
     go : (ws : List (List Node)) → find-cycles hs ≡ ws → (n : Node) × (l : List Node) × ((n ∷ l) ∈ find-cycles hs)
-    go [] e = absurd (loops hs .none .0 e w (closed-along (all-reads hs) (next-nodes hs) (λ n m j. read-next hs n j) w c))
+    go [] e = absurd (cycles-found hs .none .0 e w (closed-along (all-reads hs) (next-nodes hs) (λ n m j. read-next hs n j) w c))
     go (v ∷ ws) e = first v (subst⁻¹ (λ z. v ∈ z) e (List·Memᴰ·head refl))
 
 -- ---- nothing stands before itself
@@ -604,7 +605,7 @@ stage-irreflexive hs k (report m s n (gap b)) h = not-before-itself h
 stage-irreflexive hs k (report m s n no-block) h = not-before-itself h
 stage-irreflexive hs k (report m s n blocks) h = not-before-itself h
 stage-irreflexive hs k (report m s n mem-blocks) h = not-before-itself h
-stage-irreflexive hs k (loop-report m s w) h = once-stands (cycles-once hs) h
+stage-irreflexive hs k (loop-report m s w) h = loops-one-way hs w w h h
 
 precedes-irreflexive : (d : Design) (r : Report) → ¬ Precedes d r r
 precedes-irreflexive d r (by-module h) = omega arith
@@ -686,13 +687,13 @@ module _ (d : Design) where
     λ (k, e, h). at-down d m d [] 0 k (report m start n x) e (omega arith, h),
   )
 
-  loops-say : (m start : ℕ) (w : List Node) → loop-report m start w ∈ said ↔ ((k : Module) × (getElem? d m ≡ some k) × (w ∈ find-cycles (heads-at d m k)) × BeginsAt (heads-at d m k) start w)
+  loops-say : (m start : ℕ) (w : List Node) → loop-report m start w ∈ said ↔ ((k : Module) × (getElem? d m ≡ some k) × Reported (next-nodes (heads-at d m k)) (roots (heads-at d m k)) w × BeginsAt (heads-at d m k) start w)
   unfolding said
   loops-say m start w = (
     λ i. let a = at-up d d [] 0 (loop-report m start w) i in
         let e : m ≡ a .position = a .says .0 ∙ omega arith in
-        (a .own, subst⁻¹ (λ z. getElem? d z ≡ some (a .own)) e (a .placed), subst⁻¹ (λ z. w ∈ find-cycles (heads-at d z (a .own))) e (a .says .1), subst⁻¹ (λ z. BeginsAt (heads-at d z (a .own)) start w) e (a .says .2)),
-    λ (k, e, j, b). at-down d m d [] 0 k (loop-report m start w) e (omega arith, j, b),
+        (a .own, subst⁻¹ (λ z. getElem? d z ≡ some (a .own)) e (a .placed), cycles-found (heads-at d m (a .own)) .by-ways .exactly w .0 (subst⁻¹ (λ z. w ∈ find-cycles (heads-at d z (a .own))) e (a .says .1)), subst⁻¹ (λ z. BeginsAt (heads-at d z (a .own)) start w) e (a .says .2)),
+    λ (k, e, j, b). at-down d m d [] 0 k (loop-report m start w) e (omega arith, cycles-found (heads-at d m k) .by-ways .exactly w .1 j, b),
   )
 
   later-precedes : (r r′ : Report) → Later d [] 0 d r r′ → Precedes d r r′
@@ -710,8 +711,8 @@ module _ (d : Design) where
   means = record {
     about = about-says;
     loops = loops-say;
-    closed = λ m k e w i. found-closed (heads-at d m k) w i;
-    found = λ m k e w c. let (n, l, i) = closed-found (heads-at d m k) w c in (start-of (heads-at d m k) n, n ∷ l, loops-say m (start-of (heads-at d m k) n) (n ∷ l) .1 (k, e, i, refl));
+    closed = λ m k e w i. found-closed (heads-at d m k) w (cycles-found (heads-at d m k) .by-ways .exactly w .1 i);
+    found = λ m k e w c. let (n, l, i) = closed-found (heads-at d m k) w c in (start-of (heads-at d m k) n, n ∷ l, loops-say m (start-of (heads-at d m k) n) (n ∷ l) .1 (k, e, cycles-found (heads-at d m k) .by-ways .exactly (n ∷ l) .0 i, refl));
     once = order-once (Precedes d) said (λ r i. precedes-irreflexive d r) order-says;
     order = order-says;
     covered = λ m start n width k w e line no-report ranges wide. one-site k start n width w line (λ start′ x h. no-report start′ x (about-says m start′ n x .1 (k, e, h))) ranges wide;

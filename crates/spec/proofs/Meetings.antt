@@ -19,7 +19,7 @@ use Rattle.spec.specs.Site.{kind-of, Extent, Whole, Dynamic, Unknown, Ra
 use Rattle.spec.specs.Block.{Pair, has-pair, different-pairs, block-count}
 use Rattle.spec.specs.Graph.{_∈_, Once}
 use Rattle.spec.specs.Situations.{Has, Meet, FirstMeeting, IsRange, AllRanges, FirstGap}
-use Rattle.spec.specs.Meaning.{InOrder}
+use Rattle.spec.specs.DepthFirstFinds.{InOrder}
 use Rattle.spec.proofs.Flags.{clash, which, not-so, or-cases, or-left, or-right, or-neither, and-both, and-of, named-in, unnamed}
 use Rattle.spec.proofs.Lists.{once-length}
 use Rattle.spec.proofs.Firsts.{head-same, tail-same, not-cons}

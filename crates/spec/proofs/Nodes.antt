@@ -11,12 +11,12 @@ use lib.Dec.{eqb, ltb}
 use lib.IntN.{ℤ, pos, negsuc}
 use borrow.Author.Tests.{eqb-true, eqb-false, eq-eqb, ltb-true, ltb-false, lt-ltb}
 use Rattle.spec.specs.Value.{int-eq, int-lt}
-use Rattle.spec.specs.Search.{among, each-once}
+use Rattle.spec.specs.DepthFirst.{among, each-once}
 use Rattle.spec.specs.Graph.{_∈_, Once}
 use Rattle.spec.specs.Edge.{Node, signal, inst-out, same-index, same-node, Head, all-nodes, head-nodes, all-reads, reads-of}
-use Rattle.spec.specs.Walk.{start-of, index-before, node-before, ascends, insert-node, ascending, next-nodes, roots}
+use Rattle.spec.specs.FindCycles.{start-of, index-before, node-before, ascends, insert-node, ascending, next-nodes, roots}
 use Rattle.spec.proofs.Numbers.{if-case}
-use Rattle.spec.proofs.Search.{among-yes, among-no}
+use Rattle.spec.proofs.DepthFirst.{among-yes, among-no}
 
 -- tests joined
 pub and-parts : (a b : Bool) → a && b ≡ true → (a ≡ true) × (b ≡ true)
@@ -468,6 +468,27 @@ pub reads-listed : {x : Node} {h : Head} (hs : List Head) → h ∈ hs → x ∈
 unfolding all-nodes
 reads-listed {x} (g ∷ hs) (List·Memᴰ·head d) i = List·Memᴰ·tail (Memᴰ·append-left (all-nodes hs) (subst (λ (z : Head). x ∈ z .reads) d i))
 reads-listed (g ∷ hs) (List·Memᴰ·tail j) i = List·Memᴰ·tail (Memᴰ·append-right (g .reads) (reads-listed hs j i))
+
+-- a node is headed or read
+abbrev HeadedOrRead : Node → List Head → Type 0
+HeadedOrRead n hs = ((h : Head) × (h ∈ hs) × (n ≡ h .node)) ⊎ ((h : Head) × (h ∈ hs) × (n ∈ h .reads))
+
+pub of-all-nodes : (hs : List Head) (n : Node) → n ∈ all-nodes hs → HeadedOrRead n hs
+unfolding all-nodes
+of-all-nodes [] n i = absurd (List·Memᴰ·not-nil i)
+of-all-nodes (h ∷ hs) n i = first (of-all-nodes hs n) (List·Memᴰ·cases-cons i)
+  where
+    more : HeadedOrRead n hs → HeadedOrRead n (h ∷ hs)
+    more (inl (g, j, e)) = inl (g, List·Memᴰ·tail j, e)
+    more (inr (g, j, u)) = inr (g, List·Memᴰ·tail j, u)
+
+    second : (n ∈ all-nodes hs → HeadedOrRead n hs) → (n ∈ h .reads) ⊎ (n ∈ all-nodes hs) → HeadedOrRead n (h ∷ hs)
+    second on (inl u) = inr (h, List·Memᴰ·head refl, u)
+    second on (inr u) = more (on u)
+
+    first : (n ∈ all-nodes hs → HeadedOrRead n hs) → (n ≡ h .node) ⊎ (n ∈ (h .reads ++ all-nodes hs)) → HeadedOrRead n (h ∷ hs)
+    first on (inl e) = inl (h, List·Memᴰ·head refl, e)
+    first on (inr u) = second on (List·Memᴰ·append-cases (h .reads) u)
 
 pub read-all : {x : Node} (hs : List Head) (n : Node) → x ∈ all-reads hs n → x ∈ all-nodes hs
 read-all hs n i = let (h, j, e, k) = read-by hs n i in reads-listed hs j k

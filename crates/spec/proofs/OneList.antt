@@ -1,48 +1,27 @@
--- One list only says what specs/Meaning.antt says of a design: its members are given, none stands twice, and the order decides.
+-- One list only says what specs/Meaning.antt says of a design: its members are given, none stands twice, and the order decides. So one
+-- text only does, and from it the list is read back, since printing loses nothing.
 -- Assumes nothing.
-use mathlib.Core.Path.{_≡_, refl, sym, _∙_, ap, subst, subst⁻¹}
-use mathlib.Core.Logic.{_⊎_, inl, inr, _↔_}
+use mathlib.Core.Path.{_≡_, sym, _∙_, ap, subst, subst⁻¹}
+use mathlib.Core.Logic.{_⊎_, inl, inr}
 use mathlib.Core.Option.{some}
-use mathlib.Core.List.{List, [], _∷_, _++_, List·Memᴰ·head, List·Memᴰ·tail, List·Memᴰ·not-nil, List·Memᴰ·cases-cons, Memᴰ·append-right, Memᴰ·cast}
+use mathlib.Core.List.{List, [], _∷_, _++_, List·Memᴰ·head, List·Memᴰ·tail, List·Memᴰ·not-nil, List·Memᴰ·cases-cons}
 use Prim.Native.Nat.{ℕ, zero, suc, _<_}
 use native.Mathlib.Omega.{arith}
 use lib.ListN.{getElem?}
+use Rattle.spec.specs.Bytes.{Bytes}
 use Rattle.spec.specs.Syntax.{Module, Design}
 use Rattle.spec.specs.Site.{output-lines}
 use Rattle.spec.specs.Block.{line-regs, line-mems, storage-lines}
 use Rattle.spec.specs.Edge.{Node, Head}
-use Rattle.spec.specs.Walk.{find-cycles}
-use Rattle.spec.specs.Report.{misused, many, never, gap, no-block, blocks, mem-blocks, Report, report, loop-report}
-use Rattle.spec.specs.Graph.{_∈_, Once}
+use Rattle.spec.specs.FindCycles.{next-nodes, roots}
+use Rattle.spec.specs.FirstWays.{ReportedBefore}
+use Rattle.spec.specs.Report.{misused, many, never, gap, no-block, blocks, mem-blocks, Report, report, loop-report, show-reports}
+use Rattle.spec.specs.Graph.{_∈_}
 use Rattle.spec.specs.Situations.{own-lines, misuses-of}
-use Rattle.spec.specs.Meaning.{heads-at, InOrder, NamedBefore, StandsBefore, number-of, stage, StageOrder, Precedes, by-module, by-stage, in-stage, Means, OneList}
-use Rattle.spec.proofs.Firsts.{head-same, tail-same}
-use Rattle.spec.proofs.LoopsOnce.{cycles-once}
-
--- ---- lists with the same members in the same order
-
-module _ {A : Type 0} (R : A → A → Type 0) (one-way : (a b : A) → R a b → R b a → ⊥) where
-  same-list : (l k : List A) → Once l → Once k → InOrder R l → InOrder R k → ((a : A) → a ∈ l ↔ a ∈ k) → l ≡ k
-  same-list [] [] o o′ p p′ h = refl
-  same-list [] (b ∷ k) o o′ p p′ h = absurd (List·Memᴰ·not-nil (h b .1 (List·Memᴰ·head refl)))
-  same-list (a ∷ l) [] o o′ p p′ h = absurd (List·Memᴰ·not-nil (h a .0 (List·Memᴰ·head refl)))
-  same-list (a ∷ l) (b ∷ k) o o′ p p′ h =
-      let e : a ≡ b = heads (List·Memᴰ·cases-cons (h a .0 (List·Memᴰ·head refl))) (List·Memᴰ·cases-cons (h b .1 (List·Memᴰ·head refl))) in
-      let t : l ≡ k = same-list l k (o .1) (o′ .1) (p .1) (p′ .1) (λ c. (λ i. down c e i (List·Memᴰ·cases-cons (h c .0 (List·Memᴰ·tail i))), λ i. up c e i (List·Memᴰ·cases-cons (h c .1 (List·Memᴰ·tail i))))) in
-      λ i. e i ∷ t i
-    where
-      heads : (a ≡ b) ⊎ (a ∈ k) → (b ≡ a) ⊎ (b ∈ l) → a ≡ b
-      heads (inl e) y = e
-      heads (inr i) (inl e) = sym e
-      heads (inr i) (inr j) = absurd (one-way a b (p .0 b j) (p′ .0 a i))
-
-      down : (c : A) → a ≡ b → c ∈ l → (c ≡ b) ⊎ (c ∈ k) → c ∈ k
-      down c e i (inl d) = absurd (o .0 (Memᴰ·cast (e ∙ sym d) i))
-      down c e i (inr j) = j
-
-      up : (c : A) → a ≡ b → c ∈ k → (c ≡ a) ⊎ (c ∈ l) → c ∈ l
-      up c e i (inl d) = absurd (o′ .0 (Memᴰ·cast (sym e ∙ sym d) i))
-      up c e i (inr j) = j
+use Rattle.spec.specs.Meaning.{heads-at, NamedBefore, number-of, stage, StageOrder, Precedes, by-module, by-stage, in-stage, Means, MeansText, OneList}
+use Rattle.spec.proofs.Firsts.{head-same, tail-same, same-list}
+use Rattle.spec.proofs.CyclesFound.{loops-one-way}
+use Rattle.spec.proofs.Printing.{printing}
 
 -- ---- the order goes one way
 
@@ -71,16 +50,6 @@ named-one-way {A} name l n n′ p q = go (beginnings (p .front) (q .front) (p .b
     go (inl f) = q .other (p .one) (f (p .one) (p .stands)) (p .named)
     go (inr f) = p .other (q .one) (f (q .one) (q .stands)) (q .named)
 
--- where none stands twice, what stands behind does not stand before
-stands-one-way : {A : Type 0} (l : List A) (a b : A) → Once l → StandsBefore l a b → StandsBefore l b a → ⊥
-stands-one-way {A} l a b o p q = go (p .front) (q .front) (subst Once (p .parted) o) (sym (p .parted) ∙ q .parted)
-  where
-    go : (f f′ : List A) → Once (f ++ a ∷ p .back) → f ++ a ∷ p .back ≡ f′ ++ b ∷ q .back → ⊥
-    go [] [] o e = o .0 (subst⁻¹ (λ z. a ∈ z) (tail-same e) (q .behind))
-    go [] (y ∷ f′) o e = o .0 (subst⁻¹ (λ z. a ∈ z) (tail-same e) (Memᴰ·append-right f′ (List·Memᴰ·tail (q .behind))))
-    go (x ∷ f) [] o e = o .0 (Memᴰ·cast (head-same e) (Memᴰ·append-right f (List·Memᴰ·tail (p .behind))))
-    go (x ∷ f) (y ∷ f′) o e = go f f′ (o .1) (tail-same e)
-
 start-one-way : (s n s′ n′ : ℕ) → (s < s′) ⊎ ((s ≡ s′) × (n < n′)) → (s′ < s) ⊎ ((s′ ≡ s) × (n′ < n)) → ⊥
 start-one-way s n s′ n′ (inl h) (inl g) = omega arith
 start-one-way s n s′ n′ (inl h) (inr (e, g)) = omega arith
@@ -103,7 +72,7 @@ KeyOrder hs k (suc zero) a b = (a .start < b .start) ⊎ ((a .start ≡ b .start
 KeyOrder hs k (suc (suc zero)) a b = NamedBefore (λ o. o .name) (output-lines (own-lines k)) (a .name) (b .name)
 KeyOrder hs k (suc (suc (suc zero))) a b = NamedBefore (λ r. r .name) (storage-lines line-regs (own-lines k)) (a .name) (b .name)
 KeyOrder hs k (suc (suc (suc (suc zero)))) a b = NamedBefore (λ r. r .name) (storage-lines line-mems (own-lines k)) (a .name) (b .name)
-KeyOrder hs k (suc (suc (suc (suc (suc i))))) a b = StandsBefore (find-cycles hs) (a .walk) (b .walk)
+KeyOrder hs k (suc (suc (suc (suc (suc i))))) a b = ReportedBefore (next-nodes hs) (roots hs) (a .walk) (b .walk)
 
 key-one-way : (hs : List Head) (k : Module) (i : ℕ) (a b : Key) → KeyOrder hs k i a b → KeyOrder hs k i b a → ⊥
 key-one-way hs k zero a b p q = named-one-way (λ v. v .name) (misuses-of k) (a .name) (b .name) p q
@@ -111,7 +80,7 @@ key-one-way hs k (suc zero) a b p q = start-one-way (a .start) (a .name) (b .sta
 key-one-way hs k (suc (suc zero)) a b p q = named-one-way (λ o. o .name) (output-lines (own-lines k)) (a .name) (b .name) p q
 key-one-way hs k (suc (suc (suc zero))) a b p q = named-one-way (λ r. r .name) (storage-lines line-regs (own-lines k)) (a .name) (b .name) p q
 key-one-way hs k (suc (suc (suc (suc zero)))) a b p q = named-one-way (λ r. r .name) (storage-lines line-mems (own-lines k)) (a .name) (b .name) p q
-key-one-way hs k (suc (suc (suc (suc (suc i))))) a b p q = stands-one-way (find-cycles hs) (a .walk) (b .walk) (cycles-once hs) p q
+key-one-way hs k (suc (suc (suc (suc (suc i))))) a b p q = loops-one-way hs (a .walk) (b .walk) p q
 
 keyed : (hs : List Head) (k : Module) (r r′ : Report) → StageOrder hs k r r′ → KeyOrder hs k (stage r) (key r) (key r′)
 keyed hs k (report m s n (misused u)) (report m′ s′ n′ x) p = p
@@ -150,5 +119,14 @@ means-in : (d : Design) (l l′ : List Report) → Means d l → Means d l′ �
 means-in d l l′ p q (report m start n x) i = q .about m start n x .1 (p .about m start n x .0 i)
 means-in d l l′ p q (loop-report m start w) i = q .loops m start w .1 (p .loops m start w .0 i)
 
+same-reports : (d : Design) (l l′ : List Report) → Means d l → Means d l′ → l ≡ l′
+same-reports d l l′ p q = same-list (Precedes d) (precedes-one-way d) l l′ (p .once) (q .once) (p .order) (q .order) (λ r. (means-in d l l′ p q r, means-in d l′ l q p r))
+
+one-text : (d : Design) (t t′ : Bytes) → MeansText d t → MeansText d t′ → t ≡ t′
+one-text d t t′ (l, e, p) (l′, f, q) = e ∙ ap show-reports (same-reports d l l′ p q) ∙ sym f
+
+read-back : (d : Design) (t : Bytes) → MeansText d t → (l : List Report) → t ≡ show-reports l → Means d l
+read-back d t (l′, e, p) l f = subst (Means d) (printing .same l′ l (sym e ∙ f)) p
+
 pub one-list : OneList
-one-list d l l′ p q = same-list (Precedes d) (precedes-one-way d) l l′ (p .once) (q .once) (p .order) (q .order) (λ r. (means-in d l l′ p q r, means-in d l′ l q p r))
+one-list = record { list = same-reports; text = one-text; read-back = read-back }

@@ -7,8 +7,14 @@ use mathlib.Core.List.{List, [], _∷_, List·Memᴰ·head, List·Memᴰ·tail, 
 use lib.ListN.{length}
 use native.Mathlib.Omega.{arith}
 use native.Mathlib.Decide.{decLt}
-use Rattle.spec.specs.Graph.{Graph, _∈_, Chain, last, Closed, Ranked}
+use Rattle.spec.specs.Graph.{Graph, _∈_, Chain, last, Closed}
 use Rattle.spec.proofs.Lists.{without, length-without, in-without, dec-in, all-or}
+
+-- a rank for each signal, below the number of signals, that falls along reads.
+pub record Ranked (G : Graph) : Type 0 where
+  pub rank : G .Signal → ℕ
+  pub below : (s : G .Signal) → s ∈ G .signals → rank s < length (G .signals)
+  pub falls : (s r : G .Signal) → s ∈ G .signals → r ∈ G .reads s → rank r < rank s
 
 -- the greatest suc (g a) of a list, 0 of none
 top : {A : Type 0} → (A → ℕ) → List A → ℕ

@@ -1,6 +1,6 @@
 -- The proof of the theorem about reading (specs/Reading.antt).
 -- Assumes nothing.
-use mathlib.Core.Path.{_≡_, refl, sym, ap, ap₂, _∙_}
+use mathlib.Core.Path.{_≡_, refl, sym, ap, ap₂, _∙_, subst}
 use mathlib.Core.Bool.{Bool, true, false, _&&_, not as opposite, true≢false, and-eq-true-iff}
 use mathlib.Core.Logic.{_⊎_, inl, inr}
 use mathlib.Core.List.{List, [], _∷_, _++_}
@@ -413,7 +413,7 @@ design-of ls h = let e = none-yet ls at-start h refl in let g = lines-of ls at-s
 
 -- ---- what is shown
 
-lines-feed : (s t : Bytes) → AllIn s → lines (s ++ 10 ∷ t) ≡ s ∷ lines t
+pub lines-feed : (s t : Bytes) → AllIn s → lines (s ++ 10 ∷ t) ≡ s ∷ lines t
 unfolding lines onto
 lines-feed [] t h = refl
 lines-feed (c ∷ s) t h = rw (ne-eqb c 10 (λ e. omega arith), lines) (ap (onto c) (lines-feed s t (h .2)))
@@ -477,9 +477,24 @@ faultless-range (s ∷ l) b h =
     let i = faultless-range l (after-line b (decode-line s)) (h .1) in
     (rw (d, sound-fault b (decode-line s) (c .2), i .0), ap₂ (λ x y. x ++ 10 ∷ y) e (i .1))
 
+-- a line that is one form and written is the one that shows its tree, which is not too deep
+line-written : (s : Bytes) → one-form s ≡ true → written s ≡ true → (l : Line) × (line-depth l ≤ depth-limit) × (show-line l ≡ s)
+line-written s o w =
+    let e = written-eq s w in
+    (decode-line s, leb-true _ _ (sym (show-line-form (decode-line s)) ∙ ap one-form e ∙ o), e)
+
+written-line : (l : Line) → line-depth l ≤ depth-limit → (one-form (show-line l) ≡ true) × (written (show-line l) ≡ true)
+unfolding written
+written-line l d = (show-line-form l ∙ le-leb _ _ d, rw (decode-show-line l d) (same-refl (show-line l)))
+
 pub reading : Reading
 unfolding decode show-design in-range
 reading = record {
+  line-back = decode-show-line;
+  well-written = λ s. (
+    λ h. line-written s (h .0) (h .1),
+    λ h. subst (λ z. (one-form z ≡ true) × (written z ≡ true)) (h .2) (written-line (h .0) (h .1)),
+  );
   decode-show = λ d h. ap (λ ls. gather ls .modules) (decode-shown (design-lines 0 d) at-start h) ∙ ap (λ g. g .modules) (gather-design d 0);
   shown = λ d h n. accepts (show-design d) (record { short = n; all-in-set = set-shown (design-lines 0 d); ends = ends-shown (design-lines 0 d); faultless = faultless-shown (design-lines 0 d) at-start h });
   accepted = λ text e.

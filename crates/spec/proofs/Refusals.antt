@@ -18,7 +18,7 @@ use Rattle.spec.specs.Value.{Value, known, missing, outside, Names, valu
 use Rattle.spec.specs.Collect.{Collected, collection}
 use Rattle.spec.specs.Site.{kind-of, Driving, an-output, a-wire, a-reg, a-mem, nothing, driving, Site, index-constants, line-constants, any-outside, lines-outside, sites, sites-of, Output, outputs, deciding-width}
 use Rattle.spec.specs.Block.{pairs}
-use Rattle.spec.specs.Search.{each-once}
+use Rattle.spec.specs.DepthFirst.{each-once}
 use Rattle.spec.specs.Edge.{same-node, is-inst, name-reads, indexed-reads, field-reads, expr-reads, exprs-reads, and-reads, index-reads, Head, drive-heads, Summary, reaches, conn-reads, has-output, output-heads, index-of, place-value, inst-edges, line-heads, all-nodes, edge-count, node-limit, edge-limit, over-graph, inst-of}
 use Rattle.spec.specs.Summary.{Kept, kept-summary, triples, triple-limit, Asked, ask-for, comb-summary, make-summary, Headed, lines-heads, module-heads}
 use Rattle.spec.specs.Report.{show-reports}
@@ -534,7 +534,7 @@ asks-say : (fuel : ℕ) (d : Design) (busy : List ℕ) (kept : Kept) (m : ℕ) �
 unfolding comb-summary AskPasses
 asks-say zero d busy kept m = (λ e. absurd (clash e refl), λ x. absurd x)
 asks-say (suc fuel) d busy kept m =
-    go (getElem? d m) refl (kept-summary kept m) refl (has-name m busy) refl
+    go (getElem? d m) refl (has-name m busy) refl (kept-summary kept m) refl
     (λ k. making-says (comb-summary fuel d (m ∷ busy)) (λ kept′ m′. AskPasses fuel d (m ∷ busy) kept′ m′) (λ kept′ m′. asks-say fuel d (m ∷ busy) kept′ m′) kept m k)
   where
     Passing : Type 0
@@ -542,21 +542,21 @@ asks-say (suc fuel) d busy kept m =
         (k : Module) × (getElem? d m ≡ some k) × (kept-summary kept m ≡ none) × (has-name m busy ≡ false)
         × MakingPasses (comb-summary fuel d (m ∷ busy)) (λ kept′ m′. AskPasses fuel d (m ∷ busy) kept′ m′) kept m k
 
-    go : (x : Option Module) → getElem? d m ≡ x → (s : Option Summary) → kept-summary kept m ≡ s → (b : Bool) → has-name m busy ≡ b
+    go : (x : Option Module) → getElem? d m ≡ x → (b : Bool) → has-name m busy ≡ b → (s : Option Summary) → kept-summary kept m ≡ s
         → ((k : Module) → (make-summary (comb-summary fuel d (m ∷ busy)) kept m k .full ≡ true) ↔ MakingPasses (comb-summary fuel d (m ∷ busy)) (λ kept′ m′. AskPasses fuel d (m ∷ busy) kept′ m′) kept m k)
         → (comb-summary (suc fuel) d busy kept m .full ≡ true) ↔ Passing
-    go none x s es b eb says = (λ e. absurd (clash (rw (x, comb-summary) at e) refl), λ p. absurd (none-some x (p .1)))
+    go none x b eb s es says = (λ e. absurd (clash (rw (x, comb-summary) at e) refl), λ p. absurd (none-some x (p .1)))
       where
         none-some : {A : Type 0} {o : Option A} {a : A} → o ≡ none → o ≡ some a → ⊥
         none-some p q = let z : _≡_ {A = ℕ} 0 1 = cc in omega arith
-    go (some k) x (some s) es b eb says = (λ e. absurd (clash (rw (x, es, comb-summary) at e) refl), λ p. absurd (none-some (p .2) es))
+    go (some k) x true eb s es says = (λ e. absurd (clash (rw (x, eb, comb-summary) at e) refl), λ p. absurd (clash eb (p .3)))
+    go (some k) x false eb (some s) es says = (λ e. absurd (clash (rw (x, eb, es, comb-summary) at e) refl), λ p. absurd (none-some (p .2) es))
       where
         none-some : {A : Type 0} {o : Option A} {a : A} → o ≡ none → o ≡ some a → ⊥
         none-some p q = let z : _≡_ {A = ℕ} 0 1 = cc in omega arith
-    go (some k) x none es true eb says = (λ e. absurd (clash (rw (x, es, eb, comb-summary) at e) refl), λ p. absurd (clash eb (p .3)))
-    go (some k) x none es false eb says = (
-      λ e. (k, x, es, eb, says k .0 (rw (x, es, eb, comb-summary) at e)),
-      λ p. let same : p .0 ≡ k = some-same (p .1) x in rw (x, es, eb, comb-summary) (says k .1 (subst (λ z. MakingPasses (comb-summary fuel d (m ∷ busy)) (λ kept′ m′. AskPasses fuel d (m ∷ busy) kept′ m′) kept m z) same (p .4))),
+    go (some k) x false eb none es says = (
+      λ e. (k, x, es, eb, says k .0 (rw (x, eb, es, comb-summary) at e)),
+      λ p. let same : p .0 ≡ k = some-same (p .1) x in rw (x, eb, es, comb-summary) (says k .1 (subst (λ z. MakingPasses (comb-summary fuel d (m ∷ busy)) (λ kept′ m′. AskPasses fuel d (m ∷ busy) kept′ m′) kept m z) same (p .4))),
     )
       where
         some-same : {A : Type 0} {o : Option A} {a b : A} → o ≡ some a → o ≡ some b → a ≡ b
@@ -599,20 +599,20 @@ unfolding comb-summary
 fuel-same d zero fuel′ busy o h l l′ kept m = absurd (omega (arith, busy-few d busy o h))
 fuel-same d (suc fuel) zero busy o h l l′ kept m = absurd (omega (arith, busy-few d busy o h))
 fuel-same d (suc fuel) (suc fuel′) busy o h l l′ kept m =
-    go (getElem? d m) refl (kept-summary kept m) refl (has-name m busy) refl
+    go (getElem? d m) refl (has-name m busy) refl (kept-summary kept m) refl
     (λ q f kept′ m′. fuel-same d fuel fuel′ (m ∷ busy) (f, o) (λ a i. inside q a (List·Memᴰ·cases-cons i)) (omega arith) (omega arith) kept′ m′)
   where
     inside : m < length d → (a : ℕ) → (a ≡ m) ⊎ (a ∈ busy) → a < length d
     inside q a (inl e) = omega arith
     inside q a (inr i) = h a i
 
-    go : (x : Option Module) → getElem? d m ≡ x → (s : Option Summary) → kept-summary kept m ≡ s → (b : Bool) → has-name m busy ≡ b
+    go : (x : Option Module) → getElem? d m ≡ x → (b : Bool) → has-name m busy ≡ b → (s : Option Summary) → kept-summary kept m ≡ s
         → (m < length d → ¬ (m ∈ busy) → (kept′ : Kept) (m′ : ℕ) → comb-summary fuel d (m ∷ busy) kept′ m′ ≡ comb-summary fuel′ d (m ∷ busy) kept′ m′)
         → comb-summary (suc fuel) d busy kept m ≡ comb-summary (suc fuel′) d busy kept m
-    go none x s es b eb ih = rw (x, comb-summary)
-    go (some k) x (some s) es b eb ih = rw (x, es, comb-summary)
-    go (some k) x none es true eb ih = rw (x, es, eb, comb-summary)
-    go (some k) x none es false eb ih = rw (x, es, eb, comb-summary) (ap (λ ask. make-summary ask kept m k) (fun-ext (λ kept′. fun-ext (λ m′. ih (placed-below d m k x) (unnamed eb) kept′ m′))))
+    go none x b eb s es ih = rw (x, comb-summary)
+    go (some k) x true eb s es ih = rw (x, eb, comb-summary)
+    go (some k) x false eb (some s) es ih = rw (x, eb, es, comb-summary)
+    go (some k) x false eb none es ih = rw (x, eb, es, comb-summary) (ap (λ ask. make-summary ask kept m k) (fun-ext (λ kept′. fun-ext (λ m′. ih (placed-below d m k x) (unnamed eb) kept′ m′))))
 
 -- ---- constants at the top level
 
@@ -999,26 +999,29 @@ module _ (working : List Lent) (text buffer : Bytes) where
       go (inr long) (refused k n) h = absurd (omega (arith, c .text-fault long k n h))
       go (inr long) well-formed h = passes long h (which (found text .full)) (which (ltb (length buffer) (length (said text))))
 
-  -- the answer 0 is given only where the reports are written
-  pub accepted-is : check-drivers working text buffer .number ≡ 0 → check-drivers working text buffer ≡ accept (show-reports (check-design (decode text) .reports)) (check-design (decode text)) buffer
-  accepted-is e = go (which (too-short working)) (refusal text) refl
+  -- the answer 0 is given only where the reports fit and are written
+  pub accepted-fits : check-drivers working text buffer .number ≡ 0 → (length (said text) ≤ length buffer) × (check-drivers working text buffer ≡ accept (said text) (found text) buffer)
+  accepted-fits e = go (which (too-short working)) (refusal text) refl
     where
       c : Case 0
       c = number-case 0 e
 
       Goal : Type 0
-      Goal = check-drivers working text buffer ≡ accept (said text) (found text) buffer
+      Goal = (length (said text) ≤ length buffer) × (check-drivers working text buffer ≡ accept (said text) (found text) buffer)
 
       passes : too-short working ≡ false → refusal text ≡ well-formed → (found text .full ≡ true) ⊎ (found text .full ≡ false)
           → (ltb (length buffer) (length (said text)) ≡ true) ⊎ (ltb (length buffer) (length (said text)) ≡ false) → Goal
       passes long fine (inl h) x = absurd (omega (arith, c .full long fine h))
       passes long fine (inr h) (inl l) = absurd (omega (arith, c .longer long fine h (ltb-true (length buffer) (length (said text)) l)))
-      passes long fine (inr h) (inr l) = if-fits long fine h (ltb-false (length buffer) (length (said text)) l)
+      passes long fine (inr h) (inr l) = let f = ltb-false (length buffer) (length (said text)) l in (f, if-fits long fine h f)
 
       go : (too-short working ≡ true) ⊎ (too-short working ≡ false) → (v : Verdict) → refusal text ≡ v → Goal
       go (inl short) v h = absurd (omega (arith, c .short short))
       go (inr long) (refused k n) h = absurd (omega (arith, c .text-fault long k n h))
       go (inr long) well-formed h = passes long h (which (found text .full)) (which (ltb (length buffer) (length (said text))))
+
+  pub accepted-is : check-drivers working text buffer .number ≡ 0 → check-drivers working text buffer ≡ accept (show-reports (check-design (decode text) .reports)) (check-design (decode text)) buffer
+  accepted-is e = accepted-fits e .1
 
   not-full : ¬ Passes (decode text) → found text .full ≡ false
   not-full h = not-so (found text .full) (λ e. h (design-says (decode text) .0 e))

@@ -8,7 +8,7 @@ use mathlib.Core.List.{List, [], _∷_, List·Memᴰ·head, List·Memᴰ·tail, 
 use mathlib.Core.Option.{Option, some, none}
 use Rattle.spec.specs.Graph.{Graph, _∈_, Chain, last, Closed}
 use Rattle.spec.specs.Net.{Net, State, Rests, ComesToRest, RestExactly}
-use Rattle.spec.proofs.Rest.{comes-to-rest}
+use Rattle.spec.proofs.Net.{comes-to-rest}
 
 -- what a signal reads next on a walk
 module _ (G : Graph) where
@@ -101,7 +101,9 @@ module _ (G : Graph) (w : Closed G) where
 
   pub restless : ¬ ComesToRest G
   restless h =
-      false≢true (h .only along all-false true-along all-false-rests true-along-rests (w .start) (w .listed) ∙ first-goes G (w .start) (w .second) (w .rest) (w .walk .0))
+      let o = h along .1 .only in
+      false≢true
+      (o all-false all-false-rests (w .start) (w .listed) ∙ sym (o true-along true-along-rests (w .start) (w .listed)) ∙ first-goes G (w .start) (w .second) (w .rest) (w .walk .0))
 
 -- A graph comes to rest exactly where it has no closed walk.
 pub rest-exactly : RestExactly

@@ -4,14 +4,17 @@
 use Prim.Native.Nat.{ℕ, zero, suc, _+_, _<_}
 use native.Mathlib.Decide.{ℕ-discrete}
 use native.Mathlib.Omega.{arith}
-use mathlib.Core.Path.{_≡_, refl}
+use mathlib.Core.Path.{_≡_, refl, sym, _∙_}
 use mathlib.Core.Bool.{Bool, true, false}
-use mathlib.Core.List.{List, [], _∷_, List·Memᴰ·head, List·Memᴰ·tail, List·Memᴰ·not-nil}
+use mathlib.Core.Logic.{_⊎_, inl, inr}
+use mathlib.Core.List.{List, [], _∷_, List·Memᴰ·head, List·Memᴰ·tail, List·Memᴰ·not-nil, List·Memᴰ·eq-of-singleton}
 use Rattle.spec.specs.Graph.{Graph, _∈_, Once, Closed}
 use Rattle.spec.specs.Net.{Net, Round, State, Rests, rounds}
-use Rattle.spec.specs.Search.{in-turn, step, search}
+use Rattle.spec.specs.DepthFirst.{backwards, in-turn, step, search}
+use Rattle.spec.specs.DepthFirstFinds.{Goes, InOrder, StandsBefore}
 use Rattle.spec.proofs.Rank.{falling-no-loop}
-use Rattle.spec.proofs.Rest.{comes-to-rest}
+use Rattle.spec.proofs.Net.{comes-to-rest}
+use Rattle.spec.proofs.Firsts.{stands-one-way}
 
 abbrev wires : ℕ → List ℕ
 wires zero = 1 ∷ 2 ∷ []
@@ -74,7 +77,10 @@ adder-rests (suc zero) i = refl
 adder-rests (suc (suc n)) i = refl
 
 after-three : (x : State adder) (a b c : Round sample) → rounds adder (a ∷ b ∷ c ∷ []) x 0 (List·Memᴰ·head refl) ≡ 11
-after-three x a b c = comes-to-rest sample sample-no-loop .reached adder x (λ s i. rest-value s) adder-rests (a ∷ b ∷ c ∷ []) (omega arith) 0 (List·Memᴰ·head refl)
+after-three x a b c =
+    let e = comes-to-rest sample sample-no-loop adder .1 in
+    e .reached x (a ∷ b ∷ c ∷ []) 3 (omega arith) (omega arith) 0 (List·Memᴰ·head refl)
+    ∙ sym (e .only (λ s i. rest-value s) adder-rests 0 (List·Memᴰ·head refl))
 
 abbrev same-number : ℕ → ℕ → Bool
 same-number zero zero = true
@@ -103,3 +109,29 @@ too-little = refl
 just-enough : search same-number itself 2 (5 ∷ []) .reports ≡ (5 ∷ 5 ∷ []) ∷ []
 unfolding search in-turn step
 just-enough = refl
+
+-- next nodes are taken last first: 1 leads to 2, 2 to 3, and 3 to 1 and 2, both open, so that the step to 2 is reported first
+abbrev back-to-both : ℕ → List ℕ
+back-to-both zero = []
+back-to-both (suc zero) = 2 ∷ []
+back-to-both (suc (suc zero)) = 3 ∷ []
+back-to-both (suc (suc (suc n))) = 1 ∷ 2 ∷ []
+
+last-first : search same-number back-to-both 4 (1 ∷ []) .reports ≡ (2 ∷ 3 ∷ 2 ∷ []) ∷ (1 ∷ 2 ∷ 3 ∷ 1 ∷ []) ∷ []
+unfolding search in-turn step
+last-first = refl
+
+-- taken first to last, the same reports would stand the other way round, and not in the order of the ways
+first-to-last : search same-number (λ n. backwards (back-to-both n)) 4 (1 ∷ []) .reports ≡ (1 ∷ 2 ∷ 3 ∷ 1 ∷ []) ∷ (2 ∷ 3 ∷ 2 ∷ []) ∷ []
+unfolding search in-turn step backwards
+first-to-last = refl
+
+not-first-to-last : ¬ InOrder (λ a b. (u v w : ℕ) → Goes a u v → Goes b u w → (v ≡ w) ⊎ StandsBefore (back-to-both u) w v) ((1 ∷ 2 ∷ 3 ∷ 1 ∷ []) ∷ (2 ∷ 3 ∷ 2 ∷ []) ∷ [])
+not-first-to-last h = go (h .0 (2 ∷ 3 ∷ 2 ∷ []) (List·Memᴰ·head refl) 3 1 2 (inr (inr (inl (refl, refl)))) (inr (inl (refl, refl))))
+  where
+    go : _≡_ {A = ℕ} 1 2 ⊎ StandsBefore {A = ℕ} (1 ∷ 2 ∷ []) 2 1 → ⊥
+    go (inl e) = omega arith
+    go (inr s) = stands-one-way (1 ∷ 2 ∷ []) 2 1 (λ i. apart (List·Memᴰ·eq-of-singleton i), (λ i. List·Memᴰ·not-nil i, tt)) s (record { front = []; back = 2 ∷ []; parted = refl; behind = List·Memᴰ·head refl })
+      where
+        apart : _≡_ {A = ℕ} 1 2 → ⊥
+        apart e = omega arith

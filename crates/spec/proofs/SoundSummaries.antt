@@ -11,24 +11,24 @@ use Rattle.spec.specs.Syntax.{in-kind, Inst, inst, Header, Module, Desig
 use Rattle.spec.specs.Refusal.{has-name}
 use Rattle.spec.specs.Value.{own-vals}
 use Rattle.spec.specs.Collect.{Collected, collection}
-use Rattle.spec.specs.Site.{kind-of, Output}
+use Rattle.spec.specs.Site.{kind-of}
 use Rattle.spec.specs.Edge.{Node, signal, inst-out, Head, Heads, Summary, inst-edges, line-heads, inst-of, index-of, place-value, all-reads}
 use Rattle.spec.specs.Summary.{onward, module-summary, Kept, kept-summary, Asked, ask-for, lines-heads, make-summary, comb-summary, module-heads}
-use Rattle.spec.specs.Walk.{find-cycles}
+use Rattle.spec.specs.FindCycles.{find-cycles}
 use Rattle.spec.specs.Check.{check-module-drivers}
 use Rattle.spec.specs.Graph.{_∈_}
-use Rattle.spec.specs.Opened.{lines-of, header-of, Instance, instances, instance-index, own-heads, lines-own-heads, reads-to, top-outputs-of}
+use Rattle.spec.specs.DesignHierarchy.{lines-of, header-of, line-instance-at, own-heads, lines-own-heads, out-names, hierarchy}
 use Rattle.spec.proofs.Numbers.{if-case}
 use Rattle.spec.proofs.Nodes.{read-by, reads-all, next-read}
-use Rattle.spec.proofs.HeadLaws.{in-either, in-first, option-case, inst-of-inst, headed-own, line-or-inst, conn-read, output-head, line-instance}
+use Rattle.spec.proofs.HeadLaws.{in-either, in-first, option-case, inst-of-inst, headed-own, line-or-inst, reads-to, conn-read, output-head, origin-instance}
 use Rattle.spec.proofs.Summaries.{lines-at, header-at, outputs-at, outputs-missing, kept-in, onward-reads, of-summary}
-use Rattle.spec.proofs.ModuleEdge.{Edge, own, through, Walks, EdgeLoop}
+use Rattle.spec.specs.OwnGraph.{Edge, own, through, Walks, EdgeLoop}
 use Rattle.spec.proofs.CheckEdge.{reached-walks, cycles-loop}
 
 module _ (d : Design) where
   -- a pair is an output and an input of its module, and edges lead from the one to the other
   abbrev SoundPair : ℕ → ℕ → ℕ → Type 0
-  SoundPair m o p = ((q : Output) × (q ∈ top-outputs-of d m) × (q .name ≡ o)) × (kind-of (header-of d m) p ≡ some in-kind) × Walks d m (signal o) (signal p)
+  SoundPair m o p = (o ∈ out-names d m) × (kind-of (header-of d m) p ≡ some in-kind) × Walks (hierarchy d) m (signal o) (signal p)
 
   abbrev Sound : ℕ → Summary → Type 0
   Sound m s = (o p : ℕ) → (o, p) ∈ s → SoundPair m o p
@@ -78,40 +78,33 @@ module _ (d : Design) where
 
   -- a pair and a connection to its input are an edge
   pair-edge : (m : ℕ) (c : Collected) (i : Inst) (o p : ℕ) (x : Node) → c ∈ lines-of d m → c .item ≡ inst i → SoundPair (i .«module») o p → x ∈ reads-to (header-of d m) (c .names) p (i .conns)
-      → Edge d m (inst-out (i .name) (index-of (place-value (c .names) (i .place))) o) x
-  unfolding instances
+      → Edge (hierarchy d) m (inst-out (i .name) (index-of (place-value (c .names) (i .place))) o) x
   pair-edge m c i o p x l e sound read = go (getElem? d (i .«module»)) refl
     where
-      at : (j : Instance) → j ∈ instances d m → SoundPair (j .inst .«module») o p → x ∈ reads-to (header-of d m) (j .names) p (j .inst .conns) → Edge d m (inst-out (j .inst .name) (instance-index j) o) x
-      at j u ((q, v, f), k, w) r =
-          subst (λ z. Edge d m (inst-out (j .inst .name) (instance-index j) z) x) f
-          (through {m = m} {y = x} j q p u v k (subst (λ z. Walks d (j .inst .«module») (signal z) (signal p)) (sym f) w) r)
-
-      go : (z : Option Module) → getElem? d (i .«module») ≡ z → Edge d m (inst-out (i .name) (index-of (place-value (c .names) (i .place))) o) x
-      go none f = absurd (List·Memᴰ·not-nil (subst (λ z. sound .0 .0 ∈ z) (outputs-missing d (i .«module») f) (sound .0 .1)))
+      go : (z : Option Module) → getElem? d (i .«module») ≡ z → Edge (hierarchy d) m (inst-out (i .name) (index-of (place-value (c .names) (i .place))) o) x
+      go none f = absurd (List·Memᴰ·not-nil (subst (λ z. o ∈ z) (outputs-missing d (i .«module») f) (sound .0)))
       go (some k) f =
-          let r = line-instance d 0 (lines-of d m) c i k l e f in
-          let h = at (r .0) (r .1) (subst (λ z. SoundPair (z .«module») o p) (sym (r .2)) sound) (subst₂ (λ a b. x ∈ reads-to (header-of d m) b p (a .conns)) (sym (r .2)) (sym (r .3)) read) in
-          subst₂ (λ a b. Edge d m (inst-out (a .name) (index-of (place-value b (a .place))) o) x) (r .2) (r .3) h
+          let (j, u) = origin-instance d m c i k l e f in
+          through {m = m} {y = x} (line-instance-at (header-of d m) j i (c .names) (i .«module»)) o p u (sound .0) (sound .1) (sound .2) read
 
   inst-edge : (m : ℕ) (c : Collected) (i : Inst) (s : Summary) (h : Head) (n x : Node) → c ∈ lines-of d m → c .item ≡ inst i → Sound (i .«module») s
-      → h ∈ line-heads (header-of d m) (c .names) s (inst i) .heads → h .node ≡ n → x ∈ h .reads → Edge d m n x
+      → h ∈ line-heads (header-of d m) (c .names) s (inst i) .heads → h .node ≡ n → x ∈ h .reads → Edge (hierarchy d) m n x
   unfolding line-heads inst-edges
   inst-edge m c i s h n x l e sound t f g =
       let r = output-head (header-of d m) (c .names) i (index-of (place-value (c .names) (i .place))) s s h t in
       let q = conn-read (header-of d m) (c .names) s (r .0) (i .conns) x (subst (λ z. x ∈ z) (r .1 .1) g) in
-      subst (λ z. Edge d m z x) (sym (r .1 .0) ∙ f) (pair-edge m c i (r .0) (q .0) x l e (sound (r .0) (q .0) (q .1)) (q .2))
+      subst (λ z. Edge (hierarchy d) m z x) (sym (r .1 .0) ∙ f) (pair-edge m c i (r .0) (q .0) x l e (sound (r .0) (q .0) (q .1)) (q .2))
 
-  head-edge : (m : ℕ) (h : Head) (n x : Node) → SoundHead (header-of d m) (lines-of d m) h → h .node ≡ n → x ∈ h .reads → Edge d m n x
+  head-edge : (m : ℕ) (h : Head) (n x : Node) → SoundHead (header-of d m) (lines-of d m) h → h .node ≡ n → x ∈ h .reads → Edge (hierarchy d) m n x
   unfolding own-heads
   head-edge m h n x (c, s, l, sound, t) f g = go (line-or-inst (header-of d m) (c .names) (c .item))
     where
-      go : ((s : Summary) → line-heads (header-of d m) (c .names) s (c .item) ≡ line-heads (header-of d m) (c .names) [] (c .item)) ⊎ ((i : Inst) × (c .item ≡ inst i)) → Edge d m n x
+      go : ((s : Summary) → line-heads (header-of d m) (c .names) s (c .item) ≡ line-heads (header-of d m) (c .names) [] (c .item)) ⊎ ((i : Inst) × (c .item ≡ inst i)) → Edge (hierarchy d) m n x
       go (inl same) = own (reads-all (lines-own-heads (header-of d m) (lines-of d m)) n (headed-own (header-of d m) (lines-of d m) c h l (subst (λ (z : Heads). h ∈ z .heads) (same s) t)) f g)
       go (inr (i, e)) = inst-edge m c i s h n x l e (sound i e) (subst (λ z. h ∈ line-heads (header-of d m) (c .names) s z .heads) e t) f g
 
   -- what heads of a module's lines read are edges
-  reads-edge : (m : ℕ) (heads : List Head) → ((h : Head) → h ∈ heads → SoundHead (header-of d m) (lines-of d m) h) → (n x : Node) → x ∈ all-reads heads n → Edge d m n x
+  reads-edge : (m : ℕ) (heads : List Head) → ((h : Head) → h ∈ heads → SoundHead (header-of d m) (lines-of d m) h) → (n x : Node) → x ∈ all-reads heads n → Edge (hierarchy d) m n x
   reads-edge m heads sound n x i = let r = read-by heads n i in head-edge m (r .0) n x (sound (r .0) (r .1)) (r .2) (r .3)
 
   -- a summary that is made
@@ -119,7 +112,7 @@ module _ (d : Design) where
   summary-sound m k e heads sound o p i =
       let edges = reads-edge m heads (λ h j. subst₂ (λ hs cs. SoundHead hs cs h) (sym (header-at d m k e)) (sym (lines-at d m k e)) (sound h j)) in
       let r = of-summary k heads o p i in (
-        (r .0 .0, subst (λ z. r .0 .0 ∈ z) (sym (outputs-at d m k e)) (r .0 .1), r .0 .2),
+        subst (λ z. o ∈ z) (sym (outputs-at d m k e)) (r .0),
         subst (λ z. kind-of z p ≡ some in-kind) (sym (header-at d m k e)) (r .1),
         reached-walks d m (onward (k .header) heads) (λ a b h. edges a b (onward-reads (k .header) heads a b h)) (signal o) (signal p) (r .2),
       )
@@ -140,16 +133,17 @@ module _ (d : Design) where
   comb-sound zero busy kept t m = (nothing-sound m, t)
   comb-sound (suc fuel) busy kept t m =
       option-case (λ z. SoundAnswer m z) (getElem? d m) _ _ (λ e. (nothing-sound m, t))
-      (λ k e. option-case (λ z. SoundAnswer m z) (kept-summary kept m) _ _
-      (λ f. if-case (λ z. SoundAnswer m z) (has-name m busy) _ _ (λ g. (nothing-sound m, t)) (λ g. made-sound (comb-summary fuel d (m ∷ busy)) (comb-sound fuel (m ∷ busy)) kept t m k e))
-      (λ s f. (t m s (kept-in kept m s f), t)))
+      (λ k e. if-case (λ z. SoundAnswer m z) (has-name m busy) _ _ (λ g. (nothing-sound m, t))
+      (λ g. option-case (λ z. SoundAnswer m z) (kept-summary kept m) _ _
+      (λ f. made-sound (comb-summary fuel d (m ∷ busy)) (comb-sound fuel (m ∷ busy)) kept t m k e)
+      (λ s f. (t m s (kept-in kept m s f), t))))
 
   -- through the check
   pub check-sound : (kept : Kept) → SoundTable kept → (m : ℕ) (k : Module) → SoundTable (check-module-drivers d kept m k .kept)
   unfolding check-module-drivers module-heads
   check-sound kept t m k = lines-sound (comb-summary (suc (length d)) d []) (comb-sound (suc (length d)) []) (k .header) kept t (collection (own-vals k) k .lines) .1
 
-  pub found-loop : (kept : Kept) → SoundTable kept → (m : ℕ) (k : Module) → getElem? d m ≡ some k → (w : List Node) → w ∈ find-cycles (module-heads d kept k (lines-of d m) .heads) → EdgeLoop d m w
+  pub found-loop : (kept : Kept) → SoundTable kept → (m : ℕ) (k : Module) → getElem? d m ≡ some k → (w : List Node) → w ∈ find-cycles (module-heads d kept k (lines-of d m) .heads) → EdgeLoop (hierarchy d) m w
   unfolding module-heads
   found-loop kept t m k e w i =
       let heads = lines-heads (comb-summary (suc (length d)) d []) (k .header) kept (lines-of d m) .heads in

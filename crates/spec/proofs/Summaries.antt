@@ -1,65 +1,38 @@
--- Where no module contains itself, every kept summary is plain reachability in the module's own graph, whatever was summarised before:
--- modules have a rank that falls along instances, so what is asked for is never in progress and no fuel runs out.
+-- Every kept summary of a module from which on no module contains itself is plain reachability in the module's own graph, whatever was summarised
+-- before: the modules in progress lead to what is asked for, so that it is none of them, and they are different ones, so no fuel runs out.
 -- Assumes nothing.
-use mathlib.Core.Path.{_≡_, refl, sym, _∙_, ap, ap₂, subst, subst₂, subst₃}
-use mathlib.Core.Bool.{true, true≢false, false≢true}
+use mathlib.Core.Path.{_≡_, refl, sym, _∙_, ap, ap₂, subst, subst⁻¹, subst₃}
+use mathlib.Core.Bool.{true, false, true≢false, false≢true}
 use mathlib.Core.Logic.{_⊎_, inl, inr, ⊎-elim, _↔_}
 use mathlib.Core.Option.{Option, some, none, Option·some-injective, Option·none-ne-some}
-use mathlib.Core.List.{List, [], _∷_, _++_, List·Memᴰ·head, List·Memᴰ·tail, List·Memᴰ·not-nil, Memᴰ·append-left, Memᴰ·append-right, Memᴰ·cast}
-use Prim.Native.Nat.{ℕ, zero, suc, _<_}
+use mathlib.Core.List.{List, [], _∷_, _++_, map, List·Memᴰ·head, List·Memᴰ·tail, List·Memᴰ·not-nil, Memᴰ·append-left, Memᴰ·append-right, Memᴰ·cast, Memᴰ·map, Memᴰ·of-map}
+use Prim.Native.Nat.{ℕ, zero, suc, _+_, _<_}
 use native.Mathlib.Omega.{arith}
-use native.Mathlib.Decide.{ℕ-discrete}
 use lib.Dec.{eqb}
 use lib.IntN.{ℤ}
 use lib.ListN.{length, getElem?}
-use borrow.Author.Tests.{eqb-true}
+use borrow.Author.Tests.{eqb-true, eq-eqb}
 use Rattle.spec.specs.Syntax.{Kind, in-kind, out-kind, wire-kind, reg-kind, mem-kind, inst-kind, Inst, inst, Header, Module, Design}
 use Rattle.spec.specs.Refusal.{has-name}
 use Rattle.spec.specs.Value.{own-vals}
 use Rattle.spec.specs.Collect.{Collected, collection}
-use Rattle.spec.specs.Search.{search}
+use Rattle.spec.specs.DepthFirst.{search}
 use Rattle.spec.specs.Site.{kind-of, Output, first-lines}
 use Rattle.spec.specs.Edge.{Node, signal, inst-out, same-node, Head, Summary, line-heads, inst-of, all-nodes, all-reads}
 use Rattle.spec.specs.Summary.{is-input, onward, inputs-among, inputs-reached, paired, top-outputs, outputs-reach, module-summary, Kept, kept-summary, Asked, ask-for, lines-heads, make-summary, comb-summary, module-heads}
 use Rattle.spec.specs.Check.{check-module-drivers, check-modules, check-design}
-use Rattle.spec.specs.Graph.{_∈_, Once, Graph, Ranked}
-use Rattle.spec.specs.Walks.{Reached, FindsLoops}
-use Rattle.spec.specs.Opened.{lines-of, header-of, Instance, instances-from, instances, instance-modules, instanced, top-outputs-of}
-use Rattle.spec.specs.Summaries.{NoModuleInsideItself, summary-for, heads-by, own-graph, summary-to, plain-summary, plain-heads, PlainTable, AskedPlain, HeadedPlain, Reaches, Summaries}
+use Rattle.spec.specs.Graph.{_∈_, Once, Chain, last}
+use Rattle.spec.specs.DepthFirstFinds.{Reached, FindsLoops}
+use Rattle.spec.specs.Hierarchy.{instance-targets, Leads, ModuleChain, ContainsItself, Acyclic}
+use Rattle.spec.specs.DesignHierarchy.{lines-of, header-of, instances-from, instances, top-outputs-of, out-names, hierarchy, instanced}
+use Rattle.spec.specs.Summaries.{summary-for, heads-by, own-graph, summary-to, plain-summary, plain-heads, PlainTable, AskedPlain, HeadedPlain, Reaches, Summaries}
 use Rattle.spec.proofs.Numbers.{if-case}
-use Rattle.spec.proofs.Rank.{no-loop-rank}
-use Rattle.spec.proofs.Search.{search-finds}
+use Rattle.spec.proofs.DepthFirst.{search-finds}
 use Rattle.spec.proofs.Nodes.{or-parts, same-node-yes, same-node-refl, read-all, reads-of-read}
-use Rattle.spec.proofs.HeadLaws.{in-either, in-first, option-case, inst-is, instance-line, line-instance}
-
--- the numbers below n
-numbers : ℕ → List ℕ
-numbers zero = []
-numbers (suc n) = n ∷ numbers n
-
-in-numbers : (n m : ℕ) → m < n → m ∈ numbers n
-unfolding numbers
-in-numbers zero m h = absurd (omega arith)
-in-numbers (suc n) m h = go (ℕ-discrete m n) (λ g. in-numbers n m g)
-  where
-    go : Dec (m ≡ n) → (m < n → m ∈ numbers n) → m ∈ (n ∷ numbers n)
-    go (yes e) f = List·Memᴰ·head e
-    go (no e) f = List·Memᴰ·tail (f (omega arith))
-
-of-numbers : (n m : ℕ) → m ∈ numbers n → m < n
-unfolding numbers
-of-numbers zero m i = absurd (List·Memᴰ·not-nil i)
-of-numbers (suc n) m i = in-first (λ e. omega arith) (λ j. let r = of-numbers n m j in omega arith) i
-
-once-numbers : (n : ℕ) → Once (numbers n)
-unfolding numbers
-once-numbers zero = tt
-once-numbers (suc n) = (λ i. let r = of-numbers n n i in omega arith, once-numbers n)
-
-length-numbers : (n : ℕ) → length (numbers n) ≡ n
-unfolding numbers
-length-numbers zero = refl
-length-numbers (suc n) = ap suc (length-numbers n)
+use Rattle.spec.proofs.HeadLaws.{true-left, true-right, in-either, in-first, option-case, inst-is, origin-instance}
+use Rattle.spec.proofs.Copies.{in-targets, leads-here, from-leads}
+use Rattle.spec.proofs.WellFormed.{design-well-formed}
+use Rattle.spec.proofs.Acyclic.{once-below, acyclic-step, acyclic-apart, acyclic-shorter}
 
 -- a module that exists has a number below the number of modules
 pub below-length : {A : Type 0} (l : List A) (i : ℕ) (a : A) → getElem? l i ≡ some a → i < length l
@@ -76,48 +49,33 @@ pub header-at : (d : Design) (m : ℕ) (k : Module) → getElem? d m ≡ some k 
 unfolding header-of
 header-at d m k e = rw (e, header-of)
 
-pub outputs-at : (d : Design) (m : ℕ) (k : Module) → getElem? d m ≡ some k → top-outputs-of d m ≡ top-outputs (k .items)
-unfolding top-outputs-of
+pub outputs-at : (d : Design) (m : ℕ) (k : Module) → getElem? d m ≡ some k → out-names d m ≡ map (λ o. o .name) (top-outputs (k .items))
+unfolding out-names top-outputs-of
 outputs-at d m k e = rw (e, top-outputs-of)
 
-pub outputs-missing : (d : Design) (m : ℕ) → getElem? d m ≡ none → top-outputs-of d m ≡ []
-unfolding top-outputs-of
+pub outputs-missing : (d : Design) (m : ℕ) → getElem? d m ≡ none → out-names d m ≡ []
+unfolding out-names top-outputs-of
 outputs-missing d m e = rw (e, top-outputs-of)
 
--- instanced modules
-pub in-instanced : (is : List Instance) (i : Instance) → i ∈ is → i .inst .«module» ∈ instance-modules is
-unfolding instance-modules
-in-instanced [] i m = absurd (List·Memᴰ·not-nil m)
-in-instanced (j ∷ is) i m = in-first (λ e. List·Memᴰ·head (ap (λ z. z .inst .«module») e)) (λ k. List·Memᴰ·tail (in-instanced is i k)) m
+-- instance lines lead to modules
+line-target : (d : Design) (m : ℕ) (c : Collected) (i : Inst) (k : Module) → c ∈ lines-of d m → c .item ≡ inst i → getElem? d (i .«module») ≡ some k → i .«module» ∈ instanced d m
+line-target d m c i k h e f = in-targets (origin-instance d m c i k h e f .1)
 
-of-instanced : (is : List Instance) (m : ℕ) → m ∈ instance-modules is → (i : Instance) × (i ∈ is) × (m ≡ i .inst .«module»)
-unfolding instance-modules
-of-instanced [] m h = absurd (List·Memᴰ·not-nil h)
-of-instanced (j ∷ is) m h = in-first (λ e. (j, List·Memᴰ·head refl, e)) (λ k. let r = of-instanced is m k in (r .0, List·Memᴰ·tail (r .1), r .2)) h
+pub instances-missing : (d : Design) (m : ℕ) → getElem? d m ≡ none → instances d m ≡ []
+unfolding instances lines-of instances-from
+instances-missing d m e = rw (e, lines-of)
 
-pub line-instanced : (d : Design) (m : ℕ) (c : Collected) (i : Inst) (k : Module) → c ∈ lines-of d m → c .item ≡ inst i → getElem? d (i .«module») ≡ some k → i .«module» ∈ instanced d m
-unfolding instances
-line-instanced d m c i k h e f =
-    let r = line-instance d 0 (lines-of d m) c i k h e f in
-    Memᴰ·cast (ap (λ z. z .«module») (sym (r .2))) (in-instanced (instances-from d 0 (lines-of d m)) (r .0) (r .1))
+-- from a missing module nothing leads on
+missing-acyclic : (d : Design) (m : ℕ) → getElem? d m ≡ none → Acyclic (hierarchy d) m
+unfolding instance-targets
+missing-acyclic d m e l c inside = along l c inside
+  where
+    stops : (t k : ℕ) → k ≡ m → ¬ (t ∈ instanced d k)
+    stops t k same u = List·Memᴰ·not-nil (subst (λ z. t ∈ instance-targets z) (ap (instances d) same ∙ instances-missing d m e) u)
 
-instanced-below : (d : Design) (m r : ℕ) → r ∈ instanced d m → r < length d
-unfolding instances
-instanced-below d m r h =
-    let i = of-instanced (instances-from d 0 (lines-of d m)) r h in
-    let l = instance-line d 0 (lines-of d m) (i .0) (i .1) in
-    below-length d r (l .4 .0) (ap (getElem? d) (i .2) ∙ l .4 .1)
-
--- the graph of modules and those that they instance
-abbrev module-graph : Design → Graph
-module-graph d = record {
-  Signal = ℕ;
-  same = ℕ-discrete;
-  signals = numbers (length d);
-  once = once-numbers (length d);
-  reads = instanced d;
-  closed = λ s r i h. in-numbers (length d) r (instanced-below d s r h);
-}
+    along : (l : List ℕ) → ModuleChain (hierarchy d) m l → ¬ ContainsItself (hierarchy d) (last m l)
+    along [] c (t, k, ((b, same, u), g), q) = stops t b same u
+    along (t ∷ l) ((b, same, u), c) inside = stops t b same u
 
 -- a member of the table
 pub kept-in : (kept : Kept) (m : ℕ) (s : Summary) → kept-summary kept m ≡ some s → (m, s) ∈ kept
@@ -135,6 +93,11 @@ pub name-in : (n : ℕ) (l : List ℕ) → has-name n l ≡ true → n ∈ l
 unfolding has-name
 name-in n [] e = absurd (false≢true e)
 name-in n (m ∷ l) e = ⊎-elim (λ f. List·Memᴰ·head (eqb-true n m f)) (λ f. List·Memᴰ·tail (name-in n l f)) (or-parts (eqb n m) (has-name n l) e)
+
+in-name : (n : ℕ) (l : List ℕ) → n ∈ l → has-name n l ≡ true
+unfolding has-name
+in-name n [] i = absurd (List·Memᴰ·not-nil i)
+in-name n (m ∷ l) i = in-first (λ e. true-left (eqb n m) (has-name n l) (eq-eqb n m e)) (λ j. true-right (eqb n m) (has-name n l) (in-name n l j)) i
 
 -- heads by summaries that are the same for the modules instanced
 summary-for-same : (s t : ℕ → Summary) (o : Option Inst) → ((i : Inst) → o ≡ some i → s (i .«module») ≡ t (i .«module»)) → summary-for s o ≡ summary-for t o
@@ -269,55 +232,54 @@ in-first-line seen (o ∷ os) p m =
 
 -- a module's summary has the pairs of a top-level output and an in-kind name that it reaches
 pub of-summary : (k : Module) (heads : List Head) (o i : ℕ) → (o, i) ∈ module-summary k heads
-    → ((p : Output) × (p ∈ top-outputs (k .items)) × (p .name ≡ o)) × (kind-of (k .header) i ≡ some in-kind) × Reached (onward (k .header) heads) (signal o ∷ []) (signal i)
+    → (o ∈ map (λ o. o .name) (top-outputs (k .items))) × (kind-of (k .header) i ≡ some in-kind) × Reached (onward (k .header) heads) (signal o ∷ []) (signal i)
 unfolding module-summary
 of-summary k heads o i m =
     let r = of-outputs (k .header) heads (first-lines [] (top-outputs (k .items))) o i m in
     let q = of-reached (k .header) heads o i (r .1) in
-    ((r .0 .0, of-first [] (top-outputs (k .items)) (r .0 .0) (r .0 .1), r .0 .2), q .0, q .1)
+    (Memᴰ·cast (sym (r .0 .2)) (Memᴰ·map (λ o. o .name) (of-first [] (top-outputs (k .items)) (r .0 .0) (r .0 .1))), q .0, q .1)
 
-in-summary : (k : Module) (heads : List Head) (o i : ℕ) → (p : Output) × (p ∈ top-outputs (k .items)) × (p .name ≡ o) → kind-of (k .header) i ≡ some in-kind
+in-summary : (k : Module) (heads : List Head) (o i : ℕ) → o ∈ map (λ o. o .name) (top-outputs (k .items)) → kind-of (k .header) i ≡ some in-kind
     → Reached (onward (k .header) heads) (signal o ∷ []) (signal i) → (o, i) ∈ module-summary k heads
 unfolding module-summary
-in-summary k heads o i (p, m, e) input r = go (in-first-line [] (top-outputs (k .items)) p m)
+in-summary k heads o i h input r = let (p, m, e) = Memᴰ·of-map (λ o. o .name) (top-outputs (k .items)) h in go p e (in-first-line [] (top-outputs (k .items)) p m)
   where
-    go : (p .name ∈ []) ⊎ FirstLine (first-lines [] (top-outputs (k .items))) (p .name) → (o, i) ∈ outputs-reach (k .header) heads (first-lines [] (top-outputs (k .items)))
-    go (inl j) = absurd (List·Memᴰ·not-nil j)
-    go (inr (q, j, f)) =
+    go : (p : Output) → p .name ≡ o → (p .name ∈ []) ⊎ FirstLine (first-lines [] (top-outputs (k .items))) (p .name) → (o, i) ∈ outputs-reach (k .header) heads (first-lines [] (top-outputs (k .items)))
+    go p e (inl j) = absurd (List·Memᴰ·not-nil j)
+    go p e (inr (q, j, f)) =
         let g : q .name ≡ o = f ∙ e in
         let t : _≡_ {A = ℕ × ℕ} (o, i) (q .name, i) = (λ t. (sym g t, i)) in
         Memᴰ·cast t (in-outputs (k .header) heads (first-lines [] (top-outputs (k .items))) q i j (in-reached (k .header) heads (q .name) i input (subst (λ z. Reached (onward (k .header) heads) (signal z ∷ []) (signal i)) (sym g) r)))
 
-module _ (d : Design) (apart : NoModuleInsideItself d) where
-  ranked : Ranked (module-graph d)
-  ranked = no-loop-rank (module-graph d) (λ c. apart (c .start ∷ c .second ∷ c .rest) (c .walk))
+module _ (d : Design) where
+  -- chains of instances from m are shorter than f
+  abbrev Shorter : ℕ → ℕ → Type 0
+  Shorter f m = (l : List ℕ) → Chain (instanced d) m l → length l < f
 
-  abbrev rank : ℕ → ℕ
-  rank = ranked .rank
+  shorter-step : (f m t : ℕ) → t ∈ instanced d m → Shorter (suc f) m → Shorter f t
+  shorter-step f m t u h l c = let r = h (t ∷ l) (u, c) in omega arith
 
-  rank-below : (m : ℕ) (k : Module) → getElem? d m ≡ some k → rank m < length d
-  rank-below m k e = omega (arith, ranked .below m (in-numbers (length d) m (below-length d m k e)), length-numbers (length d))
+  acyclic-shorter-than : (m : ℕ) (k : Module) → getElem? d m ≡ some k → Acyclic (hierarchy d) m → Shorter (length d) m
+  acyclic-shorter-than m k e f l c = acyclic-shorter (hierarchy d) (design-well-formed d) m f (below-length d m k e) l c
 
-  rank-falls : (m : ℕ) (k : Module) → getElem? d m ≡ some k → (c : Collected) (i : Inst) (k′ : Module) → c ∈ lines-of d m → c .item ≡ inst i → getElem? d (i .«module») ≡ some k′ → rank (i .«module») < rank m
-  rank-falls m k e c i k′ h f g = ranked .falls m (i .«module») (in-numbers (length d) m (below-length d m k e)) (line-instanced d m c i k′ h f g)
-
-  -- the own graphs of a module are the same where summaries of missing modules and of lower ranks are
-  own-same : (s t : ℕ → Summary) (m : ℕ) (k : Module) → getElem? d m ≡ some k → ((m′ : ℕ) → getElem? d m′ ≡ none → s m′ ≡ t m′)
-      → ((m′ : ℕ) (k′ : Module) → getElem? d m′ ≡ some k′ → rank m′ < rank m → s m′ ≡ t m′) → own-graph s d m ≡ own-graph t d m
+  -- the own graphs of a module are the same where summaries of missing modules and of those that it leads to are
+  own-same : (s t : ℕ → Summary) (m : ℕ) → ((m′ : ℕ) → getElem? d m′ ≡ none → s m′ ≡ t m′)
+      → ((m′ : ℕ) (k′ : Module) → getElem? d m′ ≡ some k′ → m′ ∈ instanced d m → s m′ ≡ t m′) → own-graph s d m ≡ own-graph t d m
   unfolding own-graph
-  own-same s t m k e missing lower = heads-same s t (header-of d m) (lines-of d m) (λ c i h f. go c i h f (getElem? d (i .«module»)) refl)
+  own-same s t m missing further = heads-same s t (header-of d m) (lines-of d m) (λ c i h f. go c i h f (getElem? d (i .«module»)) refl)
     where
       go : (c : Collected) (i : Inst) → c ∈ lines-of d m → c .item ≡ inst i → (o : Option Module) → getElem? d (i .«module») ≡ o → s (i .«module») ≡ t (i .«module»)
       go c i h f none g = missing (i .«module») g
-      go c i h f (some k′) g = lower (i .«module») k′ g (rank-falls m k e c i k′ h f g)
+      go c i h f (some k′) g = further (i .«module») k′ g (line-target d m c i k′ h f g)
 
-  -- the depth does not matter above the rank
-  to-same : (f g m : ℕ) (k : Module) → getElem? d m ≡ some k → rank m < f → rank m < g → summary-to f d m ≡ summary-to g d m
-  to-same zero g m k e h h′ = absurd (omega arith)
-  to-same (suc f) zero m k e h h′ = absurd (omega arith)
+  -- the depth does not matter above the chains of instances
+  to-same : (f g m : ℕ) (k : Module) → getElem? d m ≡ some k → Shorter f m → Shorter g m → summary-to f d m ≡ summary-to g d m
+  to-same zero g m k e h h′ = absurd (let r = h [] tt in omega arith)
+  to-same (suc f) zero m k e h h′ = absurd (let r = h′ [] tt in omega arith)
   to-same (suc f) (suc g) m k e h h′ =
       to-own f d m k e
-      ∙ ap (module-summary k) (own-same (summary-to f d) (summary-to g d) m k e (λ m′ e′. to-missing f d m′ e′ ∙ sym (to-missing g d m′ e′)) (λ m′ k′ e′ r. to-same f g m′ k′ e′ (omega arith) (omega arith)))
+      ∙ ap (module-summary k) (own-same (summary-to f d) (summary-to g d) m (λ m′ e′. to-missing f d m′ e′ ∙ sym (to-missing g d m′ e′))
+      (λ m′ k′ e′ u. to-same f g m′ k′ e′ (shorter-step f m m′ u h) (shorter-step g m m′ u h′)))
       ∙ sym (to-own g d m k e)
 
   -- the plain summary is made of the module's own graph
@@ -325,84 +287,109 @@ module _ (d : Design) (apart : NoModuleInsideItself d) where
   unfolding plain-summary
   plain-missing m e = to-missing (suc (length d)) d m e
 
-  plain-own : (m : ℕ) (k : Module) → getElem? d m ≡ some k → plain-summary d m ≡ module-summary k (plain-heads d m)
+  plain-own : (m : ℕ) (k : Module) → getElem? d m ≡ some k → Acyclic (hierarchy d) m → plain-summary d m ≡ module-summary k (plain-heads d m)
   unfolding plain-summary plain-heads
-  plain-own m k e =
+  plain-own m k e acyclic =
       to-own (length d) d m k e
-      ∙ ap (module-summary k) (own-same (summary-to (length d) d) (plain-summary d) m k e (λ m′ e′. to-missing (length d) d m′ e′ ∙ sym (plain-missing m′ e′))
-      (λ m′ k′ e′ r. to-same (length d) (suc (length d)) m′ k′ e′ (rank-below m′ k′ e′) (let b = rank-below m′ k′ e′ in omega arith)))
+      ∙ ap (module-summary k) (own-same (summary-to (length d) d) (plain-summary d) m (λ m′ e′. to-missing (length d) d m′ e′ ∙ sym (plain-missing m′ e′))
+      (λ m′ k′ e′ u. let s = acyclic-shorter-than m′ k′ e′ (acyclic-step (hierarchy d) m m′ u acyclic) in to-same (length d) (suc (length d)) m′ k′ e′ s (λ l c. let r = s l c in omega arith)))
+
+  -- nor from the modules of its lines
+  line-acyclic : (m : ℕ) → Acyclic (hierarchy d) m → (c : Collected) (i : Inst) → c ∈ lines-of d m → c .item ≡ inst i → Acyclic (hierarchy d) (i .«module»)
+  line-acyclic m acyclic c i h e = go (getElem? d (i .«module»)) refl
+    where
+      go : (o : Option Module) → getElem? d (i .«module») ≡ o → Acyclic (hierarchy d) (i .«module»)
+      go none f = missing-acyclic d (i .«module») f
+      go (some k) f = acyclic-step (hierarchy d) m (i .«module») (line-target d m c i k h e f) acyclic
 
   -- lines that ask for plain summaries
   for-plain : (ask : Kept → ℕ → Asked) (kept : Kept) (o : Option Inst) → PlainTable d kept → ((i : Inst) → o ≡ some i → AskedPlain d (i .«module») (ask kept (i .«module»)))
-      → (ask-for ask kept o .summary ≡ summary-for (plain-summary d) o) × PlainTable d (ask-for ask kept o .kept)
+      → (((i : Inst) → o ≡ some i → Acyclic (hierarchy d) (i .«module»)) → ask-for ask kept o .summary ≡ summary-for (plain-summary d) o) × PlainTable d (ask-for ask kept o .kept)
   unfolding ask-for summary-for
-  for-plain ask kept none p h = (refl, p)
-  for-plain ask kept (some i) p h = h i refl
+  for-plain ask kept none p h = (λ acyclic. refl, p)
+  for-plain ask kept (some i) p h = (λ acyclic. h i refl .0 (acyclic i refl), h i refl .1)
 
-  lines-plain : (ask : Kept → ℕ → Asked) (hs : List Header) (kept : Kept) (cs : List Collected) → PlainTable d kept
-      → ((c : Collected) (i : Inst) → c ∈ cs → c .item ≡ inst i → (kept : Kept) → PlainTable d kept → AskedPlain d (i .«module») (ask kept (i .«module»)))
-      → HeadedPlain d hs cs (lines-heads ask hs kept cs)
+  abbrev AskPlain : (Kept → ℕ → Asked) → List Collected → Type 0
+  AskPlain ask cs = (c : Collected) (i : Inst) → c ∈ cs → c .item ≡ inst i → (kept : Kept) → PlainTable d kept → AskedPlain d (i .«module») (ask kept (i .«module»))
+
+  abbrev LinesAcyclic : List Collected → Type 0
+  LinesAcyclic cs = (c : Collected) (i : Inst) → c ∈ cs → c .item ≡ inst i → Acyclic (hierarchy d) (i .«module»)
+
+  lines-plain : (ask : Kept → ℕ → Asked) (hs : List Header) (kept : Kept) (cs : List Collected) → PlainTable d kept → AskPlain ask cs
+      → (LinesAcyclic cs → lines-heads ask hs kept cs .heads ≡ heads-by (plain-summary d) hs cs) × PlainTable d (lines-heads ask hs kept cs .kept)
   unfolding lines-heads heads-by
-  lines-plain ask hs kept [] p h = (refl, p)
+  lines-plain ask hs kept [] p h = (λ acyclic. refl, p)
   lines-plain ask hs kept (c ∷ cs) p h =
       let a = for-plain ask kept (inst-of (c .item)) p (λ i e. h c i (List·Memᴰ·head refl) (inst-is (c .item) i e) kept p) in
       let r = lines-plain ask hs (ask-for ask kept (inst-of (c .item)) .kept) cs (a .1) (λ b i m e. h b i (List·Memᴰ·tail m) e) in
-      (ap₂ _++_ (ap (λ z. line-heads hs (c .names) z (c .item) .heads) (a .0)) (r .0), r .1)
+      (λ acyclic. ap₂ _++_ (ap (λ z. line-heads hs (c .names) z (c .item) .heads) (a .0 (λ i e. acyclic c i (List·Memᴰ·head refl) (inst-is (c .item) i e)))) (r .0 (λ b i m e. acyclic b i (List·Memᴰ·tail m) e)), r .1)
+
+  -- those of a module
+  own-plain : (ask : Kept → ℕ → Asked) (kept : Kept) (m : ℕ) (k : Module) → getElem? d m ≡ some k → PlainTable d kept → AskPlain ask (lines-of d m)
+      → HeadedPlain d m (lines-heads ask (k .header) kept (lines-of d m))
+  unfolding plain-heads own-graph
+  own-plain ask kept m k e p h =
+      let l = lines-plain ask (k .header) kept (lines-of d m) p h in
+      (λ acyclic. l .0 (line-acyclic m acyclic) ∙ ap (λ z. heads-by (plain-summary d) z (lines-of d m)) (sym (header-at d m k e)), l .1)
 
   -- a summary that is made is plain
-  table-more : (kept : Kept) (m : ℕ) (s : Summary) → PlainTable d kept → s ≡ plain-summary d m → PlainTable d ((m, s) ∷ kept)
+  table-more : (kept : Kept) (m : ℕ) (s : Summary) → PlainTable d kept → (Acyclic (hierarchy d) m → s ≡ plain-summary d m) → PlainTable d ((m, s) ∷ kept)
   table-more kept m s p e m′ s′ i =
-      in-first (λ (f : _≡_ {A = ℕ × Summary} (m′, s′) (m, s)). ap (λ z. z .1) f ∙ e ∙ ap (λ z. plain-summary d (z .0)) (sym f)) (λ j. p m′ s′ j) i
+      in-first
+      (λ (f : _≡_ {A = ℕ × Summary} (m′, s′) (m, s)) acyclic. ap (λ z. z .1) f ∙ e (subst (λ z. Acyclic (hierarchy d) z) (ap (λ z. z .0) f) acyclic) ∙ ap (λ z. plain-summary d (z .0)) (sym f))
+      (λ j. p m′ s′ j) i
 
-  made-plain : (ask : Kept → ℕ → Asked) (kept : Kept) (m : ℕ) (k : Module) → getElem? d m ≡ some k → PlainTable d kept
-      → ((c : Collected) (i : Inst) → c ∈ lines-of d m → c .item ≡ inst i → (kept : Kept) → PlainTable d kept → AskedPlain d (i .«module») (ask kept (i .«module»)))
-      → AskedPlain d m (make-summary ask kept m k)
-  unfolding make-summary plain-heads own-graph
+  made-plain : (ask : Kept → ℕ → Asked) (kept : Kept) (m : ℕ) (k : Module) → getElem? d m ≡ some k → PlainTable d kept → AskPlain ask (lines-of d m) → AskedPlain d m (make-summary ask kept m k)
+  unfolding make-summary
   made-plain ask kept m k e p h =
-      let l = lines-plain ask (header-of d m) kept (lines-of d m) p h in
-      let l′ : HeadedPlain d (header-of d m) (lines-of d m) (lines-heads ask (k .header) kept (collection (own-vals k) k .lines)) = subst₂ (λ hs cs. HeadedPlain d (header-of d m) (lines-of d m) (lines-heads ask hs kept cs)) (header-at d m k e) (lines-at d m k e) l in
-      let s : module-summary k (lines-heads ask (k .header) kept (collection (own-vals k) k .lines) .heads) ≡ plain-summary d m = ap (module-summary k) (l′ .0) ∙ sym (plain-own m k e) in
-      (s, table-more _ m _ (l′ .1) s)
+      let l : HeadedPlain d m (lines-heads ask (k .header) kept (collection (own-vals k) k .lines)) = subst (λ cs. HeadedPlain d m (lines-heads ask (k .header) kept cs)) (lines-at d m k e) (own-plain ask kept m k e p h) in
+      let s : Acyclic (hierarchy d) m → module-summary k (lines-heads ask (k .header) kept (collection (own-vals k) k .lines) .heads) ≡ plain-summary d m = (λ acyclic. ap (module-summary k) (l .0 acyclic) ∙ sym (plain-own m k e acyclic)) in
+      (s, table-more _ m _ (l .1) s)
 
-  -- a module that exists may be asked for while `busy` are being summarised: all of them have higher ranks, and there is fuel
-  abbrev Free : ℕ → List ℕ → ℕ → Type 0
-  Free fuel busy m = (k : Module) → getElem? d m ≡ some k → (rank m < fuel) × ((b : ℕ) → b ∈ busy → rank m < rank b)
+  -- the modules being summarised are different ones, and with the fuel more than there are
+  abbrev Room : ℕ → List ℕ → Type 0
+  Room fuel busy = Once busy × ((b : ℕ) → b ∈ busy → b < length d) × (length d < fuel + length busy)
 
-  free-inside : (fuel : ℕ) (busy : List ℕ) (m : ℕ) (k : Module) → getElem? d m ≡ some k → Free (suc fuel) busy m → (c : Collected) (i : Inst) → c ∈ lines-of d m → c .item ≡ inst i → Free fuel (m ∷ busy) (i .«module»)
-  free-inside fuel busy m k e free c i h f k′ e′ =
-      let falls = rank-falls m k e c i k′ h f e′ in
-      let r = free k e in
-      (omega (arith, r .0), λ b j. in-first (λ (g : b ≡ m). subst (λ z. rank (i .«module») < rank z) (sym g) falls) (λ j′. let u = r .1 b j′ in omega arith) j)
+  -- each of them leads to a module that is asked for, by a step or more
+  abbrev Behind : List ℕ → ℕ → Type 0
+  Behind busy m = (b : ℕ) → b ∈ busy → (t : ℕ) × (t ∈ instanced d b) × Leads (hierarchy d) t m
 
-  asked-plain : (fuel : ℕ) (busy : List ℕ) (kept : Kept) (m : ℕ) → PlainTable d kept → Free fuel busy m → AskedPlain d m (comb-summary fuel d busy kept m)
+  behind-step : (busy : List ℕ) (m t : ℕ) → t ∈ instanced d m → Behind busy m → Behind (m ∷ busy) t
+  behind-step busy m t u h b i =
+      in-first (λ (e : b ≡ m). (t, subst⁻¹ (λ z. t ∈ instanced d z) e u, leads-here (hierarchy d) t))
+      (λ j. let (s, v, r) = h b j in (s, v, from-leads (hierarchy d) (Leads (hierarchy d) s) s m r (λ z q. q) t (t ∷ [], (u, tt), refl))) i
+
+  asked-plain : (fuel : ℕ) (busy : List ℕ) (kept : Kept) (m : ℕ) → PlainTable d kept → Room fuel busy → ((k : Module) → getElem? d m ≡ some k → Behind busy m) → AskedPlain d m (comb-summary fuel d busy kept m)
   unfolding comb-summary
-  asked-plain zero busy kept m p free = go (getElem? d m) refl
+  asked-plain zero busy kept m p room behind = absurd (let r = once-below busy (length d) (room .0) (room .1) in omega (arith, r, room .2))
+  asked-plain (suc fuel) busy kept m p room behind =
+      option-case (λ z. AskedPlain d m z) (getElem? d m) _ _ (λ e. (λ acyclic. sym (plain-missing m e), p))
+      (λ k e. if-case (λ z. AskedPlain d m z) (has-name m busy) _ _
+      (λ g. (λ acyclic. absurd (let (t, u, r) = behind k e m (name-in m busy g) in acyclic-apart (hierarchy d) m m t m acyclic refl u r refl), p))
+      (λ g. option-case (λ z. AskedPlain d m z) (kept-summary kept m) _ _
+      (λ f. made-plain (comb-summary fuel d (m ∷ busy)) kept m k e p (λ c i h t kept′ p′. asked-plain fuel (m ∷ busy) kept′ (i .«module») p′ (more k e g) (λ k′ e′. behind-step busy m (i .«module») (line-target d m c i k′ h t e′) (behind k e))))
+      (λ s f. (p m s (kept-in kept m s f), p))))
     where
-      go : (o : Option Module) → getElem? d m ≡ o → ([] ≡ plain-summary d m) × PlainTable d kept
-      go none e = (sym (plain-missing m e), p)
-      go (some k) e = absurd (let r = free k e .0 in omega arith)
-  asked-plain (suc fuel) busy kept m p free =
-      option-case (λ z. AskedPlain d m z) (getElem? d m) _ _ (λ e. (sym (plain-missing m e), p))
-      (λ k e. option-case (λ z. AskedPlain d m z) (kept-summary kept m) _ _
-      (λ f. if-case (λ z. AskedPlain d m z) (has-name m busy) _ _ (λ g. absurd (let r = free k e .1 m (name-in m busy g) in omega arith))
-      (λ g. made-plain (comb-summary fuel d (m ∷ busy)) kept m k e p (λ c i h t kept′ p′. asked-plain fuel (m ∷ busy) kept′ (i .«module») p′ (free-inside fuel busy m k e free c i h t))))
-      (λ s f. (p m s (kept-in kept m s f), p)))
+      more : (k : Module) → getElem? d m ≡ some k → has-name m busy ≡ false → Room fuel (m ∷ busy)
+      more k e g = (
+        (λ i. true≢false (sym (in-name m busy i) ∙ g), room .0),
+        λ b i. in-first (λ (f : b ≡ m). subst⁻¹ (λ z. z < length d) f (below-length d m k e)) (λ j. room .1 b j) i,
+        omega (arith, room .2),
+      )
 
   -- at a module's own check nothing is being summarised
   asked-free : (kept : Kept) → PlainTable d kept → (m : ℕ) → AskedPlain d m (comb-summary (suc (length d)) d [] kept m)
-  asked-free kept p m = asked-plain (suc (length d)) [] kept m p (λ k e. (let r = rank-below m k e in omega arith, λ b j. absurd (List·Memᴰ·not-nil j)))
+  asked-free kept p m = asked-plain (suc (length d)) [] kept m p (tt, λ b j. absurd (List·Memᴰ·not-nil j), omega arith) (λ k e b j. absurd (List·Memᴰ·not-nil j))
 
-  headed-free : (kept : Kept) → PlainTable d kept → (hs : List Header) (cs : List Collected) → HeadedPlain d hs cs (lines-heads (comb-summary (suc (length d)) d []) hs kept cs)
-  headed-free kept p hs cs = lines-plain (comb-summary (suc (length d)) d []) hs kept cs p (λ c i h e kept′ p′. asked-free kept′ p′ (i .«module»))
-
-  module-plain : (kept : Kept) → PlainTable d kept → (m : ℕ) (k : Module) → getElem? d m ≡ some k → module-heads d kept k (lines-of d m) .heads ≡ plain-heads d m
-  unfolding module-heads plain-heads own-graph
-  module-plain kept p m k e = headed-free kept p (k .header) (lines-of d m) .0 ∙ ap (λ z. heads-by (plain-summary d) z (lines-of d m)) (sym (header-at d m k e))
+  headed-free : (kept : Kept) → PlainTable d kept → (m : ℕ) (k : Module) → getElem? d m ≡ some k → HeadedPlain d m (module-heads d kept k (lines-of d m))
+  unfolding module-heads
+  headed-free kept p m k e = own-plain (comb-summary (suc (length d)) d []) kept m k e p (λ c i h f kept′ p′. asked-free kept′ p′ (i .«module»))
 
   -- through the check
   pub check-plain : (kept : Kept) → PlainTable d kept → (m : ℕ) (k : Module) → PlainTable d (check-module-drivers d kept m k .kept)
   unfolding check-module-drivers module-heads
-  check-plain kept p m k = headed-free kept p (k .header) (collection (own-vals k) k .lines) .1
+  check-plain kept p m k =
+      lines-plain (comb-summary (suc (length d)) d []) (k .header) kept (collection (own-vals k) k .lines) p (λ c i h f kept′ p′. asked-free kept′ p′ (i .«module»)) .1
 
   checks-plain : (kept : Kept) → PlainTable d kept → (m : ℕ) (ks : List Module) → PlainTable d (check-modules d kept m ks .kept)
   unfolding check-modules
@@ -410,33 +397,31 @@ module _ (d : Design) (apart : NoModuleInsideItself d) where
   checks-plain kept p m (k ∷ ks) = checks-plain (check-module-drivers d kept m k .kept) (check-plain kept p m k) (suc m) ks
 
   -- it is plain reachability
-  abbrev ReachesBy : List Head → ℕ → ℕ → Summary → List Output → List Header → Type 0
-  ReachesBy heads o i s os hs =
-      ((o, i) ∈ s) ↔ (((p : Output) × (p ∈ os) × (p .name ≡ o)) × (kind-of hs i ≡ some in-kind) × Reached (onward hs heads) (signal o ∷ []) (signal i))
+  abbrev ReachesBy : List Head → ℕ → ℕ → Summary → List ℕ → List Header → Type 0
+  ReachesBy heads o i s os hs = ((o, i) ∈ s) ↔ ((o ∈ os) × (kind-of hs i ≡ some in-kind) × Reached (onward hs heads) (signal o ∷ []) (signal i))
 
-  plain-reaches : (m o i : ℕ) → ((o, i) ∈ plain-summary d m) ↔ Reaches d m o i
-  plain-reaches m o i = go (getElem? d m) refl
+  plain-reaches : (m o i : ℕ) → Acyclic (hierarchy d) m → ((o, i) ∈ plain-summary d m) ↔ Reaches d m o i
+  plain-reaches m o i acyclic = go (getElem? d m) refl
     where
       go : (x : Option Module) → getElem? d m ≡ x → ((o, i) ∈ plain-summary d m) ↔ Reaches d m o i
       go none e = (
         λ j. absurd (List·Memᴰ·not-nil (subst (λ z. (o, i) ∈ z) (plain-missing m e) j)),
-        λ r. absurd (List·Memᴰ·not-nil (subst (λ z. r .0 .0 ∈ z) (outputs-missing d m e) (r .0 .1))),
+        λ r. absurd (List·Memᴰ·not-nil (subst (λ z. o ∈ z) (outputs-missing d m e) (r .0))),
       )
       go (some k) e =
-          subst₃ (λ s os hs. ReachesBy (plain-heads d m) o i s os hs) (sym (plain-own m k e)) (sym (outputs-at d m k e)) (sym (header-at d m k e))
+          subst₃ (λ s os hs. ReachesBy (plain-heads d m) o i s os hs) (sym (plain-own m k e acyclic)) (sym (outputs-at d m k e)) (sym (header-at d m k e))
           (of-summary k (plain-heads d m) o i, λ r. in-summary k (plain-heads d m) o i (r .0) (r .1) (r .2))
 
 -- The theorem.
 pub summaries : Summaries
 unfolding check-design
-summaries d apart = record {
-  own = plain-own d apart;
-  missing = plain-missing d apart;
-  reachability = plain-reaches d apart;
+summaries d = record {
+  own = plain-own d;
+  missing = plain-missing d;
+  reachability = plain-reaches d;
   empty-table = λ m s i. absurd (List·Memᴰ·not-nil i);
-  asked = asked-free d apart;
-  headed = headed-free d apart;
-  module-graph = module-plain d apart;
-  each-check = λ before. checks-plain d apart [] (λ m s i. absurd (List·Memᴰ·not-nil i)) 0 before;
-  whole-check = checks-plain d apart [] (λ m s i. absurd (List·Memᴰ·not-nil i)) 0 d;
+  asked = asked-free d;
+  headed = headed-free d;
+  each-check = λ before. checks-plain d [] (λ m s i. absurd (List·Memᴰ·not-nil i)) 0 before;
+  whole-check = checks-plain d [] (λ m s i. absurd (List·Memᴰ·not-nil i)) 0 d;
 }

@@ -67,19 +67,19 @@ summary-once k heads = outputs-once (k .header) heads [] (top-outputs (k .items)
 
 -- ---- the summaries kept
 
-unfoldable keys : Kept → List ℕ
+unfoldable pub keys : Kept → List ℕ
 keys [] = []
 keys (e ∷ kept) = e .0 ∷ keys kept
 
 -- each module once, and each of its pairs
-record Fine (kept : Kept) : Type 0 where
-  modules : Once (keys kept)
-  pairs : (e : ℕ × Summary) → e ∈ kept → Once (e .1)
+pub record Fine (kept : Kept) : Type 0 where
+  pub modules : Once (keys kept)
+  pub pairs : (e : ℕ × Summary) → e ∈ kept → Once (e .1)
 
 -- what is kept stays so, and modules being summarised are not kept meanwhile
-record Keeps (busy : List ℕ) (kept kept′ : Kept) : Type 0 where
-  fine : Fine kept → Fine kept′
-  apart : (m : ℕ) → m ∈ busy → ¬ (m ∈ keys kept) → ¬ (m ∈ keys kept′)
+pub record Keeps (busy : List ℕ) (kept kept′ : Kept) : Type 0 where
+  pub fine : Fine kept → Fine kept′
+  pub apart : (m : ℕ) → m ∈ busy → ¬ (m ∈ keys kept) → ¬ (m ∈ keys kept′)
 
 keeps-same : (busy : List ℕ) (kept : Kept) → Keeps busy kept kept
 keeps-same busy kept = record { fine = λ f. f; apart = λ m i h. h }
@@ -87,7 +87,7 @@ keeps-same busy kept = record { fine = λ f. f; apart = λ m i h. h }
 keeps-on : {busy : List ℕ} {a b c : Kept} → Keeps busy a b → Keeps busy b c → Keeps busy a c
 keeps-on p q = record { fine = λ f. q .fine (p .fine f); apart = λ m i h. q .apart m i (p .apart m i h) }
 
-not-kept : (kept : Kept) (m : ℕ) → kept-summary kept m ≡ none → ¬ (m ∈ keys kept)
+pub not-kept : (kept : Kept) (m : ℕ) → kept-summary kept m ≡ none → ¬ (m ∈ keys kept)
 unfolding kept-summary keys
 not-kept [] m h i = List·Memᴰ·not-nil i
 not-kept (e ∷ kept) m h i = go (eqb (e .0) m) refl (not-kept kept m) h
@@ -118,17 +118,17 @@ made-keeps ask busy kept m k h new idle = record {
     inner : Keeps (m ∷ busy) kept (lines-heads ask (k .header) kept (collection (own-vals k) k .lines) .kept)
     inner = lines-keep ask (m ∷ busy) h (k .header) kept (collection (own-vals k) k .lines)
 
-summary-keeps : (d : Design) (fuel : ℕ) (busy : List ℕ) (kept : Kept) (m : ℕ) → Keeps busy kept (comb-summary fuel d busy kept m .kept)
+pub summary-keeps : (d : Design) (fuel : ℕ) (busy : List ℕ) (kept : Kept) (m : ℕ) → Keeps busy kept (comb-summary fuel d busy kept m .kept)
 unfolding comb-summary
 summary-keeps d zero busy kept m = keeps-same busy kept
-summary-keeps d (suc fuel) busy kept m = go (getElem? d m) refl (kept-summary kept m) refl (has-name m busy) refl (summary-keeps d fuel (m ∷ busy))
+summary-keeps d (suc fuel) busy kept m = go (getElem? d m) refl (has-name m busy) refl (kept-summary kept m) refl (summary-keeps d fuel (m ∷ busy))
   where
-    go : (x : Option Module) → getElem? d m ≡ x → (s : Option Summary) → kept-summary kept m ≡ s → (b : Bool) → has-name m busy ≡ b
+    go : (x : Option Module) → getElem? d m ≡ x → (b : Bool) → has-name m busy ≡ b → (s : Option Summary) → kept-summary kept m ≡ s
         → ((kept′ : Kept) (m′ : ℕ) → Keeps (m ∷ busy) kept′ (comb-summary fuel d (m ∷ busy) kept′ m′ .kept)) → Keeps busy kept (comb-summary (suc fuel) d busy kept m .kept)
-    go none x s es b eb ih = rw (x, comb-summary) (keeps-same busy kept)
-    go (some k) x (some s) es b eb ih = rw (x, es, comb-summary) (keeps-same busy kept)
-    go (some k) x none es true eb ih = rw (x, es, eb, comb-summary) (keeps-same busy kept)
-    go (some k) x none es false eb ih = rw (x, es, eb, comb-summary) (made-keeps (comb-summary fuel d (m ∷ busy)) busy kept m k ih (not-kept kept m es) (unnamed eb))
+    go none x b eb s es ih = rw (x, comb-summary) (keeps-same busy kept)
+    go (some k) x true eb s es ih = rw (x, eb, comb-summary) (keeps-same busy kept)
+    go (some k) x false eb (some s) es ih = rw (x, eb, es, comb-summary) (keeps-same busy kept)
+    go (some k) x false eb none es ih = rw (x, eb, es, comb-summary) (made-keeps (comb-summary fuel d (m ∷ busy)) busy kept m k ih (not-kept kept m es) (unnamed eb))
 
 modules-keep : (d : Design) (kept : Kept) (m : ℕ) (ks : List Module) → Keeps [] kept (check-modules d kept m ks .kept)
 unfolding check-modules check-module-drivers module-heads

@@ -1,5 +1,5 @@
 -- Blocks: who sets registers and memories. 01: The block.
--- Assumes nothing: these are definitions.
+-- To a reader: definitions to believe; pairs, block-count, regs and mems are pinned by Meaning.Meaning (proved in proofs/Meaning).
 use mathlib.Core.Bool.{Bool, true, false, _&&_, _||_}
 use mathlib.Core.List.{List, [], _∷_, _++_}
 use mathlib.Core.Option.{Option, some, none}

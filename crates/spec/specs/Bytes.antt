@@ -1,5 +1,5 @@
 -- Bytes: words, decimal numbers, and the parts of a form. 01: The line.
--- Assumes nothing: these are definitions.
+-- To a reader: definitions to believe; number, integer and parts are pinned by Reading.Reading (proved in proofs/Reading).
 use mathlib.Core.Bool.{Bool, true, false}
 use mathlib.Core.List.{List, [], _∷_, _++_}
 use Prim.Native.Nat.{ℕ, zero, suc, _+_, _*_, _-_, _/_, _%_}

@@ -1,5 +1,5 @@
 -- The ten worked cases P1 to P10, gathered into one table, and what it means that a case holds. 01: The report.
--- Assumes nothing: these are definitions.
+-- To a reader: definitions to believe (the texts, and Prints, which print_to's promise cites), and a statement, Ten-cases, proved in proofs/Cases.
 use mathlib.Core.Path.{_≡_}
 use mathlib.Core.Bool.{false}
 use mathlib.Core.List.{List, [], _∷_, _++_}

@@ -1,5 +1,5 @@
 -- The whole answer: number, line, bytes, reports, rounds, and the report buffer at exit. 01: Refused because of the state; The report.
--- Assumes nothing: these are definitions.
+-- To a reader: definitions, pinned by Meaning.Meaning and Refusals.Refusals (proved in proofs/Meaning, proofs/Refusals); limits, records, printed to believe.
 use mathlib.Core.Bool.{Bool, true, false, _||_}
 use mathlib.Core.List.{List, [], _∷_, _++_, map}
 use Prim.Native.Nat.{ℕ, zero, suc, _+_}
@@ -14,7 +14,7 @@ use Rattle.spec.specs.Site.{Site, sites, lines-outside, sites-of, Misuse
 use Rattle.spec.specs.Block.{Pair, pairs, block-count, Storage, regs, mems}
 use Rattle.spec.specs.Edge.{Node, Head, over-graph}
 use Rattle.spec.specs.Summary.{Kept, module-heads}
-use Rattle.spec.specs.Walk.{start-of, find-cycles}
+use Rattle.spec.specs.FindCycles.{start-of, find-cycles}
 use Rattle.spec.specs.Report.{misused, many, never, gap, no-block, blocks, mem-blocks, Report, report, loop-report, show-reports}
 
 -- 01, Refused because of the state: in one module 1,024 sites.

@@ -1,5 +1,5 @@
 -- A working slice of which every place is 0. 01: Refused because of the state; Worthless checks.
--- Assumes nothing: these are definitions.
+-- To a reader: definitions to believe; contracts of graph, edges, items, summary and collect cite them.
 use mathlib.Core.Path.{_≡_}
 use mathlib.Core.Bool.{Bool, true, false}
 use mathlib.Core.List.{List}

@@ -1,5 +1,6 @@
 -- The collected lines of a module, each with the values then standing. 01: The collected item.
--- Assumes nothing: these are definitions.
+-- To a reader: definitions to believe; that items are taken in order, and how repeat and constif run and take rounds, is pinned by
+-- Collection.Collecting (proved in proofs/Collection).
 use mathlib.Core.Bool.{true, false}
 use mathlib.Core.List.{List, [], _∷_, _++_}
 use Prim.Native.Nat.{ℕ, zero, suc, _+_, _-_}

@@ -1,6 +1,6 @@
 -- What the limits count: nodes, different edges, pairs of name and block, each once. What every refusal returns.
 -- 01: Refused because of the state.
--- Assumes nothing: these are definitions, and statements that proofs/Counts.antt proves.
+-- To a reader: definitions to believe, and two statements, Counts and RefusalsKeep, proved in proofs/Counts.
 use mathlib.Core.Path.{_≡_}
 use mathlib.Core.Logic.{_↔_, _⊎_}
 use mathlib.Core.List.{List}
@@ -10,7 +10,7 @@ use Rattle.spec.specs.Bytes.{Bytes}
 use Rattle.spec.specs.Syntax.{Header}
 use Rattle.spec.specs.Collect.{Collected}
 use Rattle.spec.specs.Block.{all-pairs, pairs}
-use Rattle.spec.specs.Search.{each-once}
+use Rattle.spec.specs.DepthFirst.{each-once}
 use Rattle.spec.specs.Edge.{Node, same-node, Head, all-nodes, edge-count}
 use Rattle.spec.specs.Check.{refuse, Lent, check-drivers}
 use Rattle.spec.specs.Graph.{_∈_, Once}

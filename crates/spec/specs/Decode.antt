@@ -1,6 +1,6 @@
 -- Bytes as a tree, for all bytes: by the parts of a form and its head word, with the depth of brackets as fuel. Bytes that show
 -- no tree give some tree; Refusal tells them apart. 01: The line.
--- Assumes nothing: these are definitions.
+-- To a reader: definitions, pinned by Reading.Reading (proved in proofs/Reading); depth-limit is to believe.
 use mathlib.Core.Bool.{true, false}
 use mathlib.Core.List.{List, [], _∷_}
 use Prim.Native.Nat.{ℕ, zero, suc}

@@ -1,5 +1,5 @@
 -- Nodes, what an expression reads, and what a collected line heads. 01: The edge.
--- Assumes nothing: these are definitions.
+-- To a reader: definitions to believe; all-nodes and edge-count are pinned by Counts.Counts (proved in proofs/Counts).
 use mathlib.Core.Bool.{Bool, true, false, _&&_, _||_}
 use mathlib.Core.List.{List, [], _∷_, _++_}
 use mathlib.Core.Option.{Option, some, none}
@@ -9,7 +9,7 @@ use lib.Dec.{eqb, ltb}
 use lib.IntN.{ℤ}
 use Rattle.spec.specs.Syntax.{Kind, in-kind, out-kind, wire-kind, reg-kind, mem-kind, inst-kind, Expr, Exprs, lit, truth, name, field, index, if-else, unary, binary, all, Index, whole, at-bit, high-low, LValue, Place, single, at, Conn, Inst, Item, port, wire, reg, mem, const, drive, on, inst, repeat, const-if, Header}
 use Rattle.spec.specs.Value.{Value, known, missing, outside, Names, value, int-eq}
-use Rattle.spec.specs.Search.{each-once}
+use Rattle.spec.specs.DepthFirst.{each-once}
 use Rattle.spec.specs.Site.{kind-of, Driving, an-output, a-wire, a-reg, a-mem, nothing, driving}
 
 -- 01, The edge: a signal; an instance output (name, index or none, output).

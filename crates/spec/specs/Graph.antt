@@ -1,9 +1,7 @@
--- Finite graphs of signals, with no text in them: what a signal reads, walks along reads, closed walks, ranks.
--- Assumes nothing: these are definitions.
-use Prim.Native.Nat.{ℕ, _<_}
+-- Finite graphs of signals, with no text in them: what a signal reads, walks along reads, closed walks.
+-- To a reader: definitions to believe.
 use mathlib.Core.Path.{_≡_}
 use mathlib.Core.List.{List, [], _∷_, List·Memᴰ}
-use lib.ListN.{length}
 
 infix 50 _∈_
 -- a is a member of l. 01: The edge.
@@ -47,9 +45,3 @@ pub record Closed (G : Graph) : Type 0 where
   pub second : G .Signal
   pub rest : List (G .Signal)
   pub walk : ClosedWalk (G .reads) (start ∷ second ∷ rest)
-
--- a rank for each signal, below the number of signals, that falls along reads. 01: The edge, Rest.
-pub record Ranked (G : Graph) : Type 0 where
-  pub rank : G .Signal → ℕ
-  pub below : (s : G .Signal) → s ∈ G .signals → rank s < length (G .signals)
-  pub falls : (s r : G .Signal) → s ∈ G .signals → r ∈ G .reads s → rank r < rank s

@@ -1,6 +1,7 @@
 -- What the list of reports says: each report stands there exactly when its situation (specs/Situations.antt) holds, none twice, in 01's
 -- order; and what an output with no report can count on. 01: The site; The block; The walk; The report.
--- Assumes nothing: these are definitions, and a statement that proofs/Meaning.antt proves.
+-- To a reader: statements, `Meaning` proved in proofs/Meaning.antt and `OneList` in proofs/OneList.antt. Of its words the situations are to
+-- believe (specs/Situations.antt), and here the order (`Precedes`).
 use mathlib.Core.Path.{_≡_}
 use mathlib.Core.Logic.{_↔_, _⊎_}
 use mathlib.Core.List.{List, [], _∷_, _++_}
@@ -17,10 +18,12 @@ use Rattle.spec.specs.Site.{output-lines, width-value, coverage-limit}
 use Rattle.spec.specs.Block.{line-regs, line-mems, storage-lines}
 use Rattle.spec.specs.Edge.{Node, Head, all-reads}
 use Rattle.spec.specs.Summary.{module-heads}
-use Rattle.spec.specs.Walk.{start-of, find-cycles}
+use Rattle.spec.specs.FindCycles.{start-of, next-nodes, roots}
 use Rattle.spec.specs.Report.{Detail, misused, many, never, gap, no-block, blocks, mem-blocks, Report, report, loop-report, show-reports}
 use Rattle.spec.specs.Check.{check-modules, Answer, Lent, check-drivers}
 use Rattle.spec.specs.Graph.{_∈_, Once, ClosedWalk}
+use Rattle.spec.specs.DepthFirstFinds.{InOrder}
+use Rattle.spec.specs.FirstWays.{Reported, ReportedBefore}
 use Rattle.spec.specs.Situations.{own-lines, own-names, misuses-of, sites-named, Has, IsOutput, AllRanges, Holds}
 
 -- ---- loops
@@ -36,11 +39,6 @@ BeginsAt hs start (n ∷ l) = start ≡ start-of hs n
 
 -- ---- the order
 
--- every two stand in this relation, the earlier to the later. 01: The report (order).
-abbrev pub InOrder : {A : Type 0} → (A → A → Type 0) → List A → Type 0
-InOrder R [] = Unit {0}
-InOrder {A} R (a ∷ l) = ((b : A) → b ∈ l → R a b) × InOrder R l
-
 -- n is named in l before n′ is: some beginning of l names the one and not the other. 01: The report (order).
 pub record NamedBefore {A : Type 0} (name : A → ℕ) (l : List A) (n n′ : ℕ) : Type 0 where
   pub front : List A
@@ -50,13 +48,6 @@ pub record NamedBefore {A : Type 0} (name : A → ℕ) (l : List A) (n n′ : �
   pub stands : one ∈ front
   pub named : name one ≡ n
   pub other : (y : A) → y ∈ front → ¬ (name y ≡ n′)
-
--- a stands before b in l. 01: The report (order).
-pub record StandsBefore {A : Type 0} (l : List A) (a b : A) : Type 0 where
-  pub front : List A
-  pub back : List A
-  pub parted : l ≡ front ++ a ∷ back
-  pub behind : b ∈ back
 
 -- 01, The report: M.
 abbrev pub number-of : Report → ℕ
@@ -74,7 +65,7 @@ stage (report m start n blocks) = 3
 stage (report m start n mem-blocks) = 4
 stage (loop-report m start w) = 5
 
--- 01, The report: conflicts by START then name; the others in the order of their first collected line; loops as they are found.
+-- 01, The report: conflicts by START then name; the others in the order of their first collected line; loops in the order of their ways.
 abbrev pub StageOrder : List Head → Module → Report → Report → Type 0
 StageOrder hs k (report m s n (misused u)) (report m′ s′ n′ x) = NamedBefore (λ v. v .name) (misuses-of k) n n′
 StageOrder hs k (report m s n many) (report m′ s′ n′ x) = (s < s′) ⊎ ((s ≡ s′) × (n < n′))
@@ -85,7 +76,7 @@ StageOrder hs k (report m s n blocks) (report m′ s′ n′ x) = NamedBefore (�
 StageOrder hs k (report m s n mem-blocks) (report m′ s′ n′ x) = NamedBefore (λ r. r .name) (storage-lines line-mems (own-lines k)) n n′
 StageOrder hs k (report m s n x) (loop-report m′ s′ w′) = ⊥
 StageOrder hs k (loop-report m s w) (report m′ s′ n′ x) = ⊥
-StageOrder hs k (loop-report m s w) (loop-report m′ s′ w′) = StandsBefore (find-cycles hs) w w′
+StageOrder hs k (loop-report m s w) (loop-report m′ s′ w′) = ReportedBefore (next-nodes hs) (roots hs) w w′
 
 -- 01, The report: modules in order; within one the stages in order; within one of these as above.
 pub data Precedes (d : Design) (r r′ : Report) : Type 0 where
@@ -106,14 +97,14 @@ pub record ExactlyOne {A : Type 0} (P : A → Type 0) (l : List A) : Type 0 wher
 
 -- What this list says of the design. 01: The site; The block; The walk; The report.
 -- `about`: a report about a name stands there exactly when its situation holds in the module at that place. `loops`: a loop report exactly
--- when the search of its module finds the walk. `closed`: each such walk is closed, along what the lines read. `found`: where there is a
+-- for each step onto the open path (`Reported`, specs/FirstWays.antt). `closed`: each such walk is closed, along what the lines read. `found`: where there is a
 -- closed walk there is a loop report. `once`: none stands twice. `order`: they stand in 01's order. `covered`: of an output with no report
 -- of its own (loops aside), only ranges and a known width, each of the lowest min(width, 4,096) bits lies in exactly one site.
 pub record Means (d : Design) (reports : List Report) : Type 0 where
   pub about : (m start n : ℕ) (x : Detail) → report m start n x ∈ reports ↔ ((k : Module) × (getElem? d m ≡ some k) × Holds k start n x)
   pub loops : (m start : ℕ) (w : List Node) → loop-report m start w ∈ reports
-      ↔ ((k : Module) × (getElem? d m ≡ some k) × (w ∈ find-cycles (heads-at d m k)) × BeginsAt (heads-at d m k) start w)
-  pub closed : (m : ℕ) (k : Module) → getElem? d m ≡ some k → (w : List Node) → w ∈ find-cycles (heads-at d m k) → ClosedWalk (all-reads (heads-at d m k)) w
+      ↔ ((k : Module) × (getElem? d m ≡ some k) × Reported (next-nodes (heads-at d m k)) (roots (heads-at d m k)) w × BeginsAt (heads-at d m k) start w)
+  pub closed : (m : ℕ) (k : Module) → getElem? d m ≡ some k → (w : List Node) → Reported (next-nodes (heads-at d m k)) (roots (heads-at d m k)) w → ClosedWalk (all-reads (heads-at d m k)) w
   pub found : (m : ℕ) (k : Module) → getElem? d m ≡ some k → (w : List Node) → ClosedWalk (all-reads (heads-at d m k)) w
       → (start : ℕ) × (w′ : List Node) × (loop-report m start w′ ∈ reports)
   pub once : Once reports
@@ -141,6 +132,13 @@ abbrev pub Meaning : Type 0
 Meaning = (working : List Lent) (text buffer : Bytes) → check-drivers working text buffer .number ≡ 0
     → (reports : List Report) × Means (decode text) reports × Written (decode text) reports buffer (check-drivers working text buffer)
 
--- And it leaves nothing open: one list only says this of a design. 01: The report.
-abbrev pub OneList : Type 0
-OneList = (d : Design) (l l′ : List Report) → Means d l → Means d l′ → l ≡ l′
+-- 01, The report: a text of report lines that is the text of a list of which `Means d` holds.
+abbrev pub MeansText : Design → Bytes → Type 0
+MeansText d text = (reports : List Report) × (text ≡ show-reports reports) × Means d reports
+
+-- And it leaves nothing open. 01: The report. `list`: one list only says this of a design. `text`: and one text only. `read-back`: whatever
+-- list of reports has that text is the list, for `Means d` holds of it.
+pub record OneList : Type 0 where
+  pub list : (d : Design) (l l′ : List Report) → Means d l → Means d l′ → l ≡ l′
+  pub text : (d : Design) (t t′ : Bytes) → MeansText d t → MeansText d t′ → t ≡ t′
+  pub read-back : (d : Design) (t : Bytes) → MeansText d t → (l : List Report) → t ≡ show-reports l → Means d l

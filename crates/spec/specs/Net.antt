@@ -1,10 +1,10 @@
 -- What the signals of a graph calculate: states, rounds, rest.
--- Assumes nothing: these are definitions.
-use Prim.Native.Nat.{_≤_}
+-- To a reader: definitions to believe, and a statement, RestExactly, proved in proofs/Restless.
+use Prim.Native.Nat.{ℕ, _≤_}
 use mathlib.Core.Path.{_≡_}
 use mathlib.Core.Logic.{_↔_}
 use mathlib.Core.List.{List, [], _∷_}
-use lib.ListN.{length}
+use lib.ListN.{length, take}
 use Rattle.spec.specs.Graph.{Graph, _∈_, Once, Closed}
 
 -- values of whatever set, and each signal's function, of the values of what it reads and of nothing else. 01: The edge, Rest.
@@ -53,12 +53,16 @@ module _ {G : Graph} (N : Net G) where
   abbrev pub Agree : State → State → Type 0
   Agree x y = (s : G .Signal) (i : s ∈ G .signals) → x s i ≡ y s i
 
--- for all values and functions: a state rests, only one does, and from every start every list of at least as many
--- rounds as there are signals ends in it. 01: The edge, Rest.
-pub record ComesToRest (G : Graph) : Type 1 where
-  pub rests : (N : Net G) → (y : State N) × Rests N y
-  pub only : (N : Net G) (x y : State N) → Rests N x → Rests N y → Agree N x y
-  pub reached : (N : Net G) (x y : State N) → Rests N y → (l : List (Round G)) → length (G .signals) ≤ length l → Agree N (rounds N l x) y
+-- what the net N comes to: y rests, whatever rests is y, and from every start, of every list of rounds, y stands after each number of
+-- rounds that is not below the number of signals, as far as the list goes. 01: The edge, Rest.
+pub record EndsIn {G : Graph} (N : Net G) (y : State N) : Type 0 where
+  pub rests : Rests N y
+  pub only : (x : State N) → Rests N x → Agree N x y
+  pub reached : (x : State N) (l : List (Round G)) (k : ℕ) → length (G .signals) ≤ k → k ≤ length l → Agree N (rounds N (take k l) x) y
+
+-- for all values and functions there is one state that the net comes to. 01: The edge, Rest.
+abbrev pub ComesToRest : Graph → Type 1
+ComesToRest G = (N : Net G) → (y : State N) × EndsIn N y
 
 -- a graph comes to rest exactly where it has no closed walk. 01: The edge, Rest.
 abbrev pub RestExactly : Type 1

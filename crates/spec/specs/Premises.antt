@@ -1,77 +1,98 @@
--- The premises of demand 3 one by one: which are enough for it, what the others are for, and for each a text that breaks it alone.
--- 01: The edge, Rest.
--- Assumes nothing: these are definitions and statements.
+-- The premises of demand 3: what they are over the lines of a text, which of them demand 3 needs and what for, a text for each that breaks it
+-- alone, and texts that meet them all. 01: The edge, Rest.
+-- To a reader: statements, proved in proofs/LoopsAndRest.antt and proofs/Premises.antt; the texts are examples.
 use mathlib.Core.Path.{_≡_}
 use mathlib.Core.Logic.{_↔_}
 use mathlib.Core.List.{List, [], _∷_}
-use mathlib.Core.Option.{Option, some}
+use mathlib.Core.Option.{some}
 use Prim.Native.Nat.{ℕ}
-use lib.IntN.{ℤ}
 use Rattle.spec.specs.Bytes.{Bytes}
 use Rattle.spec.specs.Syntax.{Kind, in-kind, reg-kind, Expr, wire, Design}
 use Rattle.spec.specs.Refusal.{decode}
 use Rattle.spec.specs.Collect.{Collected}
-use Rattle.spec.specs.Site.{kind-of, Output}
-use Rattle.spec.specs.Edge.{Node, signal, inst-out}
+use Rattle.spec.specs.Site.{kind-of}
+use Rattle.spec.specs.Edge.{Node, signal}
 use Rattle.spec.specs.Report.{loop-report}
-use Rattle.spec.specs.Check.{check-design}
+use Rattle.spec.specs.Check.{Answer, Lent, check-design, check-drivers}
+use Rattle.spec.specs.Printing.{report-text, NoLoopLineOf}
 use Rattle.spec.specs.Graph.{_∈_, ClosedWalk}
 use Rattle.spec.specs.Net.{ComesToRest}
-use Rattle.spec.specs.Opened.{lines-of, header-of, Instance, instances, instance-index, Copy, Signal, here, signal-reads, module-of, opened-signals, module-reads, OnClosedWalk, top-outputs-of, Premises}
-use Rattle.spec.specs.Summaries.{NoModuleInsideItself}
-use Rattle.spec.specs.Rest.{Listing, opened-graph, NoLoopReport, LoopsAndRest}
+use Rattle.spec.specs.Hierarchy.{Leads, From, Acyclic, Unheaded, FixedUnheaded, NoInputPort, OutputsArePorts, PremisesFrom}
+use Rattle.spec.specs.Opened.{Signal, here, HasClosedWalk, OnClosedWalk, opened-signals, Listing, opened-graph, Fixed}
+use Rattle.spec.specs.DesignHierarchy.{lines-of, header-of, hierarchy, instanced, Premises}
+use Rattle.spec.specs.LoopsAndRest.{OpenedRests, LoopsAndRest, LoopsAndRestFrom}
 use Rattle.spec.specs.Cases.{text-of, accepted, Answers}
 
--- 01, Rest: no collected wire line heads a name of this kind.
-abbrev pub NotWired : Kind → Design → Type 0
-NotWired k d =
-    (m : ℕ) (c : Collected) → c ∈ lines-of d m → (n start : ℕ) (e : Expr) → c .item ≡ wire n e start → ¬ (kind-of (header-of d m) n ≡ some k)
+-- ---- the premises over lines
 
--- 01, Rest: no top-level out port has an input's name.
-abbrev pub NoInputPort : Design → Type 0
-NoInputPort d = (m : ℕ) (o : Output) → o ∈ top-outputs-of d m → ¬ (kind-of (header-of d m) (o .name) ≡ some in-kind)
+-- 01, the opened design: a module contains itself where collected instance lines lead back to it.
+abbrev pub InsideItself : Design → ℕ → Type 0
+InsideItself d m = (ms : List ℕ) × ClosedWalk (instanced d) (m ∷ ms)
 
--- 01, Rest: instance outputs read are top-level out ports of every module so instanced.
-abbrev pub OutputsArePorts : Design → Type 0
-OutputsArePorts d =
-    (m j o : ℕ) (x : Option ℤ) (i : Instance) → inst-out j x o ∈ module-reads d m → i ∈ instances d m → i .inst .name ≡ j
-    → instance-index i ≡ x → (p : Output) × (p ∈ top-outputs-of d (i .inst .«module»)) × (p .name ≡ o)
+-- Demand 3, first premise: from module m on it says exactly that m leads to no module that contains itself.
+abbrev pub AcyclicExactly : Type 0
+AcyclicExactly = (d : Design) (m : ℕ) → Acyclic (hierarchy d) m ↔ From (hierarchy d) (λ t. ¬ InsideItself d t) m
 
--- 01, Rest: the four premises by name, the second in its two halves.
+-- 01, The edge: no collected wire line of module m heads a name of this kind.
+abbrev pub NotWired : Kind → Design → ℕ → Type 0
+NotWired k d m = (c : Collected) → c ∈ lines-of d m → (n start : ℕ) (e : Expr) → c .item ≡ wire n e start → ¬ (kind-of (header-of d m) n ≡ some k)
+
+-- Demand 3, second premise: it says exactly that no collected wire line heads an input, and none a register.
+abbrev pub HeadedByWires : Type 0
+HeadedByWires =
+    (d : Design) (m : ℕ) → (NotWired in-kind d m ↔ Unheaded (hierarchy d) in-kind m) × (NotWired reg-kind d m ↔ Unheaded (hierarchy d) reg-kind m)
+
+-- Demand 3: the four premises by name.
 pub data Premise : Type 0 where
-  not-inside-itself inputs-not-wired registers-not-wired inputs-no-ports outputs-are-ports : Premise
+  acyclic fixed-unheaded no-input-port outputs-are-ports : Premise
 
--- 01, Rest: a design meets a premise.
+-- Demand 3: every module of a design meets a premise.
 abbrev pub Meets : Premise → Design → Type 0
-Meets not-inside-itself d = NoModuleInsideItself d
-Meets inputs-not-wired d = NotWired in-kind d
-Meets registers-not-wired d = NotWired reg-kind d
-Meets inputs-no-ports d = NoInputPort d
-Meets outputs-are-ports d = OutputsArePorts d
+Meets acyclic d = (m : ℕ) → Acyclic (hierarchy d) m
+Meets fixed-unheaded d = (m : ℕ) → FixedUnheaded (hierarchy d) m
+Meets no-input-port d = (m : ℕ) → NoInputPort (hierarchy d) m
+Meets outputs-are-ports d = (m : ℕ) → OutputsArePorts (hierarchy d) m
 
--- 01, Rest: these are the premises of demand 3.
+-- Demand 3: these are its premises.
 abbrev pub TheseAreAll : Type 0
 TheseAreAll = (d : Design) → Premises d ↔ ((p : Premise) → Meets p d)
 
+-- ---- what is needed
+
 -- 01, Rest: each loop report shows a closed walk, of every design, with no premise at all.
 abbrev pub NoneFalse : Type 0
-NoneFalse = (d : Design) (m start : ℕ) (w : List Node) → loop-report m start w ∈ check-design d .reports → OnClosedWalk d m w
+NoneFalse = (d : Design) (m start : ℕ) (w : List Node) → loop-report m start w ∈ check-design d .reports → OnClosedWalk (hierarchy d) m w
 
--- 01, Rest: demand 3 of every design, accepted or not, that meets three of them.
+-- Demand 3 holds without the third premise, on out ports.
 abbrev pub ThreeAreEnough : Type 1
-ThreeAreEnough = (d : Design) → Meets not-inside-itself d → Meets inputs-not-wired d → Meets outputs-are-ports d → LoopsAndRest d
+ThreeAreEnough =
+    (working : List Lent) (text buffer : Bytes) → check-drivers working text buffer .number ≡ 0
+    → (m : ℕ) → Acyclic (hierarchy (decode text)) m → From (hierarchy (decode text)) (FixedUnheaded (hierarchy (decode text))) m
+    → From (hierarchy (decode text)) (OutputsArePorts (hierarchy (decode text))) m
+    → LoopsAndRestFrom (check-drivers working text buffer) buffer (decode text) m
 
--- 01, Rest: the opened module's inputs and all registers are fixed in the functions: they read nothing, so that their function is a
--- constant. This is what the premise on wire lines is for.
-pub record Fixed (d : Design) : Type 0 where
-  pub inputs : (m n : ℕ) → kind-of (header-of d m) n ≡ some in-kind → signal-reads d m (here (signal n)) ≡ []
-  pub registers : (m : ℕ) (p : Copy) (n : ℕ) → kind-of (header-of d (module-of d m p)) n ≡ some reg-kind → signal-reads d m (p, signal n) ≡ []
+-- Demand 3: the half of the second premise on registers is for fixed registers alone: without it no loop is reported exactly when no walk
+-- closes, and then the opened design comes to rest.
+abbrev pub RegistersOnlyFixed : Type 1
+RegistersOnlyFixed =
+    (working : List Lent) (text buffer : Bytes) → check-drivers working text buffer .number ≡ 0
+    → (m : ℕ) → Acyclic (hierarchy (decode text)) m → From (hierarchy (decode text)) (Unheaded (hierarchy (decode text)) in-kind) m
+    → From (hierarchy (decode text)) (OutputsArePorts (hierarchy (decode text))) m
+    → (NoLoopLineOf (Leads (hierarchy (decode text)) m) (report-text (check-drivers working text buffer)) ↔ ¬ HasClosedWalk (hierarchy (decode text)) m)
+    × (NoLoopLineOf (Leads (hierarchy (decode text)) m) (report-text (check-drivers working text buffer)) → OpenedRests (decode text) m)
 
--- 01, Rest: where no wire line heads an input or register.
-abbrev pub FixedByWires : Type 0
-FixedByWires = (d : Design) → Meets inputs-not-wired d → Meets registers-not-wired d → Fixed d
+-- 01, Rest: no loop is reported of a module that m leads to, m among them.
+abbrev pub NoLoopReportFrom : Design → ℕ → Type 0
+NoLoopReportFrom d m = (t start : ℕ) (w : List Node) → Leads (hierarchy d) m t → ¬ (loop-report t start w ∈ check-design d .reports)
 
--- 01, Rest: a design that breaks one premise and meets the others.
+-- 01, Rest: and nowhere else, which asks for the first premise alone. Where the design opened from m, listed as it is, comes to rest, no loop is
+-- reported of the modules that m leads to.
+abbrev pub OnlyThere : Type 1
+OnlyThere =
+    (d : Design) (m : ℕ) → Acyclic (hierarchy d) m
+    → ((l : Listing (hierarchy d) m (opened-signals (hierarchy d) m)) → ComesToRest (opened-graph (hierarchy d) m (opened-signals (hierarchy d) m) l)) → NoLoopReportFrom d m
+
+-- Demand 3: a design that breaks one premise and meets the others.
 pub record BreaksOnly (p : Premise) (d : Design) : Type 0 where
   pub broken : ¬ Meets p d
   pub others : (q : Premise) → ¬ (q ≡ p) → Meets q d
@@ -79,22 +100,30 @@ pub record BreaksOnly (p : Premise) (d : Design) : Type 0 where
 -- 01, Rest: an accepted text of which nothing at all is reported, and yet a module opens into a design with a closed walk.
 pub record LoopUnseen (text : Bytes) : Type 0 where
   pub silent : Answers text (accepted 0 0 [])
-  pub unreported : NoLoopReport (decode text)
-  pub walk : (m : ℕ) × (w : List Signal) × ClosedWalk (signal-reads (decode text) m) w
+  pub unreported : check-design (decode text) .reports ≡ []
+  pub walk : (m : ℕ) × HasClosedWalk (hierarchy (decode text)) m
 
--- 01, Rest: then demand 3 fails of its design.
+-- 01, Rest: then demand 3 fails of its design, whatever the answer.
 abbrev pub UnseenFails : Type 1
-UnseenFails = (text : Bytes) → LoopUnseen text → ¬ LoopsAndRest (decode text)
+UnseenFails = (text : Bytes) → LoopUnseen text → (a : Answer) (old : Bytes) → ¬ LoopsAndRest a old (decode text)
+
+-- 01, Rest: and of a design in which an input or register is not fixed.
+abbrev pub UnfixedFails : Type 1
+UnfixedFails = (d : Design) (m : ℕ) → ¬ Fixed (hierarchy d) m → (a : Answer) (old : Bytes) → ¬ LoopsAndRest a old d
 
 -- 01, Rest: where no module contains itself, a loop unseen is a design that does not come to rest, though nothing is reported.
 abbrev pub UnseenMoves : Type 1
 UnseenMoves =
-    (text : Bytes) → LoopUnseen text → NoModuleInsideItself (decode text)
-    → (m : ℕ) × ((l : Listing (decode text) m (opened-signals (decode text) m)) → ¬ ComesToRest (opened-graph (decode text) m (opened-signals (decode text) m) l))
+    (text : Bytes) → LoopUnseen text → Meets acyclic (decode text)
+    → (m : ℕ)
+    × ((l : Listing (hierarchy (decode text)) m (opened-signals (hierarchy (decode text)) m))
+    → ¬ ComesToRest (opened-graph (hierarchy (decode text)) m (opened-signals (hierarchy (decode text)) m) l))
 
 -- 01, Rest: an opened design without end: no list of signals that has this one has all that its members read.
 abbrev pub Endless : Design → ℕ → Signal → Type 0
-Endless d m s = (signals : List Signal) → Listing d m signals → ¬ (s ∈ signals)
+Endless d m s = (signals : List Signal) → Listing (hierarchy d) m signals → ¬ (s ∈ signals)
+
+-- ---- texts that break one
 
 -- 01, Rest: a module that contains itself: output 2 reaches input 4 only through the copy inside, whose summary is still being made.
 abbrev pub inside-itself : Bytes
@@ -145,11 +174,80 @@ wired-register = text-of ("(module 0 bound)" ∷ "(kind 1 in)" ∷ "(kind 4 reg)
 abbrev pub input-port : Bytes
 input-port = text-of ("(module 0 bound)" ∷ "(kind 1 in)" ∷ "(port out 1 bit 10)" ∷ [])
 
--- 01, Rest: each premise is broken by a text that meets the others. Of three a loop is then unseen, and of the first the opened design has
--- no end; of the fourth a register is not fixed. The last breaks nothing: demand 3 holds of it by `ThreeAreEnough`.
+-- Demand 3: each premise is broken by a text that meets the others, the second in each of its halves alone. Of three texts a loop is then
+-- unseen, and of the first the opened design has no end; of `wired-register` the register is not fixed. So demand 3 fails of these
+-- (`UnseenFails`, `UnfixedFails`). The last breaks nothing: demand 3 holds of it by `ThreeAreEnough`.
 pub record EachPremise : Type 0 where
-  pub inside : BreaksOnly not-inside-itself (decode inside-itself) × LoopUnseen inside-itself × Endless (decode inside-itself) 0 (here (signal 2))
-  pub input : BreaksOnly inputs-not-wired (decode wired-input) × LoopUnseen wired-input
+  pub inside : BreaksOnly acyclic (decode inside-itself) × LoopUnseen inside-itself × Endless (decode inside-itself) 0 (here (signal 2))
+  pub input : BreaksOnly fixed-unheaded (decode wired-input) × ((m : ℕ) → Unheaded (hierarchy (decode wired-input)) reg-kind m) × LoopUnseen wired-input
+  pub register : BreaksOnly fixed-unheaded (decode wired-register) × ((m : ℕ) → Unheaded (hierarchy (decode wired-register)) in-kind m)
+      × Answers wired-register (accepted 0 0 []) × ¬ Fixed (hierarchy (decode wired-register)) 0
   pub outputs : BreaksOnly outputs-are-ports (decode no-port) × LoopUnseen no-port
-  pub register : BreaksOnly registers-not-wired (decode wired-register) × Answers wired-register (accepted 0 0 []) × ¬ Fixed (decode wired-register)
-  pub port : BreaksOnly inputs-no-ports (decode input-port) × Answers input-port (accepted 1 0 (text-of ("(E0502 0 10 1 never)" ∷ [])))
+  pub port : BreaksOnly no-input-port (decode input-port) × Answers input-port (accepted 1 0 (text-of ("(E0502 0 10 1 never)" ∷ [])))
+
+-- ---- texts that meet them
+
+-- 01, Rest: module 1 contains itself, and module 0 does not lead there.
+abbrev pub beside-itself : Bytes
+beside-itself =
+    text-of
+    ("(module 0 bound)"
+    ∷ "(kind 1 in)"
+    ∷ "(kind 2 out)"
+    ∷ "(port out 2 bit 10)"
+    ∷ "(drive (lv 2 20) (n 1))"
+    ∷ "(module 1 bound)"
+    ∷ "(kind 5 inst)"
+    ∷ "(inst 5 - 1 30)"
+    ∷ [])
+
+-- Demand 3 then holds from module 0 on (`RestFrom`), though the whole text breaks a premise.
+pub record OthersDoNotMatter : Type 0 where
+  pub broken : ¬ Meets acyclic (decode beside-itself)
+  pub from-zero : PremisesFrom (hierarchy (decode beside-itself)) 0
+  pub answer : Answers beside-itself (accepted 0 0 [])
+
+-- 01, Rest: output 2 reads output 3 of an instance, which reads input 1.
+abbrev pub quiet-instance : Bytes
+quiet-instance =
+    text-of
+    ("(module 0 bound)"
+    ∷ "(kind 1 in)"
+    ∷ "(kind 2 out)"
+    ∷ "(kind 5 inst)"
+    ∷ "(port out 2 bit 10)"
+    ∷ "(inst 5 - 1 20 (conn 1 (n 1)))"
+    ∷ "(drive (lv 2 30) (f (n 5) 3))"
+    ∷ "(module 1 bound)"
+    ∷ "(kind 1 in)"
+    ∷ "(kind 3 out)"
+    ∷ "(port out 3 bit 40)"
+    ∷ "(drive (lv 3 50) (n 1))"
+    ∷ [])
+
+-- 01, Rest: the same, but the instance's input is connected to output 2.
+abbrev pub looped-instance : Bytes
+looped-instance =
+    text-of
+    ("(module 0 bound)"
+    ∷ "(kind 2 out)"
+    ∷ "(kind 5 inst)"
+    ∷ "(port out 2 bit 10)"
+    ∷ "(inst 5 - 1 20 (conn 1 (n 2)))"
+    ∷ "(drive (lv 2 30) (f (n 5) 3))"
+    ∷ "(module 1 bound)"
+    ∷ "(kind 1 in)"
+    ∷ "(kind 3 out)"
+    ∷ "(port out 3 bit 40)"
+    ∷ "(drive (lv 3 50) (n 1))"
+    ∷ [])
+
+-- Demand 3 speaks of something. Within all premises, with an instance inside, there is a text without a report, whose opened
+-- designs come to rest, and one whose loop runs through the instance, and is reported.
+pub record WithinPremises : Type 1 where
+  pub quiet : Premises (decode quiet-instance)
+  pub quiet-answer : Answers quiet-instance (accepted 0 0 [])
+  pub quiet-rests : (m : ℕ) → OpenedRests (decode quiet-instance) m
+  pub looped : Premises (decode looped-instance)
+  pub looped-answer : Answers looped-instance (accepted 1 0 (text-of ("(E0504 0 20 (walk (u 5 - 3) 2 (u 5 - 3)))" ∷ [])))
+  pub looped-walk : HasClosedWalk (hierarchy (decode looped-instance)) 0

@@ -1,17 +1,18 @@
 -- The theorem about reading: decoding what shows a design gives the design, a text is accepted exactly when it shows a design in
 -- range, and a refusal names 1, else 2, else the lowest fault of the first line that has one. 01: The line; Refused because of the text.
--- Assumes nothing: these are definitions, and a statement that proofs/Reading.antt proves.
+-- To a reader: definitions to believe (the faults and their order), and a statement, Reading, proved in proofs/Reading.
 use mathlib.Core.Path.{_≡_}
+use mathlib.Core.Logic.{_↔_}
 use mathlib.Core.Bool.{true, false}
 use mathlib.Core.List.{List, [], _∷_, _++_}
 use Prim.Native.Nat.{ℕ, suc, _≤_, _<_}
 use lib.ListN.{length}
 use lib.Dec.{eqb}
 use Rattle.spec.specs.Bytes.{Bytes}
-use Rattle.spec.specs.Syntax.{Design}
-use Rattle.spec.specs.Show.{show-design}
-use Rattle.spec.specs.Decode.{decode-line}
-use Rattle.spec.specs.Refusal.{text-limit, lines, in-set, well-formed, refused, ends-in-feed, one-form, written, line-in-range, Before, at-start, after-line, in-place, first-kind, line-places, refusal, decode, in-range}
+use Rattle.spec.specs.Syntax.{Design, Line}
+use Rattle.spec.specs.Show.{show-line, show-design}
+use Rattle.spec.specs.Decode.{depth-limit, decode-line}
+use Rattle.spec.specs.Refusal.{text-limit, lines, in-set, well-formed, refused, ends-in-feed, one-form, written, line-in-range, Before, at-start, after-line, in-place, first-kind, line-places, refusal, decode, line-depth, in-range}
 
 -- 01, Refused because of the text, 2: every byte is in the set.
 abbrev pub AllInSet : Bytes → Type 0
@@ -60,8 +61,11 @@ pub data Refused (text : Bytes) : ℕ → ℕ → Type 0 where
       → lines text ≡ before ++ s ∷ after → Faultless at-start before → LowestFault (after-lines at-start before) s k
       → Refused text k (suc (length before))
 
--- 01, The line; Refused because of the text: the theorem.
+-- 01, The line; Refused because of the text: the theorem. `line-back`: what shows a line at most 32 deep decodes to it. `well-written`: the
+-- lines without the faults 3 and 4 are those that show a line at most 32 deep; the faults 5 to 8 are faults of that line.
 pub record Reading : Type 0 where
+  pub line-back : (l : Line) → line-depth l ≤ depth-limit → decode-line (show-line l) ≡ l
+  pub well-written : (s : Bytes) → ((one-form s ≡ true) × (written s ≡ true)) ↔ ((l : Line) × (line-depth l ≤ depth-limit) × (show-line l ≡ s))
   pub decode-show : (d : Design) → in-range d ≡ true → decode (show-design d) ≡ d
   pub shown : (d : Design) → in-range d ≡ true → length (show-design d) ≤ text-limit → refusal (show-design d) ≡ well-formed
   pub accepted : (text : Bytes) → refusal text ≡ well-formed

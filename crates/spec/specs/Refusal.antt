@@ -1,5 +1,5 @@
 -- What is refused because of the text: faults 1 to 8 and their line. 01: Refused because of the text.
--- Assumes nothing: these are definitions.
+-- To a reader: definitions to believe; refusal, written and decode are pinned by Reading.Reading (proved in proofs/Reading).
 use mathlib.Core.Bool.{Bool, true, false, _&&_, _||_, not as opposite}
 use mathlib.Core.List.{List, [], _∷_}
 use Prim.Native.Nat.{ℕ, zero, suc, max}

@@ -1,5 +1,5 @@
 -- What is refused because of the state, and what a refusal leaves. 01: Refused because of the state.
--- Assumes nothing: these are definitions, and a statement that proofs/Refusals.antt proves.
+-- To a reader: definitions to believe (what passes a limit), and a statement, Refusals, proved in proofs/Refusals.
 use mathlib.Core.Path.{_≡_}
 use mathlib.Core.Logic.{_↔_, _⊎_}
 use mathlib.Core.Bool.{Bool, true, false, _||_}
@@ -16,7 +16,7 @@ use Rattle.spec.specs.Value.{known, outside, Names, is-zero, value, Tabl
 use Rattle.spec.specs.Collect.{Collected}
 use Rattle.spec.specs.Site.{kind-of, Driving, an-output, a-wire, a-reg, a-mem, nothing, driving, index-constants, line-constants, sites, width-value}
 use Rattle.spec.specs.Block.{pairs}
-use Rattle.spec.specs.Search.{each-once}
+use Rattle.spec.specs.DepthFirst.{each-once}
 use Rattle.spec.specs.Edge.{same-node, is-inst, Head, Summary, all-nodes, edge-count, node-limit, edge-limit, inst-of}
 use Rattle.spec.specs.Summary.{Kept, kept-summary, triples, triple-limit, Asked, ask-for, comb-summary, make-summary, lines-heads, module-heads}
 use Rattle.spec.specs.Report.{show-reports}

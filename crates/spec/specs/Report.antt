@@ -1,5 +1,5 @@
 -- Reports, and reports as bytes. 01: The report.
--- Assumes nothing: these are definitions.
+-- To a reader: definitions to believe.
 use mathlib.Core.List.{List, [], _∷_, _++_}
 use mathlib.Core.Option.{Option, some, none}
 use Prim.Native.Nat.{ℕ}

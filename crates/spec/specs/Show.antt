@@ -1,5 +1,5 @@
 -- A tree as bytes, exactly as its line stands in the text. 01: The line.
--- Assumes nothing: these are definitions.
+-- To a reader: definitions to believe.
 use mathlib.Core.Bool.{Bool, true, false}
 use mathlib.Core.List.{List, [], _∷_, _++_}
 use Prim.Native.Nat.{ℕ, suc}

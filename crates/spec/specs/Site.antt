@@ -1,5 +1,5 @@
 -- Drive sites of outputs: extents, meeting, conflicts, gaps; poison. 01: The site.
--- Assumes nothing: these are definitions.
+-- To a reader: definitions to believe; meets, conflicts, outputs and coverage are pinned by Meaning.Meaning (proved in proofs/Meaning).
 use mathlib.Core.Bool.{Bool, true, false, _&&_, _||_}
 use mathlib.Core.List.{List, [], _∷_, _++_}
 use mathlib.Core.Option.{Option, some, none}

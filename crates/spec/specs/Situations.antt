@@ -1,6 +1,6 @@
 -- The situations that 01 names, of a module's collected lines: misuses, sites, conflicts, poison, outputs, gaps, blocks; and which report
 -- stands for which. 01: The site; The block.
--- Assumes nothing: these are definitions.
+-- To a reader: definitions to believe.
 use mathlib.Core.Path.{_≡_}
 use mathlib.Core.Logic.{_⊎_}
 use mathlib.Core.List.{List, [], _∷_, _++_}

@@ -1,5 +1,5 @@
 -- Which inputs a module's outputs reach, through instances too. 01: The edge.
--- Assumes nothing: these are definitions.
+-- To a reader: definitions to believe; where no module contains itself, comb-summary is pinned by Summaries.Summaries (proved in proofs/Summaries).
 use mathlib.Core.Bool.{Bool, true, false, _||_}
 use mathlib.Core.List.{List, [], _∷_, _++_}
 use mathlib.Core.Option.{Option, some, none}
@@ -10,7 +10,7 @@ use Rattle.spec.specs.Syntax.{Kind, in-kind, out-kind, wire-kind, reg-ki
 use Rattle.spec.specs.Refusal.{has-name}
 use Rattle.spec.specs.Value.{own-vals}
 use Rattle.spec.specs.Collect.{Collected, collection}
-use Rattle.spec.specs.Search.{search}
+use Rattle.spec.specs.DepthFirst.{search}
 use Rattle.spec.specs.Site.{kind-of, Output, line-outputs, first-lines}
 use Rattle.spec.specs.Edge.{Node, signal, inst-out, same-node, Head, Summary, line-heads, inst-of, all-nodes, reads-of, over-graph}
 
@@ -117,17 +117,18 @@ make-summary ask kept m k =
     record { summary = s; kept = kept′; full = h .full || over-graph (h .heads) || ltb triple-limit (triples kept′) }
 
 -- 01, The edge: taken under the module's default values, made when first needed and then kept; missing module or one already being
--- summarised: empty, and that is not kept. `busy` are the modules being summarised; `fuel` is above the number of the others.
+-- summarised: empty, and that is not kept. Decision: whether it is being summarised is asked before whether it is kept. `busy` are the modules
+-- being summarised; `fuel` is above the number of the others.
 unfoldable pub comb-summary : ℕ → Design → List ℕ → Kept → ℕ → Asked
 comb-summary zero d busy kept m = no-summary kept
 comb-summary (suc fuel) d busy kept m =
     elim (getElem? d m) [
       | none ↦ no-summary kept
-      | some k ↦ elim (kept-summary kept m) [
-        | some s ↦ record { summary = s; kept = kept; full = false }
-        | none ↦ elim (has-name m busy) [
-          | true ↦ no-summary kept
-          | false ↦ make-summary (comb-summary fuel d (m ∷ busy)) kept m k
+      | some k ↦ elim (has-name m busy) [
+        | true ↦ no-summary kept
+        | false ↦ elim (kept-summary kept m) [
+          | some s ↦ record { summary = s; kept = kept; full = false }
+          | none ↦ make-summary (comb-summary fuel d (m ∷ busy)) kept m k
         ]
       ]
     ]

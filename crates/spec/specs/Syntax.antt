@@ -1,5 +1,5 @@
 -- A design as trees. 01: The line.
--- Assumes nothing: these are definitions.
+-- To a reader: definitions to believe.
 use mathlib.Core.Bool.{Bool}
 use mathlib.Core.List.{List}
 use Prim.Native.Nat.{ℕ}

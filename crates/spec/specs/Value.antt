@@ -1,5 +1,5 @@
 -- The value of a constant expression, and the name table. 01: The value.
--- Assumes nothing: these are definitions.
+-- To a reader: definitions to believe; when value is outside INT is pinned by Refusals.Refusals (proved in proofs/Refusals).
 use mathlib.Core.Bool.{Bool, true, false, _&&_, _||_, not as opposite}
 use mathlib.Core.List.{List, [], _∷_}
 use Prim.Native.Nat.{ℕ, zero, suc, _-_, _/_}

@@ -1,6 +1,6 @@
 -- The name table of a module, filled from its lines of an accepted text. 01: The line; The value; Refused because of the state;
 -- Worthless checks.
--- Assumes nothing: these are definitions.
+-- To a reader: definitions that contracts of this and other crates cite; each such contract is proved; check_drivers' own promise needs only name-places.
 use mathlib.Core.Path.{_≡_}
 use mathlib.Core.Bool.{true, false}
 use mathlib.Core.List.{List}

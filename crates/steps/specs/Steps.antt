@@ -1,6 +1,6 @@
 -- What the walk over items needs to know of an item: what it is, how often a `repeat` runs, which branch a `constif` takes, and where
 -- their bodies stand. 01: The collected item; The edge; Refused because of the state.
--- Assumes nothing: these are definitions and statements.
+-- To a reader: definitions that contracts of this and other crates cite; each such contract is proved; check_drivers' own promise cites none of them.
 use mathlib.Core.Path.{_≡_}
 use mathlib.Core.Bool.{Bool, true, false, _||_}
 use Prim.Native.Nat.{ℕ, zero, suc, _+_, _-_, _≤_}

@@ -23,8 +23,8 @@ use Rattle.graph.specs.Stands.{Stands}
 use Rattle.graph.specs.Reach.{found, Clean, KindsAre, Inputs}
 use Rattle.graph.proofs.Lifted.{reached-once}
 use Rattle.edges.specs.Reads.{kind-word, KindsOf}
-use Rattle.walk.specs.Alike.{Alike, reach-by, Finds}
-use Rattle.walk.proofs.Alike.{finds-alike}
+use Rattle.walk.specs.Alike.{Alike}
+use Rattle.walk.proofs.Alike.{finds-alike, reach-by, Finds}
 use Rattle.summary.specs.declared.Port as P
 use Rattle.summary.specs.declared.Port.the-variants as ports
 use Rattle.summary.specs.Keeps.{total-of, Keeps, recorded, Made}
@@ -335,9 +335,9 @@ module _ {d : ℕ} {s : Bytes} {from : ℕ} {M : Module} {heads : List Head} {k�
                 lt-ltb 1024 (length (module-summary M heads) + triples kept) (omega (arith, a .added, h .total))
 
   -- all items are done
-  pub going-kept : length s ≤ from + 1 → (m : ℕ) → m < 32 → (kept : Kept) (busy : List ℕ) → Keeps k₀ kept (m ∷ busy) → {start end : ℕ} → start ≡ total-of k₀ → end ≡ total-of k
+  pub going-kept : length s ≤ from + 1 → (m : ℕ) → m < 32 → (kept : Kept) (busy : List ℕ) → Keeps k₀ kept (m ∷ busy) → has-name m busy ≡ false → {start end : ℕ} → start ≡ total-of k₀ → end ≡ total-of k
       → {k′ : List ℕ} → k′ ≡ recorded k m start (end - start) → Made true k′ m M heads kept busy
-  going-kept l m small kept busy h {start} {end} qs qe {k′} q =
+  going-kept l m small kept busy h free {start} {end} qs qe {k′} q =
       let a : Alike (reach-by (g .f) (g .done)) (module-summary M heads) = rw (going-end l) at (finds-alike M heads (g .f) (g .finds)) in
       let p : k′ ≡ recorded k m (total-of k₀) (end - start) = q ∙ ap (λ (z : ℕ). recorded k m z (end - start)) qs in
-      keeps-one m small h (g .grown) a (omega arith) p
+      keeps-one m small h (g .grown) a free (omega arith) p

@@ -10,6 +10,7 @@ use lib.ListN.{length, getD, set, length-set, length-append}
 use lib.Seq.{getD-set-same, set-out}
 use lib.Dec.{eqb, ltb}
 use borrow.Author.Tests.{eqb-true, eqb-false, eq-eqb, ne-eqb, ltb-true, ltb-false}
+use Rattle.spec.specs.Refusal.{has-name}
 use Rattle.spec.specs.Edge.{Summary}
 use Rattle.spec.specs.Summary.{Kept, kept-summary, triples, triple-limit, paired}
 use Rattle.graph.specs.Reach.{words-below, found}
@@ -124,7 +125,7 @@ pub kept-one : (k : List ℕ) (m start count : ℕ) {k₁ k₂ k₃ : List ℕ} 
 unfolding recorded
 kept-one k m start count e₁ e₂ e₃ = e₃ ∙ rw (e₂, e₁)
 
-module _ {k₀ k : List ℕ} {ps s : Summary} {kept : Kept} {busy : List ℕ} (m : ℕ) (small : m < 32) (h : Keeps k₀ kept (m ∷ busy)) (g : Grown k₀ k ps) (a : Alike ps s)
+module _ {k₀ k : List ℕ} {ps s : Summary} {kept : Kept} {busy : List ℕ} (m : ℕ) (small : m < 32) (h : Keeps k₀ kept (m ∷ busy)) (g : Grown k₀ k ps) (a : Alike ps s) (free : has-name m busy ≡ false)
     {c : ℕ} (count : c ≡ total-of k - total-of k₀) where
   abbrev after : List ℕ
   after = recorded k m (total-of k₀) c
@@ -187,7 +188,7 @@ module _ {k₀ k : List ℕ} {ps s : Summary} {kept : Kept} {busy : List ℕ} (m
   each-state n l true f =
       let t = g .total in
       let own : StateIs (state-word after m) after m ((m, s) ∷ kept) busy =
-      rw own-state ((s, found-here, rw own-pairs a), omega (arith, own-start, own-count, total-same)) in
+      rw own-state ((s, found-here, rw own-pairs a, free), omega (arith, own-start, own-count, total-same)) in
       rw (eqb-true n m f) own
   each-state n l false f =
       let d : ¬ (n ≡ m) = eqb-false n m f in

@@ -50,7 +50,7 @@ module _ {k k′ : List ℕ} {m : ℕ} (s : Same k k′ m) (kept kept′ : Kept)
   carry (suc (suc n)) h =
       let l = h .1 in
       let p : pairs-of k′ m ≡ pairs-of k m = rw (s .start, s .count) (pairs-same k k′ (first-of k m) (count-of k m) (λ i a b. s .pairs i (omega arith) (omega arith))) in
-      ((h .0 .0, e ∙ h .0 .1, rw p (h .0 .2)), omega (arith, s .start, s .count, s .total))
+      ((h .0 .0, e ∙ h .0 .1, rw p (h .0 .2), f ∙ h .0 .3), omega (arith, s .start, s .count, s .total))
 
   pub carried : StateIs (state-word k m) k m kept busy → StateIs (state-word k′ m) k′ m kept′ busy′
   carried h = rw (s .state) (carry (state-word k m) h)

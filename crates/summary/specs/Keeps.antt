@@ -1,5 +1,5 @@
 -- The table of summaries as the code holds it. 01: The edge; Refused because of the state.
--- Assumes nothing: these are definitions and statements.
+-- To a reader: definitions that contracts of this and other crates cite; each such contract is proved; check_drivers' own promise needs only kept-places.
 use mathlib.Core.Path.{_≡_}
 use mathlib.Core.Bool.{Bool, true, false}
 use mathlib.Core.List.{List, [], _∷_}
@@ -50,11 +50,11 @@ abbrev pub pairs-of : List ℕ → ℕ → Summary
 pairs-of k m = summary-at k (first-of k m) (count-of k m)
 
 -- 01, The edge: what the state of module m says: no summary of it is kept and it is not in progress, it is in progress and none is
--- kept, or the table has its summary (`Alike`)
+-- kept, or the table has its summary (`Alike`) and it is not in progress
 abbrev pub Says : S.State → List ℕ → ℕ → Kept → List ℕ → Type 0
 Says states.New k m kept busy = (kept-summary kept m ≡ none) × (has-name m busy ≡ false)
 Says states.Busy k m kept busy = (kept-summary kept m ≡ none) × (has-name m busy ≡ true)
-Says states.Kept k m kept busy = (s : Summary) × (kept-summary kept m ≡ some s) × Alike (pairs-of k m) s
+Says states.Kept k m kept busy = (s : Summary) × (kept-summary kept m ≡ some s) × Alike (pairs-of k m) s × (has-name m busy ≡ false)
 
 -- 01, The edge: the state by its word; the pairs of a summary that is kept are among those counted
 abbrev pub StateIs : ℕ → List ℕ → ℕ → Kept → List ℕ → Type 0

@@ -3,11 +3,13 @@
 use lines::numbers;
 use lines::parts;
 ghost use mathlib.Core.Path.{_≡_};
+ghost use mathlib.Core.Bool.{false};
 ghost use mathlib.Core.Option.{none};
 ghost use mathlib.Core.List.{List, [], _∷_};
 ghost use Prim.Native.Nat.{ℕ, _<_, _≤_};
 ghost use lib.ListN.{length, getD, set};
 ghost use Rattle.spec.specs.Syntax.{Item, Header, Module};
+ghost use Rattle.spec.specs.Refusal.{has-name};
 ghost use Rattle.spec.specs.Edge.{Head, Summary};
 ghost use Rattle.spec.specs.Summary.{Kept, kept-summary, paired};
 ghost use Rattle.runs.specs.Run.{ShowsItem, RunOf};
@@ -192,7 +194,7 @@ fn keep(k: &mut [u32], m: u32, start: u32, count: u32)
 pub fn summarise(s: &[u8], kinds: &[u8], g: &[u32], k: &mut [u32], m: u32) -> bool
     ensures { λ r. ⌜ ((d : ℕ) (M : Module) (heads : List Head) (kept : Kept) (busy : List ℕ)
         → RunOf d (now (s .entry)) (M .items) → KindsOf (now (kinds .entry)) (M .header) → Stands (now (g .entry)) heads → Keeps (now (k .entry)) kept (m ∷ busy) → m < 32
-        → Made r (now (k .exit)) m M heads kept busy) ⌝ }
+        → has-name m busy ≡ false → Made r (now (k .exit)) m M heads kept busy) ⌝ }
     ensures { λ r. ⌜ ClearedUnless r (now (k .exit)) ⌝ }
 {
     let start = at(k, TOTAL);

@@ -14,16 +14,29 @@ use Rattle.spec.specs.Syntax.{Conn, Inst, Header, Module}
 use Rattle.spec.specs.Refusal.{has-name}
 use Rattle.spec.specs.Value.{Names}
 use Rattle.spec.specs.Graph.{_∈_, Once}
-use Rattle.spec.specs.Search.{search}
+use Rattle.spec.specs.DepthFirst.{search}
 use Rattle.spec.specs.Site.{kind-of, Output, first-lines}
 use Rattle.spec.specs.Edge.{Node, signal, inst-out, same-node, Reads, and-reads, expr-reads, Head, Heads, no-heads, Summary, reaches, has-output, conn-reads, index-of, place-value, output-heads, inst-edges, all-nodes}
 use Rattle.spec.specs.Summary.{is-input, onward, inputs-among, inputs-reached, paired, top-outputs, outputs-reach, module-summary}
 use Rattle.spec.proofs.Lists.{once-length}
-use Rattle.spec.proofs.Search.{left-once}
+use Rattle.spec.proofs.DepthFirst.{left-once}
 use Rattle.spec.proofs.Nodes.{same-node-yes, same-node-refl, read-all}
 use Rattle.spec.proofs.HeadLaws.{in-first}
 use Rattle.spec.proofs.Summaries.{name-in, onward-reads}
-use Rattle.walk.specs.Alike.{out-list, Alike, reach-by, Finds}
+use Rattle.walk.specs.Alike.{out-list, Alike}
+
+-- ---- the inputs that each output reaches, in whatever order they are found
+
+-- 01, The edge: for each output the inputs that f gives
+unfoldable pub reach-by : (ℕ → List ℕ) → List Output → Summary
+reach-by f [] = []
+reach-by f (o ∷ os) = paired (o .name) (f (o .name)) ++ reach-by f os
+
+-- 01, The edge: f gives the in-kind names that an output reaches, each once, in some order
+pub record Finds (f : ℕ → List ℕ) (hs : List Header) (heads : List Head) : Type 0 where
+  pub once : (o : ℕ) → Once (f o)
+  pub found : (o i : ℕ) → i ∈ f o → i ∈ inputs-reached hs heads o
+  pub all : (o i : ℕ) → i ∈ inputs-reached hs heads o → i ∈ f o
 
 -- ---- the edges of an instance line
 

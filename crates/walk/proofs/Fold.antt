@@ -9,7 +9,12 @@ use lib.IntN.{ℤ, pos, negsuc, _+ℤ_, _-ℤ_}
 use Rattle.spec.specs.Syntax.{Item, Items, port, wire, reg, mem, const, drive, on, inst, repeat, const-if}
 use Rattle.spec.specs.Value.{Value, known, missing, outside, Names, value, is-zero}
 use Rattle.spec.specs.Collect.{Collected, Collection, then-collect, collect-rounds, spent, repeat-rounds, collect-repeat, collect-branch, line-then, collect-inner, collect-items}
-use Rattle.walk.specs.Walk.{Got, full, going, then-go, Walked, walked, Walks, walk-rounds, walk-times, walk-repeat, takes-then, walk-inner, walk-items, fold-lines}
+use Rattle.walk.specs.Walk.{Got, full, going, then-go, Walked, walked, Walks, walk-rounds, walk-times, walk-repeat, takes-then, walk-inner, walk-items}
+
+-- 01, The collected item: the steps at collected lines, one behind the other
+unfoldable pub fold-lines : {S : Type 0} → (Names → Item → S → Got S) → List Collected → S → Got S
+fold-lines step [] st = going st
+fold-lines step (c ∷ cs) st = then-go (step (c .names) (c .item) st) (λ st′. fold-lines step cs st′)
 
 -- what a fold over a collection's lines leaves, with the rounds that the collection leaves
 abbrev pub over-collection : {S : Type 0} → (Names → Item → S → Got S) → Collection → S → Got (Walked S)

@@ -13,7 +13,7 @@ use Rattle.spec.specs.Syntax.{Header, Module, Design}
 use Rattle.spec.specs.Refusal.{has-name}
 use Rattle.spec.specs.Value.{own-vals, name-table}
 use Rattle.spec.specs.Collect.{Collected, round-limit, collect-items, collection}
-use Rattle.spec.specs.Search.{each-once}
+use Rattle.spec.specs.DepthFirst.{each-once}
 use Rattle.spec.specs.Site.{sites, line-constants, any-outside, lines-outside, misuses, output-lines, outputs}
 use Rattle.spec.specs.Block.{Pair, Storage, all-pairs, pairs, block-count, line-regs, line-mems, storage-lines, regs, mems}
 use Rattle.spec.specs.Edge.{Summary, all-nodes, head-nodes, edges-from, edge-count, over-graph}
@@ -22,11 +22,11 @@ use Rattle.spec.specs.Report.{Report}
 use Rattle.spec.specs.Check.{site-limit, pair-limit, storage-reports, reg-report, mem-report, widths-out, check-module-drivers, check-modules, check-design}
 use Rattle.spec.proofs.Collection.{collecting}
 use Rattle.spec.proofs.Nodes.{or-parts}
-use Rattle.walk.specs.Walk.{Got, full, going, then-go, unless, Walked, walked, walk-items, fold-lines, add-all, same-pair, State, no-own, begin, Walking, walking, over-own, answered, Answered, Asking, line-step, walk-module, make-walk, ask-walk, own-walk, Tally, poison, own-reports, check-one, check-all, check-fused}
-use Rattle.walk.specs.Fold.{own-lines, own-of-lines, own-after, own-full, Agrees, stops, after, module-outside, some-outside, tally-of, module-walked, module-stops, Fused}
-use Rattle.walk.proofs.Fold.{items-fold}
+use Rattle.walk.specs.Walk.{Got, full, going, then-go, unless, Walked, walked, walk-items, add-all, same-pair, State, no-own, begin, Walking, walking, over-own, answered, Answered, Asking, line-step, walk-module, make-walk, ask-walk, own-walk, Tally, poison, own-reports, check-one, check-all, check-fused}
+use Rattle.walk.specs.Fold.{own-of-lines, Agrees, module-outside, some-outside, tally-of, module-walked, module-stops, Fused}
+use Rattle.walk.proofs.Fold.{items-fold, fold-lines}
 use Rattle.walk.proofs.Tables.{outputs-first, storage-first, misuses-first, pairs-length, pairs-count}
-use Rattle.walk.proofs.Lines.{or-neither, then-unless, elim-unless, lines-fold}
+use Rattle.walk.proofs.Lines.{or-neither, then-unless, elim-unless, lines-fold, own-lines, own-after, own-full, stops, after}
 use Rattle.walk.proofs.Kept.{design-again}
 
 -- ---- a module
@@ -96,20 +96,20 @@ chosen : (kept : Kept) (walks : Module → Got Answered) (makes : Module → Ask
     → ((k : Module) → o ≡ some k → Same (walks k) (makes k))
     → Same (elim o as (λ _. Got Answered) [
       | none ↦ going (answered [] kept)
-      | some k ↦ elim s as (λ _. Got Answered) [
-        | some t ↦ going (answered t kept)
-        | none ↦ elim b as (λ _. Got Answered) [ true ↦ going (answered [] kept) | false ↦ walks k ]
+      | some k ↦ elim b as (λ _. Got Answered) [
+        | true ↦ going (answered [] kept)
+        | false ↦ elim s as (λ _. Got Answered) [ some t ↦ going (answered t kept) | none ↦ walks k ]
       ]
     ]) (elim o as (λ _. Asked) [
       | none ↦ no-summary kept
-      | some k ↦ elim s as (λ _. Asked) [
-        | some t ↦ record { summary = t; kept = kept; full = false }
-        | none ↦ elim b as (λ _. Asked) [ true ↦ no-summary kept | false ↦ makes k ]
+      | some k ↦ elim b as (λ _. Asked) [
+        | true ↦ no-summary kept
+        | false ↦ elim s as (λ _. Asked) [ some t ↦ record { summary = t; kept = kept; full = false } | none ↦ makes k ]
       ]
     ])
 chosen kept walks makes none s b h = refl
-chosen kept walks makes (some k) (some t) b h = refl
-chosen kept walks makes (some k) none true h = refl
+chosen kept walks makes (some k) s true h = refl
+chosen kept walks makes (some k) (some t) false h = refl
 chosen kept walks makes (some k) none false h = h k refl
 
 module _ (d : Design) (inside : some-outside d ≡ false) where

@@ -65,10 +65,10 @@ module _ (d : Design) where
   asked-stays zero busy kept m = stays-same
   asked-stays (suc fuel) busy kept m =
       option-case (λ (a : Asked). Stays kept (a .kept)) (getElem? d m) _ _ (λ e. stays-same)
-      (λ k e. option-case (λ (a : Asked). Stays kept (a .kept)) (kept-summary kept m) _ _
-      (λ new. if-case (λ (a : Asked). Stays kept (a .kept)) (has-name m busy) _ _ (λ g. stays-same)
-      (λ g. stays-made m _ new (lines-stay (comb-summary fuel d (m ∷ busy)) (asked-stays fuel (m ∷ busy)) (k .header) kept (collection (own-vals k) k .lines))))
-      (λ t f. stays-same))
+      (λ k e. if-case (λ (a : Asked). Stays kept (a .kept)) (has-name m busy) _ _ (λ g. stays-same)
+      (λ g. option-case (λ (a : Asked). Stays kept (a .kept)) (kept-summary kept m) _ _
+      (λ new. stays-made m _ new (lines-stay (comb-summary fuel d (m ∷ busy)) (asked-stays fuel (m ∷ busy)) (k .header) kept (collection (own-vals k) k .lines)))
+      (λ t f. stays-same)))
 
   -- how a module's own check asks: nothing is being summarised
   abbrev asks : Kept → ℕ → Asked
@@ -94,7 +94,7 @@ module _ (d : Design) where
 
   -- a module whose summary is kept
   asked-kept : (kept : Kept) (m : ℕ) {k : Module} {s : Summary} → getElem? d m ≡ some k → kept-summary kept m ≡ some s → asks kept m ≡ record { summary = s; kept = kept; full = false }
-  unfolding comb-summary
+  unfolding comb-summary has-name
   asked-kept kept m x e = rw (x, e, comb-summary)
 
   -- the summary of a module of the design is kept once it was asked for

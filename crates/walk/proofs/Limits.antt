@@ -9,7 +9,7 @@ use native.Mathlib.Omega.{arith}
 use lib.ListN.{length}
 use lib.Dec.{ltb}
 use borrow.Author.Tests.{ltb-true, lt-ltb}
-use Rattle.spec.specs.Search.{each-once}
+use Rattle.spec.specs.DepthFirst.{each-once}
 use Rattle.spec.specs.Graph.{_∈_}
 use Rattle.spec.specs.Edge.{Node, same-node, Head, all-nodes, head-nodes, reads-of, edges-from, edge-count, node-limit, edge-limit, over-graph}
 use Rattle.spec.specs.Check.{site-limit, pair-limit}

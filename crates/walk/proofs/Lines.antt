@@ -14,10 +14,47 @@ use Rattle.spec.specs.Site.{sites, line-sites, line-constants, any-outside, lin
 use Rattle.spec.specs.Block.{all-pairs, line-pairs, line-regs, line-mems, storage-lines}
 use Rattle.spec.specs.Edge.{Heads, line-heads, inst-of, over-graph}
 use Rattle.spec.specs.Summary.{Kept, Asked, ask-for, lines-heads}
-use Rattle.walk.specs.Walk.{Got, full, going, then-go, unless, fold-lines, add-all, same-output, same-storage, same-misused, same-pair, Own, State, Walking, own-line, own-step, answered, Answered, Asking, ask-step, head-step, line-step}
-use Rattle.walk.specs.Fold.{own-lines, own-after, own-full, Agrees, stops, after}
+use Rattle.walk.specs.Walk.{Got, full, going, then-go, unless, add-all, same-output, same-storage, same-misused, same-pair, Own, State, Walking, own-line, own-step, answered, Answered, Asking, ask-step, head-step, line-step, over-own}
+use Rattle.walk.specs.Fold.{Agrees}
+use Rattle.walk.proofs.Fold.{fold-lines}
 use Rattle.walk.proofs.Tables.{add-append, adds-grow}
 use Rattle.walk.proofs.Limits.{graph-stays, Grows, own-stays}
+
+-- ---- what the specification gives after some collected lines
+
+-- 01, The site; The block: the own tables after some collected lines, from tables o on
+unfoldable pub own-lines : Bool → List Header → List Collected → Own → Own
+own-lines bound hs cs o =
+    record {
+      sites = o .sites ++ sites bound hs cs;
+      pairs = add-all same-pair (all-pairs hs cs) (o .pairs);
+      outputs = add-all same-output (output-lines cs) (o .outputs);
+      regs = add-all same-storage (storage-lines line-regs cs) (o .regs);
+      mems = add-all same-storage (storage-lines line-mems cs) (o .mems);
+      misuses = add-all same-misused (misuses hs cs) (o .misuses);
+    }
+
+-- 01, The site; The block: the own tables in the module's own check (true) and in a summary's walk, which leaves them
+unfoldable pub own-after : Bool → Bool → List Header → List Collected → Own → Own
+own-after true bound hs cs o = own-lines bound hs cs o
+own-after false bound hs cs o = o
+
+-- 01, Refused because of the state: whether the own tables pass a limit; in a summary's walk (false) they do not
+unfoldable pub own-full : Bool → Own → Bool
+own-full true o = over-own o
+own-full false o = false
+
+-- 01, Refused because of the state: whether the specification says that a walk over some collected lines passes a limit or leaves INT
+unfoldable pub stops : (Kept → ℕ → Asked) → Walking → List Collected → State → Bool
+stops by w cs st =
+    let h = lines-heads by (w .header) (st .kept) cs in
+    lines-outside (w .header) cs || (own-full (w .own) (own-after (w .own) (w .bound) (w .header) cs (st .own)) || (h .full || over-graph (st .heads ++ h .heads)))
+
+-- 01, The site; The block; The edge: the state that the specification gives after some collected lines
+unfoldable pub after : (Kept → ℕ → Asked) → Walking → List Collected → State → State
+after by w cs st =
+    let h = lines-heads by (w .header) (st .kept) cs in
+    record { own = own-after (w .own) (w .bound) (w .header) cs (st .own); heads = st .heads ++ h .heads; kept = h .kept }
 
 -- ---- tests that stop, one behind the other
 

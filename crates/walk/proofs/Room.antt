@@ -10,7 +10,7 @@ use native.Mathlib.Decide.{ℕ-discrete}
 use lib.ListN.{length}
 use lib.Dec.{eqb}
 use borrow.Author.Tests.{eq-eqb}
-use Rattle.spec.specs.Search.{among}
+use Rattle.spec.specs.DepthFirst.{among}
 use Rattle.spec.specs.Graph.{_∈_, Once}
 use Rattle.spec.proofs.Numbers.{if-case}
 use Rattle.spec.proofs.Lists.{once-length}

@@ -15,9 +15,9 @@ use Rattle.spec.specs.Collect.{Collected, round-limit, collect-items}
 use Rattle.spec.specs.Site.{line-constants, any-outside}
 use Rattle.spec.specs.Edge.{Summary, line-heads, inst-of}
 use Rattle.spec.specs.Summary.{Kept, Asked, kept-summary, no-summary, make-summary, comb-summary, module-summary, triples, triple-limit}
-use Rattle.walk.specs.Walk.{Got, full, going, then-go, unless, Walked, walked, walk-items, fold-lines, Own, State, begin, Walking, walking, answered, Answered, Asking, own-step, ask-step, head-step, line-step, walk-module, make-walk, ask-walk, own-walk}
+use Rattle.walk.specs.Walk.{Got, full, going, then-go, unless, Walked, walked, walk-items, Own, State, begin, Walking, walking, answered, Answered, Asking, own-step, ask-step, head-step, line-step, walk-module, make-walk, ask-walk, own-walk}
 use Rattle.walk.specs.Fold.{module-outside, module-walked, module-stops}
-use Rattle.walk.proofs.Fold.{items-fold}
+use Rattle.walk.proofs.Fold.{items-fold, fold-lines}
 use Rattle.walk.proofs.Fused.{module-stop, make-is, own-module, unless-going}
 
 -- g is full or is h
@@ -100,14 +100,14 @@ under-chosen : (kept : Kept) (walks : Module → Got Answered) (makes : Module �
     → ((k : Module) → Under (walks k) (unless (makes k .full) (answered (makes k .summary) (makes k .kept))))
     → Under {A = Answered} (elim o [
       | none ↦ going (answered [] kept)
-      | some k ↦ elim s [ some t ↦ going (answered t kept) | none ↦ elim b [ true ↦ going (answered [] kept) | false ↦ walks k ] ]
+      | some k ↦ elim b [ true ↦ going (answered [] kept) | false ↦ elim s [ some t ↦ going (answered t kept) | none ↦ walks k ] ]
     ]) (let a : Asked = elim o [
       | none ↦ no-summary kept
-      | some k ↦ elim s [ some t ↦ record { summary = t; kept = kept; full = false } | none ↦ elim b [ true ↦ no-summary kept | false ↦ makes k ] ]
+      | some k ↦ elim b [ true ↦ no-summary kept | false ↦ elim s [ some t ↦ record { summary = t; kept = kept; full = false } | none ↦ makes k ] ]
     ] in unless (a .full) (answered (a .summary) (a .kept)))
 under-chosen kept walks makes none s b h = same
-under-chosen kept walks makes (some k) (some t) b h = same
-under-chosen kept walks makes (some k) none true h = same
+under-chosen kept walks makes (some k) s true h = same
+under-chosen kept walks makes (some k) (some t) false h = same
 under-chosen kept walks makes (some k) none false h = h k
 
 asks-under : (d : Design) (fuel : ℕ) (busy : List ℕ) (kept : Kept) (m : ℕ) → Under (ask-walk fuel d busy kept m) (spec-ask (comb-summary fuel d busy) kept m)

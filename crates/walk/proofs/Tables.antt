@@ -10,13 +10,13 @@ use lib.ListN.{length, length-append}
 use lib.Dec.{eqb}
 use borrow.Author.Tests.{eqb-true, eq-eqb}
 use Rattle.spec.specs.Refusal.{has-name}
-use Rattle.spec.specs.Search.{among, each-once}
+use Rattle.spec.specs.DepthFirst.{among, each-once}
 use Rattle.spec.specs.Graph.{_∈_, Once}
 use Rattle.spec.specs.Site.{Misused, once-a-name, Output, first-lines}
 use Rattle.spec.specs.Block.{Pair, has-pair, different-pairs, block-count, Storage, first-storage}
 use Rattle.spec.proofs.Numbers.{if-case}
 use Rattle.spec.proofs.Lists.{once-length, once-append}
-use Rattle.spec.proofs.Search.{among-yes, among-no}
+use Rattle.spec.proofs.DepthFirst.{among-yes, among-no}
 use Rattle.spec.proofs.Nodes.{and-parts, each-once-in, in-each-once, each-once-once}
 use Rattle.walk.specs.Walk.{add-new, add-all, same-output, same-storage, same-misused, same-pair}
 

@@ -1,33 +1,21 @@
 -- What ties the fused walk to the specification: it gives what the specification gives of the collected list, and the fused check is the
 -- check.
 -- 01: The collected item; The site; The block; The edge; The report; Refused because of the state.
--- Assumes nothing: these are definitions and statements.
+-- To a reader: definitions to believe, and a statement, Fused, proved in proofs/Fused.
 use mathlib.Core.Path.{_≡_}
 use mathlib.Core.Logic.{_↔_}
 use mathlib.Core.Bool.{Bool, true, false, _||_}
-use mathlib.Core.List.{List, [], _∷_, _++_}
+use mathlib.Core.List.{List, [], _∷_}
 use Prim.Native.Nat.{ℕ}
 use Rattle.spec.specs.Syntax.{Header, Module, Design}
 use Rattle.spec.specs.Value.{own-vals, name-table}
 use Rattle.spec.specs.Collect.{Collected, collection}
-use Rattle.spec.specs.Site.{sites, lines-outside, misuses, once-a-name, output-lines, outputs}
-use Rattle.spec.specs.Block.{all-pairs, line-regs, line-mems, storage-lines, regs, mems}
+use Rattle.spec.specs.Site.{sites, lines-outside, misuses, once-a-name, outputs}
+use Rattle.spec.specs.Block.{all-pairs, regs, mems}
 use Rattle.spec.specs.Edge.{over-graph}
-use Rattle.spec.specs.Summary.{Kept, Asked, lines-heads, comb-summary, module-heads}
+use Rattle.spec.specs.Summary.{Kept, Asked, comb-summary, module-heads}
 use Rattle.spec.specs.Check.{Checked, check-design}
-use Rattle.walk.specs.Walk.{full, going, unless, Walked, walked, add-all, same-output, same-storage, same-misused, same-pair, Own, State, Walking, over-own, answered, Asking, Tally, ask-walk, own-walk, check-all, check-fused}
-
--- 01, The site; The block: the own tables after some collected lines, from tables o on
-unfoldable pub own-lines : Bool → List Header → List Collected → Own → Own
-own-lines bound hs cs o =
-    record {
-      sites = o .sites ++ sites bound hs cs;
-      pairs = add-all same-pair (all-pairs hs cs) (o .pairs);
-      outputs = add-all same-output (output-lines cs) (o .outputs);
-      regs = add-all same-storage (storage-lines line-regs cs) (o .regs);
-      mems = add-all same-storage (storage-lines line-mems cs) (o .mems);
-      misuses = add-all same-misused (misuses hs cs) (o .misuses);
-    }
+use Rattle.walk.specs.Walk.{full, going, unless, Walked, walked, add-all, same-pair, Own, State, over-own, answered, Asking, Tally, ask-walk, own-walk, check-all, check-fused}
 
 -- 01, The site; The block: the own tables of a module's collected lines, as the specification lists them; the different pairs stand at
 -- their first
@@ -42,31 +30,9 @@ own-of-lines bound hs cs =
       misuses = once-a-name [] (misuses hs cs);
     }
 
--- 01, The site; The block: the own tables in the module's own check (true) and in a summary's walk, which leaves them
-unfoldable pub own-after : Bool → Bool → List Header → List Collected → Own → Own
-own-after true bound hs cs o = own-lines bound hs cs o
-own-after false bound hs cs o = o
-
--- 01, Refused because of the state: whether the own tables pass a limit; in a summary's walk (false) they do not
-unfoldable pub own-full : Bool → Own → Bool
-own-full true o = over-own o
-own-full false o = false
-
 -- 01, The edge: asking by the walk gives what the specification gives, or is full where that says so
 abbrev pub Agrees : Asking → (Kept → ℕ → Asked) → Type 0
 Agrees ask by = (kept : Kept) (m : ℕ) → ask kept m ≡ unless (by kept m .full) (answered (by kept m .summary) (by kept m .kept))
-
--- 01, Refused because of the state: whether the specification says that a walk over some collected lines passes a limit or leaves INT
-unfoldable pub stops : (Kept → ℕ → Asked) → Walking → List Collected → State → Bool
-stops by w cs st =
-    let h = lines-heads by (w .header) (st .kept) cs in
-    lines-outside (w .header) cs || (own-full (w .own) (own-after (w .own) (w .bound) (w .header) cs (st .own)) || (h .full || over-graph (st .heads ++ h .heads)))
-
--- 01, The site; The block; The edge: the state that the specification gives after some collected lines
-unfoldable pub after : (Kept → ℕ → Asked) → Walking → List Collected → State → State
-after by w cs st =
-    let h = lines-heads by (w .header) (st .kept) cs in
-    record { own = own-after (w .own) (w .bound) (w .header) cs (st .own); heads = st .heads ++ h .heads; kept = h .kept }
 
 -- 01, Refused because of the state: whether a module evaluates a constant outside INT as it is collected: in its `const` lines, or at a
 -- collected line

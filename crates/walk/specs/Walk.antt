@@ -1,7 +1,7 @@
 -- The fused walk: collection, sites, blocks, heads and summaries in one go, as the code does it, with the tables threaded. It stops at
 -- once where a limit is passed or a constant is outside INT. 01: The collected item; The site; The block; The edge; The report; Refused
 -- because of the state.
--- Assumes nothing: these are definitions.
+-- To a reader: definitions, pinned by Fold.Fused (proved in proofs/Fused).
 use mathlib.Core.Bool.{Bool, true, false, _&&_, _||_}
 use mathlib.Core.List.{List, [], _∷_, _++_}
 use mathlib.Core.Option.{Option, some, none}
@@ -12,14 +12,14 @@ use lib.IntN.{ℤ, pos, negsuc, _+ℤ_, _-ℤ_}
 use Rattle.spec.specs.Syntax.{Inst, Item, Items, port, wire, reg, mem, const, drive, on, inst, repeat, const-if, Header, Module, Design}
 use Rattle.spec.specs.Refusal.{has-name}
 use Rattle.spec.specs.Value.{Value, known, missing, outside, Names, value, is-zero, own-vals, name-table}
-use Rattle.spec.specs.Collect.{round-limit, Collected}
-use Rattle.spec.specs.Search.{among}
+use Rattle.spec.specs.Collect.{round-limit}
+use Rattle.spec.specs.DepthFirst.{among}
 use Rattle.spec.specs.Site.{Site, line-sites, line-constants, any-outside, Misused, line-misuses, misused-names, conflicts, conflict-names, Output, line-outputs}
 use Rattle.spec.specs.Block.{Pair, line-pairs, Storage, line-regs, line-mems}
 use Rattle.spec.specs.Edge.{Head, Heads, Summary, line-heads, inst-of, over-graph}
 use Rattle.spec.specs.Summary.{Kept, kept-summary, triples, triple-limit, module-summary}
 use Rattle.spec.specs.Report.{Report}
-use Rattle.spec.specs.Walk.{find-cycles}
+use Rattle.spec.specs.FindCycles.{find-cycles}
 use Rattle.spec.specs.Check.{site-limit, pair-limit, misuse-reports, conflict-reports, output-reports, widths-out, reg-report, mem-report, storage-reports, loop-reports}
 
 -- ---- 01, Refused because of the state: stopping
@@ -104,11 +104,6 @@ unfoldable mutual
   walk-items (Items.more i is) step names left st =
       then-go (step names i st)
       (λ st′. then-go (walk-inner i step names left st′) (λ r. walk-items is step names (r .left) (r .state)))
-
--- 01, The collected item: the steps at collected lines, one behind the other
-unfoldable pub fold-lines : {S : Type 0} → (Names → Item → S → Got S) → List Collected → S → Got S
-fold-lines step [] st = going st
-fold-lines step (c ∷ cs) st = then-go (step (c .names) (c .item) st) (λ st′. fold-lines step cs st′)
 
 -- ---- 01, The site; The block: the tables
 
@@ -251,11 +246,11 @@ ask-walk zero d busy kept m = going (answered [] kept)
 ask-walk (suc fuel) d busy kept m =
     elim (getElem? d m) [
       | none ↦ going (answered [] kept)
-      | some k ↦ elim (kept-summary kept m) [
-        | some s ↦ going (answered s kept)
-        | none ↦ elim (has-name m busy) [
-          | true ↦ going (answered [] kept)
-          | false ↦ make-walk (ask-walk fuel d (m ∷ busy)) kept m k
+      | some k ↦ elim (has-name m busy) [
+        | true ↦ going (answered [] kept)
+        | false ↦ elim (kept-summary kept m) [
+          | some s ↦ going (answered s kept)
+          | none ↦ make-walk (ask-walk fuel d (m ∷ busy)) kept m k
         ]
       ]
     ]

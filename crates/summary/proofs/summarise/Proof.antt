@@ -10,7 +10,7 @@ use Rattle.spec.specs.Summary.{Kept}
 use Rattle.runs.specs.Run.{RunOf}
 use Rattle.graph.specs.Stands.{Stands}
 use Rattle.edges.specs.Reads.{KindsOf}
-use Rattle.walk.specs.Alike.{reach-by}
+use Rattle.walk.proofs.Alike.{reach-by}
 use Rattle.summary.specs.Keeps.{total-of, Keeps}
 use Rattle.spec.proofs.Cleared.{cleared-of}
 use Rattle.summary.proofs.Making.{Going, end-after, out-name, going-start, going-other, going-seen, going-new, going-full, going-kept}
@@ -86,7 +86,7 @@ same-length : tie.Need-same-length Inv-loop μ-loop
 same-length c = c .before .before .clear .kept .0 ∙ c .before .before .before .before .before .before .before .before .add-output .kept .1 .1 .1 .0 ∙ c .before .before .before .before .before .before .before .before .before .before .before .before .before .before .before .before .before .before .before .loop .inv .1
 
 returns : tie.Need-returns Inv-loop μ-loop
-returns c = (λ d M heads kept busy r h st ks small. let q = c .before .before .before .before .before .before .before .before .before .before .before .before .before .before .before .before .before .before .before .loop .inv .5 d M heads kept busy r h st ks in going-full q (c .before .before .before .before .before .before .before .before .before .before .before .before .before .before .before .before .before .before .loop-test .taken) (c .before .before .before .before .before .before .before .before .before .before .before .before .before .before .before .before .before .form-end .ensures) (c .before .before .before .before .before .before .before .before .before .before .before .before .before .before .before .before .between .ensures) (c .before .before .before .before .before .before .before .before .before .before .before .before .before .before .before .port-of .result) (c .before .before .before .before .before .before .before .before .before .before .before .before .before .before .before .port-of .ensures .0) (c .before .before .before .before .before .before .before .before .before .before .before .before .before .o .given .1) (out-name (c .before .before .before .before .before .before .before .before .before .before .before .before .before .before .before .port-of .result) (c .before .before .before .before .before .before .before .before .before .before .before .before .before .o .given .1) (c .before .before .before .before .before .before .before .before .before .before .before .before .before .before .before .port-of .ensures .1)) (c .before .before .before .before .before .before .before .before .before .before .before .if1 .left) (not-true (c .before .before .before .before .before .before .before .before .add-output .result) (c .before .before .before .before .if2 .taken)) (c .before .before .before .before .before .before .before .before .add-output .ensures .0 (M .header) heads h st (q .clean) (c .before .before .before .before .before .before .before .before .before .before .before .before .before .before .before .before .before .before .before .before .before .before .before .before .before .before .args .k .now) (reach-by (q .f) (q .done)) (q .grown)) (c .before .before .before .before .before .before .before .before .before .before .before .before .before .before .before .before .before .before .before .before .before .before .before .before .before .before .args .m) kept busy ks, cleared-of (length (c .before .before .before .before .before .before .before .before .add-output .last .1 .1 .1 .0)) _ (c .before .before .clear .ensures))
+returns c = (λ d M heads kept busy r h st ks small free. let q = c .before .before .before .before .before .before .before .before .before .before .before .before .before .before .before .before .before .before .before .loop .inv .5 d M heads kept busy r h st ks in going-full q (c .before .before .before .before .before .before .before .before .before .before .before .before .before .before .before .before .before .before .loop-test .taken) (c .before .before .before .before .before .before .before .before .before .before .before .before .before .before .before .before .before .form-end .ensures) (c .before .before .before .before .before .before .before .before .before .before .before .before .before .before .before .before .between .ensures) (c .before .before .before .before .before .before .before .before .before .before .before .before .before .before .before .port-of .result) (c .before .before .before .before .before .before .before .before .before .before .before .before .before .before .before .port-of .ensures .0) (c .before .before .before .before .before .before .before .before .before .before .before .before .before .o .given .1) (out-name (c .before .before .before .before .before .before .before .before .before .before .before .before .before .before .before .port-of .result) (c .before .before .before .before .before .before .before .before .before .before .before .before .before .o .given .1) (c .before .before .before .before .before .before .before .before .before .before .before .before .before .before .before .port-of .ensures .1)) (c .before .before .before .before .before .before .before .before .before .before .before .if1 .left) (not-true (c .before .before .before .before .before .before .before .before .add-output .result) (c .before .before .before .before .if2 .taken)) (c .before .before .before .before .before .before .before .before .add-output .ensures .0 (M .header) heads h st (q .clean) (c .before .before .before .before .before .before .before .before .before .before .before .before .before .before .before .before .before .before .before .before .before .before .before .before .before .before .args .k .now) (reach-by (q .f) (q .done)) (q .grown)) (c .before .before .before .before .before .before .before .before .before .before .before .before .before .before .before .before .before .before .before .before .before .before .before .before .before .before .args .m) kept busy ks, cleared-of (length (c .before .before .before .before .before .before .before .before .add-output .last .1 .1 .1 .0)) _ (c .before .before .clear .ensures))
 
 loop-less-3 : tie.Need-loop-less-3 Inv-loop μ-loop
 loop-less-3 c = omega (arith, end-after (c .before .before .before .before .before .before .before .before .before .before .before .before .before .before .before .before .before .before .before .before .before .before .args .s .now) (c .before .before .before .before .before .before .before .before .before .before .before .before .before .before .before .loop .from) (c .before .before .before .before .before .before .before .before .before .before .before .before .before .before .loop-test .taken) (c .before .before .before .before .before .before .before .before .before .before .before .before .before .form-end .ensures) .0, c .before .before .before .before .before .before .before .before .before .before .before .before .before .before .loop-test .taken)
@@ -107,7 +107,7 @@ same-length-2 : tie.Need-same-length-2 Inv-loop μ-loop
 same-length-2 c = c .before .before .keep .kept .0 ∙ c .before .before .before .before .before .before .before .loop .inv .1
 
 returns-2 : tie.Need-returns-2 Inv-loop μ-loop
-returns-2 c = (λ d M heads kept busy r h st ks small. going-kept (c .before .before .before .before .before .before .before .loop .inv .5 d M heads kept busy r h st ks) (c .before .before .before .before .before .before .loop-test .left) (c .before .before .before .before .before .before .before .before .before .before .before .before .before .before .args .m) small kept busy ks (c .before .before .before .before .before .before .before .before .at .ensures) (c .before .before .before .before .at2 .ensures) (c .before .before .keep .ensures), tt)
+returns-2 c = (λ d M heads kept busy r h st ks small free. going-kept (c .before .before .before .before .before .before .before .loop .inv .5 d M heads kept busy r h st ks) (c .before .before .before .before .before .before .loop-test .left) (c .before .before .before .before .before .before .before .before .before .before .before .before .before .before .args .m) small kept busy ks free (c .before .before .before .before .before .before .before .before .at .ensures) (c .before .before .before .before .at2 .ensures) (c .before .before .keep .ensures), tt)
 
 pub summarise-spec : {M : Type 1} → statement M
 summarise-spec =

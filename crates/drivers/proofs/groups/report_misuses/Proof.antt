@@ -6,8 +6,7 @@ use mathlib.Core.Path.{_≡_, refl, _∙_}
 use Prim.Native.Nat.{_-_}
 use lib.ListN.{length}
 use Rattle.sites.specs.Own.{places}
-use Rattle.drivers.specs.Emits.{Emitting}
-use Rattle.drivers.proofs.EmitLaws.{emitting-start}
+use Rattle.drivers.proofs.EmitLaws.{emitting-start, Emitting}
 use Rattle.drivers.proofs.GroupLaws.{misuses-left, misuses-then, misuses-end}
 use Rattle.drivers.proofs.groups.report_misuses.Statement.{statement}
 use Rattle.drivers.proofs.groups.report_misuses.Tie as tie

@@ -7,8 +7,7 @@ use Prim.Native.Nat.{_-_}
 use lib.ListN.{length}
 use Rattle.spec.specs.Check.{reg-report}
 use Rattle.sites.specs.Own.{places, reg-table}
-use Rattle.drivers.specs.Emits.{Emitting}
-use Rattle.drivers.proofs.EmitLaws.{emitting-start}
+use Rattle.drivers.proofs.EmitLaws.{emitting-start, Emitting}
 use Rattle.drivers.proofs.GroupLaws.{storage-left, storage-then, regs-end}
 use Rattle.drivers.proofs.groups.report_reg_blocks.Statement.{statement}
 use Rattle.drivers.proofs.groups.report_reg_blocks.Tie as tie

@@ -6,7 +6,7 @@ use mathlib.Core.List.{List}
 use lib.ListN.{length}
 use native.Mathlib.Omega.{arith}
 use Rattle.spec.specs.Edge.{Head}
-use Rattle.spec.specs.Walk.{find-cycles}
+use Rattle.spec.specs.FindCycles.{find-cycles}
 use Rattle.graph.specs.Stands.{Stands}
 use Rattle.graph.specs.Cycles.{Awaits}
 use Rattle.drivers.proofs.LoopLaws.{Looping, loops-start, loops-out, loops-done, loops-found}

@@ -1,10 +1,10 @@
 -- What a search for closed walks is to find, with no text in it: reached nodes, orders, closed walks.
--- Assumes nothing: these are definitions.
+-- To a reader: definitions to believe, and a statement, FindsLoops, proved of the search in proofs/DepthFirst.
 use mathlib.Core.Path.{_≡_}
-use mathlib.Core.Logic.{_↔_}
-use mathlib.Core.List.{List, [], _∷_}
+use mathlib.Core.Logic.{_↔_, _⊎_}
+use mathlib.Core.List.{List, [], _∷_, _++_}
 use Rattle.spec.specs.Graph.{_∈_, Once, Chain, last, ClosedWalk}
-use Rattle.spec.specs.Search.{Searched}
+use Rattle.spec.specs.DepthFirst.{Searched}
 
 -- n is reached from a root, in any number of steps. 01: The walk.
 abbrev pub Reached : {A : Type 0} → (A → List A) → List A → A → Type 0
@@ -28,3 +28,21 @@ pub record FindsLoops {A : Type 0} (next : A → List A) (roots : List A) (found
   pub order : found .reports ≡ [] → Topological next (found .left)
   pub walks : (w : List A) → w ∈ found .reports → ClosedWalk next w × Simple w × ((n : A) → n ∈ w → Reached next roots n)
   pub none : found .reports ≡ [] ↔ ((w : List A) (n : A) → ClosedWalk next w → n ∈ w → ¬ Reached next roots n)
+
+-- a walk goes from u to v in one of its steps. 01: The walk.
+abbrev pub Goes : {A : Type 0} → List A → A → A → Type 0
+Goes [] u v = ⊥
+Goes (a ∷ []) u v = ⊥
+Goes (a ∷ b ∷ l) u v = ((u ≡ a) × (v ≡ b)) ⊎ Goes (b ∷ l) u v
+
+-- every two stand in this relation, the earlier to the later. 01: The report (order).
+abbrev pub InOrder : {A : Type 0} → (A → A → Type 0) → List A → Type 0
+InOrder R [] = Unit {0}
+InOrder {A} R (a ∷ l) = ((b : A) → b ∈ l → R a b) × InOrder R l
+
+-- a stands before b in l. 01: The report (order).
+pub record StandsBefore {A : Type 0} (l : List A) (a b : A) : Type 0 where
+  pub front : List A
+  pub back : List A
+  pub parted : l ≡ front ++ a ∷ back
+  pub behind : b ∈ back

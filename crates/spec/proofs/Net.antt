@@ -4,12 +4,12 @@ use Prim.Native.Nat.{ℕ, zero, suc, _+_, _≤_, _<_}
 use mathlib.Core.Path.{_≡_, refl, sym, _∙_, ap}
 use mathlib.Core.Logic.{_⊎_, inl, inr}
 use mathlib.Core.List.{List, [], _∷_, List·Memᴰ·head, List·Memᴰ·tail}
-use lib.ListN.{length}
+use lib.ListN.{length, take, length-take}
 use native.Mathlib.Omega.{arith}
-use Rattle.spec.specs.Graph.{Graph, _∈_, Closed, Ranked}
+use Rattle.spec.specs.Graph.{Graph, _∈_, Closed}
 use Rattle.spec.specs.Net.{Net, Round, together, singly, State, gives, recalculate, recalculate-each, round, rounds, Rests, Agree, ComesToRest}
 use Rattle.spec.proofs.Lists.{in-once}
-use Rattle.spec.proofs.Rank.{rank-or-loop, no-loop-rank}
+use Rattle.spec.proofs.Rank.{Ranked, rank-or-loop, no-loop-rank}
 
 -- one signal recalculated
 module _ {G : Graph} (N : Net G) (s t : G .Signal) (x : State N) (i : t ∈ G .signals) where
@@ -109,7 +109,15 @@ module _ {G : Graph} (N : Net G) (K : Ranked G) where
 
 -- a rank brings every net to rest
 pub ranked-comes-to-rest : {G : Graph} → Ranked G → ComesToRest G
-ranked-comes-to-rest K = record { rests = λ N. ranked-rests N K; only = λ N. ranked-only N K; reached = λ N x y q. ranked-reached N K y q x }
+ranked-comes-to-rest K N =
+    let y = ranked-rests N K in (
+      y .0,
+      record {
+        rests = y .1;
+        only = λ x q. ranked-only N K x (y .0) q (y .1);
+        reached = λ x l k h g. ranked-reached N K (y .0) (y .1) x (take k l) (omega (arith, length-take k l));
+      },
+    )
 
 -- and so does the absence of closed walks
 pub comes-to-rest : (G : Graph) → ¬ Closed G → ComesToRest G

@@ -9,10 +9,10 @@ use lib.ListN.{length}
 use native.Mathlib.Omega.{arith}
 use Rattle.spec.specs.Graph.{Graph, _∈_, Once, Chain, last, ClosedWalk, Closed}
 use Rattle.spec.specs.Net.{ComesToRest}
-use Rattle.spec.specs.Search.{Searched, backwards, among, back-to, in-turn, step, search}
-use Rattle.spec.specs.Walks.{Reached, Topological, Simple, FindsLoops}
+use Rattle.spec.specs.DepthFirst.{Searched, backwards, among, back-to, in-turn, step, search}
+use Rattle.spec.specs.DepthFirstFinds.{Reached, Topological, Simple, FindsLoops}
 use Rattle.spec.proofs.Lists.{once-length}
-use Rattle.spec.proofs.Rest.{comes-to-rest}
+use Rattle.spec.proofs.Net.{comes-to-rest}
 
 -- a list with one more at its end is not empty
 not-empty : {A : Type 0} (l : List A) (a : A) → ¬ (l ++ (a ∷ []) ≡ [])
@@ -86,7 +86,7 @@ module _ {A : Type 0} (same : A → A → Bool) (next : A → List A)
       go on true e h = List·Memᴰ·head (same-yes a b e)
       go on false e h = List·Memᴰ·tail (on h)
 
-  differs : {a b : A} → same a b ≡ false → ¬ (a ≡ b)
+  pub differs : {a b : A} → same a b ≡ false → ¬ (a ≡ b)
   differs {a} h e = true≢false (sym (same-refl a) ∙ ap (same a) e ∙ h)
 
   pub among-no : (a : A) (l : List A) → among same a l ≡ false → ¬ (a ∈ l)

@@ -1,5 +1,5 @@
 -- Depth-first search of a directed graph for closed walks, with no text in it. 01: The walk.
--- Assumes nothing: these are definitions.
+-- To a reader: definitions to believe; search is pinned by FirstWays.ByWays and DepthFirstFinds.FindsLoops (proved in proofs/FirstWays, proofs/DepthFirst).
 use Prim.Native.Nat.{ℕ, zero, suc}
 use mathlib.Core.Bool.{Bool, true, false}
 use mathlib.Core.List.{List, [], _∷_, _++_}

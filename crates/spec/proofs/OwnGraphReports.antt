@@ -1,5 +1,5 @@
--- Loop reports of the whole check: each walk reported leads back by edges of its module, and none is reported exactly where no module has
--- edges that lead back.
+-- Loop reports of the whole check: each walk reported leads back by edges of its module, and of the modules that one leads to none is
+-- reported exactly where none of them has edges that lead back.
 -- Assumes nothing.
 use mathlib.Core.Path.{_≡_, refl, sym, _∙_, ap, subst, subst⁻¹}
 use mathlib.Core.Logic.{_↔_}
@@ -16,20 +16,22 @@ use Rattle.spec.specs.Site.{Site, sites, sites-of, Misused, misuses, onc
 use Rattle.spec.specs.Block.{Pair, pairs, block-count, Storage, regs, mems}
 use Rattle.spec.specs.Edge.{Node, Head}
 use Rattle.spec.specs.Summary.{Kept, module-heads}
-use Rattle.spec.specs.Walk.{start-of, find-cycles}
+use Rattle.spec.specs.FindCycles.{start-of, find-cycles}
 use Rattle.spec.specs.Report.{Report, report, loop-report}
 use Rattle.spec.specs.Check.{misuse-reports, conflict-reports, coverage-report, output-reports, reg-report, mem-report, storage-reports, loop-reports, check-module-drivers, check-modules, check-design}
 use Rattle.spec.specs.Graph.{_∈_}
-use Rattle.spec.specs.Opened.{lines-of}
-use Rattle.spec.specs.Rest.{NoLoopReport}
-use Rattle.spec.specs.Premises.{NotWired}
-use Rattle.spec.specs.Summaries.{NoModuleInsideItself, PlainTable}
+use Rattle.spec.specs.Hierarchy.{Leads, Unheaded}
+use Rattle.spec.specs.DesignHierarchy.{lines-of, hierarchy}
+use Rattle.spec.specs.Premises.{NoLoopReportFrom}
+use Rattle.spec.specs.Summaries.{PlainTable}
 use Rattle.spec.proofs.Numbers.{if-case}
 use Rattle.spec.proofs.HeadLaws.{in-either, in-first}
 use Rattle.spec.proofs.Summaries.{lines-at, check-plain}
-use Rattle.spec.proofs.ModuleEdge.{EdgeLoop}
+use Rattle.spec.proofs.Copies.{from-leads}
+use Rattle.spec.proofs.Acyclic.{acyclic-leads}
+use Rattle.spec.specs.OwnGraph.{EdgeLoop}
 use Rattle.spec.proofs.SoundSummaries.{SoundTable, check-sound, found-loop}
-use Rattle.spec.proofs.CheckEdge.{check-none, check-loop, no-loop-missing}
+use Rattle.spec.proofs.CheckEdge.{Good, check-none, check-loop, no-loop-missing}
 
 -- only the search of nodes makes loop reports
 abbrev Plain : Report → Type 0
@@ -181,13 +183,13 @@ module _ (d : Design) where
       first (e, j) = let f = ap (getElem? d) e ∙ placed-first m k ks p in (k, kept, f, sound, subst⁻¹ (λ cs. w ∈ cycles d kept k cs) (lines-at d m′ k f) j)
 
   -- Each walk reported leads back by edges of its module, whatever the design:
-  pub report-loop : (m start : ℕ) (w : List Node) → loop-report m start w ∈ check-design d .reports → EdgeLoop d m w
+  pub report-loop : (m start : ℕ) (w : List Node) → loop-report m start w ∈ check-design d .reports → EdgeLoop (hierarchy d) m w
   unfolding check-design
   report-loop m start w i =
       let r = of-modules [] (λ m s j. absurd (List·Memᴰ·not-nil j)) 0 d (λ j. let e : j ≡ 0 + j = omega arith in ap (getElem? d) e) m start w i in
       found-loop d (r .1) (r .3) m (r .0) (r .2) w (r .4)
 
-module _ (d : Design) (apart : NoModuleInsideItself d) (wires : NotWired in-kind d) where
+module _ (d : Design) where
   -- each module is checked, from some table of plain summaries, and what its check finds is reported
   abbrev Told : Kept → ℕ → List Module → ℕ → Module → Type 0
   Told kept m ks j k =
@@ -206,7 +208,7 @@ module _ (d : Design) (apart : NoModuleInsideItself d) (wires : NotWired in-kind
         (r .0, Memᴰ·append-left _ (Memᴰ·cast (ap (λ z. loop-report z (r .0) (n ∷ w)) f) (r .1))),
   )
   in-modules kept plain m (k′ ∷ ks) (suc j) k e =
-      let r = in-modules (check-module-drivers d kept m k′ .kept) (check-plain d apart kept plain m k′) (suc m) ks j k e in (
+      let r = in-modules (check-module-drivers d kept m k′ .kept) (check-plain d kept plain m k′) (suc m) ks j k e in (
         r .0,
         r .1,
         λ n w i.
@@ -218,24 +220,27 @@ module _ (d : Design) (apart : NoModuleInsideItself d) (wires : NotWired in-kind
   nothing-kept : PlainTable d []
   nothing-kept m s i = absurd (List·Memᴰ·not-nil i)
 
-  silent-no-loop : NoLoopReport d → (m : ℕ) (k : Module) → getElem? d m ≡ some k → (v : List Node) → ¬ EdgeLoop d m v
+  silent-no-loop : (m : ℕ) → Good d m → ((start : ℕ) (w : List Node) → ¬ (loop-report m start w ∈ check-design d .reports)) → (k : Module) → getElem? d m ≡ some k → (v : List Node) → ¬ EdgeLoop (hierarchy d) m v
   unfolding check-design
-  silent-no-loop silent m k e = go (in-modules [] nothing-kept 0 d m k e)
+  silent-no-loop m good silent k e = go (in-modules [] nothing-kept 0 d m k e)
     where
-      none-found : (kept : Kept) → ((n : Node) (w : List Node) → ¬ ((n ∷ w) ∈ cycles d kept k (lines-of d m))) → ((w : List Node) → w ∈ cycles d kept k (lines-of d m) → EdgeLoop d m w) → (l : List (List Node)) → cycles d kept k (lines-of d m) ≡ l → cycles d kept k (lines-of d m) ≡ []
+      none-found : (kept : Kept) → ((n : Node) (w : List Node) → ¬ ((n ∷ w) ∈ cycles d kept k (lines-of d m))) → ((w : List Node) → w ∈ cycles d kept k (lines-of d m) → EdgeLoop (hierarchy d) m w) → (l : List (List Node)) → cycles d kept k (lines-of d m) ≡ l → cycles d kept k (lines-of d m) ≡ []
       none-found kept f g [] h = h
       none-found kept f g ([] ∷ l) h = absurd (g [] (subst⁻¹ (λ z. [] ∈ z) h (List·Memᴰ·head refl)))
       none-found kept f g ((n ∷ w) ∷ l) h = absurd (f n w (subst⁻¹ (λ z. (n ∷ w) ∈ z) h (List·Memᴰ·head refl)))
 
-      go : Told [] 0 d m k → (v : List Node) → ¬ EdgeLoop d m v
+      go : Told [] 0 d m k → (v : List Node) → ¬ EdgeLoop (hierarchy d) m v
       go (kept, plain, told) =
-          check-none d apart wires m k e kept plain .0
-          (none-found kept (λ n w i. let r = told n w (subst (λ cs. (n ∷ w) ∈ cycles d kept k cs) (lines-at d m k e) i) in silent (0 + m) (r .0) (n ∷ w) (r .1)) (check-loop d apart wires m k e kept plain) _ refl)
+          check-none d m good k e kept plain .0
+          (none-found kept (λ n w i. let r = told n w (subst (λ cs. (n ∷ w) ∈ cycles d kept k cs) (lines-at d m k e) i) in let f : m ≡ 0 + m = omega arith in silent (r .0) (n ∷ w) (Memᴰ·cast (ap (λ z. loop-report z (r .0) (n ∷ w)) f) (r .1))) (check-loop d m good k e kept plain) _ refl)
 
-  -- and, with these two premises, none is reported exactly where no module has edges that lead back
-  pub no-report-no-loop : NoLoopReport d ↔ ((m : ℕ) (v : List Node) → ¬ EdgeLoop d m v)
-  no-report-no-loop = (λ silent m. each silent m (getElem? d m) refl, λ h m start w i. h m w (report-loop d m start w i))
+  good-leads : (m t : ℕ) → Leads (hierarchy d) m t → Good d m → Good d t
+  good-leads m t r g = (acyclic-leads (hierarchy d) m t r (g .0), from-leads (hierarchy d) (Unheaded (hierarchy d) in-kind) m t r (g .1))
+
+  -- and, with these two premises from m on, none is reported of the modules that m leads to exactly where they have no edges that lead back
+  pub no-report-no-loop : (m : ℕ) → Good d m → NoLoopReportFrom d m ↔ ((t : ℕ) → Leads (hierarchy d) m t → (v : List Node) → ¬ EdgeLoop (hierarchy d) t v)
+  no-report-no-loop m good = (λ silent t r. each t (good-leads m t r good) (λ start w. silent t start w r) (getElem? d t) refl, λ h t start w r i. h t r w (report-loop d t start w i))
     where
-      each : NoLoopReport d → (m : ℕ) (o : Option Module) → getElem? d m ≡ o → (v : List Node) → ¬ EdgeLoop d m v
-      each silent m none e = no-loop-missing d m e
-      each silent m (some k) e = silent-no-loop silent m k e
+      each : (t : ℕ) → Good d t → ((start : ℕ) (w : List Node) → ¬ (loop-report t start w ∈ check-design d .reports)) → (o : Option Module) → getElem? d t ≡ o → (v : List Node) → ¬ EdgeLoop (hierarchy d) t v
+      each t g silent none e = no-loop-missing d t e
+      each t g silent (some k) e = silent-no-loop t g silent k e
