@@ -1,5 +1,6 @@
-//! The claim about loops and rest, held against the original by running: opened designs, the
-//! premises, and a text for each premise that breaks it alone.
+//! The claim about loops and rest, held against the original by running: from one module on, where
+//! the premises hold from there on; a text for each premise that breaks it alone, and texts that
+//! meet them.
 
 use compare::gen::rng::Rng;
 use compare::model::opened::{Node, Opened, Premises, Signal};
@@ -35,32 +36,39 @@ fn enough(p: Premises) -> bool {
     p.not_inside_itself && p.inputs_not_wired && p.outputs_are_ports
 }
 
+/// The modules from which on the premises hold, whatever the rest of the text breaks.
+fn held(opened: &Opened) -> impl Iterator<Item = usize> + '_ {
+    (0..opened.modules()).filter(|&m| enough(opened.premises_from(m)))
+}
+
 #[test]
 fn a_loop_is_reported_exactly_where_an_opened_design_has_one() {
-    let (mut closed, mut open) = (0, 0);
+    let (mut closed, mut open, mut elsewhere) = (0, 0, 0);
     for (text, opened) in designs(3_000) {
-        if !enough(opened.premises()) {
-            continue;
-        }
         let looped = looped(&text);
-        for m in 0..opened.modules() {
+        let broken = !enough(opened.premises());
+        for m in held(&opened) {
             let Some(signals) = opened.signals(m, SIGNALS) else {
                 continue;
             };
             let closes = opened.closes(m, &signals);
-            let below = looped.contains(&m) || !looped.is_disjoint(&opened.inside(m));
-            assert_eq!(closes, below, "{m} of {}", String::from_utf8_lossy(&text));
+            let reported = !looped.is_disjoint(&opened.leads(m));
+            let shown = String::from_utf8_lossy(&text);
+            assert_eq!(closes, reported, "{m} of {shown}");
             if !opened.inside(m).is_empty() {
                 closed += closes as u32;
                 open += !closes as u32;
+                elsewhere += broken as u32;
             }
         }
     }
     println!(
-        "modules with instances: {}, in {closed} a walk closes, in {open} none",
+        "modules with instances: {}, in {closed} a walk closes, in {open} none; \
+         {elsewhere} of them in a text that breaks a premise elsewhere",
         closed + open
     );
     assert!(closed > 2_000 && open > 1_000, "{closed} {open}");
+    assert!(elsewhere > 300, "{elsewhere}");
 }
 
 #[test]
@@ -116,38 +124,58 @@ fn round(opened: &Opened, m: usize, state: &mut State, r: &mut Rng) {
     }
 }
 
+/// The states from one start: after as many rounds as there are signals, and after each of three
+/// later ones.
+fn ends(opened: &Opened, m: usize, signals: &BTreeSet<Signal>, start: u64) -> Vec<State> {
+    let mut r = Rng::new("rest", start, m as u64);
+    let mut state: State = signals.iter().map(|s| (s.clone(), r.below(4))).collect();
+    for _ in 0..signals.len() {
+        round(opened, m, &mut state, &mut r);
+    }
+    let mut ends = vec![state.clone()];
+    for _ in 0..3 {
+        round(opened, m, &mut state, &mut r);
+        ends.push(state.clone());
+    }
+    ends
+}
+
+/// Two starts end in one state, it rests, and it stands after each later round.
+#[track_caller]
+fn comes_to_rest(opened: &Opened, m: usize, signals: &BTreeSet<Signal>, shown: &str) {
+    let ends = [0, 1].map(|start| ends(opened, m, signals, start)).concat();
+    let rest = &ends[0];
+    let rests = |s: &Signal| rest[s] == gives(opened, m, rest, s);
+    assert!(signals.iter().all(rests), "{m} of {shown}");
+    assert!(ends.iter().all(|end| end == rest), "{m} of {shown}");
+}
+
 #[test]
 fn without_a_loop_every_start_ends_in_one_state_at_rest() {
-    let mut rested = 0;
-    for (text, opened) in designs(300) {
-        if !enough(opened.premises()) || !looped(&text).is_empty() {
-            continue;
-        }
-        for m in 0..opened.modules() {
+    let (mut rested, mut elsewhere, mut loops_elsewhere) = (0, 0, 0);
+    for (text, opened) in designs(1_500) {
+        let looped = looped(&text);
+        let broken = !enough(opened.premises());
+        for m in held(&opened).filter(|&m| looped.is_disjoint(&opened.leads(m))) {
             let Some(signals) = opened.signals(m, 60) else {
                 continue;
             };
-            let mut ends = Vec::new();
-            for start in 0..2 {
-                let mut r = Rng::new("rest", start, m as u64);
-                let mut state: State = signals.iter().map(|s| (s.clone(), r.below(4))).collect();
-                for _ in 0..signals.len() {
-                    round(&opened, m, &mut state, &mut r);
-                }
-                let rests = |s: &Signal| state[s] == gives(&opened, m, &state, s);
-                assert!(
-                    signals.iter().all(rests),
-                    "{}",
-                    String::from_utf8_lossy(&text)
-                );
-                ends.push(state);
+            comes_to_rest(&opened, m, &signals, &String::from_utf8_lossy(&text));
+            if signals.len() > 4 {
+                rested += 1;
+                elsewhere += broken as u32;
+                loops_elsewhere += !looped.is_empty() as u32;
             }
-            assert_eq!(ends[0], ends[1]);
-            rested += (signals.len() > 4) as u32;
         }
     }
-    println!("modules of 5 to 60 signals that come to rest from two starts: {rested}");
-    assert!(rested > 200, "{rested}");
+    println!(
+        "modules of 5 to 60 signals that come to rest from two starts: {rested}; \
+         {elsewhere} of them in a text that breaks a premise elsewhere, \
+         {loops_elsewhere} in one with a loop elsewhere"
+    );
+    assert!(rested > 1_000, "{rested}");
+    assert!(elsewhere > 200, "{elsewhere}");
+    assert!(loops_elsewhere > 200, "{loops_elsewhere}");
 }
 
 const INSIDE_ITSELF: &str = "\
@@ -190,20 +218,20 @@ const ALL: Premises = Premises {
     outputs_are_ports: true,
 };
 
-/// The original and the model print this; the text breaks just what `broken` says.
+/// The original and the model print these reports; the text, as a whole, meets just these premises.
 #[track_caller]
-fn breaks(text: &str, reports: &[&str], broken: Premises) -> Opened {
+fn checked(text: &str, reports: &[&str], premises: Premises) -> Opened {
     assert_eq!(oracle::check(text.as_bytes()).unwrap(), reports);
     let printed: String = reports.iter().map(|r| format!("{r}\n")).collect();
     assert_eq!(model::printed(text.as_bytes()), printed.into_bytes());
     let opened = model::opened(text.as_bytes()).unwrap();
-    assert_eq!(opened.premises(), broken);
+    assert_eq!(opened.premises(), premises);
     opened
 }
 
 #[test]
 fn a_loop_is_unseen_in_a_module_that_contains_itself() {
-    let opened = breaks(
+    let opened = checked(
         INSIDE_ITSELF,
         &[],
         Premises {
@@ -230,7 +258,7 @@ fn a_loop_is_unseen_in_a_module_that_contains_itself() {
 
 #[test]
 fn a_loop_is_unseen_behind_a_wired_input() {
-    let opened = breaks(
+    let opened = checked(
         WIRED_INPUT,
         &[],
         Premises {
@@ -243,7 +271,7 @@ fn a_loop_is_unseen_behind_a_wired_input() {
 
 #[test]
 fn a_loop_is_unseen_through_a_name_that_is_no_port() {
-    let opened = breaks(
+    let opened = checked(
         NO_PORT,
         &[],
         Premises {
@@ -262,7 +290,7 @@ fn a_wired_register_reads() {
 (kind 4 reg)
 (wire 4 (n 1) 10)
 ";
-    let opened = breaks(
+    let opened = checked(
         text,
         &[],
         Premises {
@@ -281,7 +309,7 @@ fn an_out_port_with_the_name_of_an_input_hides_nothing() {
         ..ALL
     };
     let alone = "(module 0 bound)\n(kind 1 in)\n(port out 1 bit 10)\n";
-    breaks(alone, &["(E0502 0 10 1 never)"], broken);
+    checked(alone, &["(E0502 0 10 1 never)"], broken);
     let text = "\
 (module 0 bound)
 (kind 5 inst)
@@ -290,7 +318,7 @@ fn an_out_port_with_the_name_of_an_input_hides_nothing() {
 (kind 1 in)
 (port out 1 bit 20)
 ";
-    let opened = breaks(
+    let opened = checked(
         text,
         &[
             "(E0504 0 10 (walk (u 5 - 1) (u 5 - 1)))",
@@ -299,6 +327,99 @@ fn an_out_port_with_the_name_of_an_input_hides_nothing() {
         broken,
     );
     assert!(opened.closes(0, &opened.signals(0, SIGNALS).unwrap()));
+}
+
+/// Output 2 reads output 3 of an instance, which reads input 1.
+const QUIET_INSTANCE: &str = "\
+(module 0 bound)
+(kind 1 in)
+(kind 2 out)
+(kind 5 inst)
+(port out 2 bit 10)
+(inst 5 - 1 20 (conn 1 (n 1)))
+(drive (lv 2 30) (f (n 5) 3))
+(module 1 bound)
+(kind 1 in)
+(kind 3 out)
+(port out 3 bit 40)
+(drive (lv 3 50) (n 1))
+";
+
+/// The same, but the instance's input is connected to output 2.
+const LOOPED_INSTANCE: &str = "\
+(module 0 bound)
+(kind 2 out)
+(kind 5 inst)
+(port out 2 bit 10)
+(inst 5 - 1 20 (conn 1 (n 2)))
+(drive (lv 2 30) (f (n 5) 3))
+(module 1 bound)
+(kind 1 in)
+(kind 3 out)
+(port out 3 bit 40)
+(drive (lv 3 50) (n 1))
+";
+
+/// Module 1 contains itself, and module 0 does not lead there.
+const BESIDE_ITSELF: &str = "\
+(module 0 bound)
+(kind 1 in)
+(kind 2 out)
+(port out 2 bit 10)
+(drive (lv 2 20) (n 1))
+(module 1 bound)
+(kind 5 inst)
+(inst 5 - 1 30)
+";
+
+/// The signals of the design opened from a module, as text.
+fn listed(opened: &Opened, m: usize) -> Vec<String> {
+    let signals = opened.signals(m, SIGNALS).unwrap().into_iter();
+    signals.map(|(copy, n)| format!("{copy:?} {n}")).collect()
+}
+
+/// No walk closes in the design opened from a module, and it comes to rest.
+#[track_caller]
+fn is_quiet(opened: &Opened, m: usize, text: &str) {
+    let signals = opened.signals(m, SIGNALS).unwrap();
+    assert!(!opened.closes(m, &signals));
+    comes_to_rest(opened, m, &signals, text);
+}
+
+#[test]
+fn within_all_premises_an_instance_without_a_loop_comes_to_rest() {
+    let opened = checked(QUIET_INSTANCE, &[], ALL);
+    let signals = ["[] 1", "[] 2", "[] (u 5 - 3)", "[0] 1", "[0] 3"];
+    assert_eq!(listed(&opened, 0), signals);
+    is_quiet(&opened, 0, QUIET_INSTANCE);
+    is_quiet(&opened, 1, QUIET_INSTANCE);
+}
+
+#[test]
+fn within_all_premises_a_loop_through_an_instance_is_reported() {
+    let report = "(E0504 0 20 (walk (u 5 - 3) 2 (u 5 - 3)))";
+    let opened = checked(LOOPED_INSTANCE, &[report], ALL);
+    assert!(opened.closes(0, &opened.signals(0, SIGNALS).unwrap()));
+    is_quiet(&opened, 1, LOOPED_INSTANCE);
+}
+
+#[test]
+fn what_a_module_does_not_lead_to_breaks_no_premise_of_it() {
+    let broken = Premises {
+        not_inside_itself: false,
+        ..ALL
+    };
+    let opened = checked(BESIDE_ITSELF, &[], broken);
+    assert_eq!(opened.premises_from(0), ALL);
+    assert_eq!(opened.premises_from(1), broken);
+    is_quiet(&opened, 0, BESIDE_ITSELF);
+}
+
+#[test]
+fn an_instance_output_that_nothing_reads_is_a_signal() {
+    let text = QUIET_INSTANCE.replace("(f (n 5) 3)", "(n 1)");
+    let opened = checked(&text, &[], ALL);
+    assert!(listed(&opened, 0).contains(&"[] (u 5 - 3)".to_string()));
 }
 
 /// The premises of an accepted text of which no loop is reported, though from module 0, three

@@ -18,7 +18,7 @@ struct Instance {
     name: Name,
     index: Option<i128>,
     module: usize,
-    /// The port of each connection, and what it reads.
+    /// The port of each connection to an input, and what it reads; nothing reads another.
     conns: Vec<(Name, Vec<Node>)>,
 }
 
@@ -30,6 +30,15 @@ struct Lines {
     /// The names of wire lines.
     wired: BTreeSet<Name>,
     instances: Vec<Instance>,
+}
+
+impl Lines {
+    /// All that is read, by what heads something and by connections to inputs.
+    fn read(&self) -> impl Iterator<Item = &Node> {
+        let conns = self.instances.iter().flat_map(|i| &i.conns);
+        let connected = conns.flat_map(|(_, reads)| reads);
+        self.heads.values().flatten().chain(connected)
+    }
 }
 
 /// The premises, the second in its two halves.
@@ -73,22 +82,24 @@ impl Opened {
         self.design.len()
     }
 
+    /// The premises of the whole text.
     pub fn premises(&self) -> Premises {
-        let wired = |kind| {
-            self.lines.iter().zip(&self.design).any(|(lines, m)| {
-                let mut names = lines.wired.iter();
-                names.any(|name| m.kinds.get(name) == Some(&kind))
-            })
-        };
+        self.premises_of(&(0..self.modules()).collect())
+    }
+
+    /// The premises from module `m` on: no other module bears on the design opened from it.
+    pub fn premises_from(&self, m: usize) -> Premises {
+        self.premises_of(&self.leads(m))
+    }
+
+    fn premises_of(&self, modules: &BTreeSet<usize>) -> Premises {
+        let none = |breaks: fn(&Opened, usize) -> bool| !modules.iter().any(|&k| breaks(self, k));
         Premises {
-            not_inside_itself: (0..self.modules()).all(|m| !self.inside(m).contains(&m)),
-            inputs_not_wired: !wired(Kind::In),
-            registers_not_wired: !wired(Kind::Reg),
-            inputs_no_ports: self.design.iter().all(|m| {
-                let mut ports = ports(m);
-                ports.all(|name| m.kinds.get(&name) != Some(&Kind::In))
-            }),
-            outputs_are_ports: self.lines.iter().all(|lines| self.reads_are_ports(lines)),
+            not_inside_itself: none(Opened::contains_itself),
+            inputs_not_wired: none(|opened, k| opened.wires(k, Kind::In)),
+            registers_not_wired: none(|opened, k| opened.wires(k, Kind::Reg)),
+            inputs_no_ports: none(Opened::input_is_port),
+            outputs_are_ports: none(Opened::reads_what_is_no_port),
         }
     }
 
@@ -106,17 +117,39 @@ impl Opened {
         found
     }
 
-    fn reads_are_ports(&self, lines: &Lines) -> bool {
-        let conns = lines.instances.iter().flat_map(|i| &i.conns);
-        let connected = conns.flat_map(|(_, reads)| reads);
-        let mut read = lines.heads.values().flatten().chain(connected);
-        read.all(|node| match *node {
-            Node::Sig(_) => true,
+    /// The same, and `m` itself.
+    pub fn leads(&self, m: usize) -> BTreeSet<usize> {
+        let mut found = self.inside(m);
+        found.insert(m);
+        found
+    }
+
+    fn contains_itself(&self, k: usize) -> bool {
+        self.inside(k).contains(&k)
+    }
+
+    /// Whether a wire line heads a name of this kind.
+    fn wires(&self, k: usize, kind: Kind) -> bool {
+        let mut wired = self.lines[k].wired.iter();
+        wired.any(|name| self.design[k].kinds.get(name) == Some(&kind))
+    }
+
+    /// Whether an out port has the name of an input.
+    fn input_is_port(&self, k: usize) -> bool {
+        let module = &self.design[k];
+        ports(module).any(|name| module.kinds.get(&name) == Some(&Kind::In))
+    }
+
+    /// Whether an instance output is read that is no out port of a module so instanced.
+    fn reads_what_is_no_port(&self, k: usize) -> bool {
+        let lines = &self.lines[k];
+        lines.read().any(|node| match *node {
+            Node::Sig(_) => false,
             Node::InstOut { inst, index, out } => {
                 let mut named = lines.instances.iter();
-                named.all(|i| {
-                    (i.name, i.index) != (inst, index)
-                        || ports(&self.design[i.module]).any(|port| port == out)
+                named.any(|i| {
+                    (i.name, i.index) == (inst, index)
+                        && ports(&self.design[i.module]).all(|port| port != out)
                 })
             }
         })
@@ -159,9 +192,7 @@ impl Opened {
     /// All signals of the design opened from `m`, each once; none where a module contains itself
     /// or there are more than `limit`.
     pub fn signals(&self, m: usize, limit: usize) -> Option<BTreeSet<Signal>> {
-        let mut inside = self.inside(m);
-        inside.insert(m);
-        if inside.iter().any(|&k| self.inside(k).contains(&k)) {
+        if !self.premises_from(m).not_inside_itself {
             return None;
         }
         let mut found = BTreeSet::new();
@@ -182,13 +213,13 @@ impl Opened {
         Some(found)
     }
 
-    /// What is headed or read in a module, and its inputs.
+    /// What is headed or read in a module, and its inputs. An instance line heads too: the
+    /// top-level outputs of its module, whether or not they are read.
     fn nodes(&self, k: usize) -> BTreeSet<Node> {
         let lines = &self.lines[k];
         let mut nodes: BTreeSet<Node> = lines.heads.keys().copied().collect();
-        nodes.extend(lines.heads.values().flatten());
-        let conns = lines.instances.iter().flat_map(|i| &i.conns);
-        nodes.extend(conns.flat_map(|(_, reads)| reads));
+        nodes.extend(lines.read());
+        nodes.extend(lines.instances.iter().flat_map(|i| self.outputs(i)));
         let kinds = self.design[k].kinds.iter();
         nodes.extend(
             kinds
@@ -196,6 +227,15 @@ impl Opened {
                 .map(|(&n, _)| Node::Sig(n)),
         );
         nodes
+    }
+
+    /// The outputs that an instance line heads.
+    fn outputs<'a>(&'a self, i: &'a Instance) -> impl Iterator<Item = Node> + 'a {
+        ports(&self.design[i.module]).map(|out| Node::InstOut {
+            inst: i.name,
+            index: i.index,
+            out,
+        })
     }
 
     /// Whether a walk closes among these signals: they are taken away, again and again, where
@@ -253,9 +293,12 @@ fn collect(
                     Some(e) => eval(e, table)?,
                     None => None,
                 };
+                let kinds = &design[i.module].kinds;
                 let mut conns = Vec::new();
                 for (port, signal) in &i.conns {
-                    conns.push((*port, reads(module, table, &[signal])?));
+                    if kinds.get(port) == Some(&Kind::In) {
+                        conns.push((*port, reads(module, table, &[signal])?));
+                    }
                 }
                 lines.instances.push(Instance {
                     name: i.name,
