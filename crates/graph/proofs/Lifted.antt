@@ -19,7 +19,8 @@ use Rattle.spec.specs.Site.{kind-of}
 use Rattle.spec.specs.Edge.{Node, signal, inst-out, same-node, Head, all-nodes, all-reads, reads-of}
 use Rattle.spec.specs.Summary.{is-input, onward, inputs-among, inputs-reached}
 use Rattle.spec.proofs.Numbers.{if-case}
-use Rattle.spec.proofs.DepthFirst.{search-finds, reached-root, reached-next}
+use Rattle.spec.proofs.Walks.{reached-root, reached-next}
+use Rattle.spec.proofs.DepthFirst.{search-finds}
 use Rattle.spec.proofs.Nodes.{same-node-yes, same-node-refl, node-in, read-all, reads-of-read, read-reads-of, headed-all}
 use Rattle.graph.specs.Table.{count, edge-total, node-words, node-at, source, target, edges-below, out, Found}
 use Rattle.graph.specs.Stands.{nodes, edges, Stands}
@@ -103,7 +104,7 @@ module _ (header : List Header) (heads : List Head) where
     abbrev roots : List Node
     roots = signal o ∷ []
 
-    finds : FindsLoops (onward header heads) roots (search same-node (onward header heads) (suc (suc (length (all-nodes heads)))) roots)
+    finds : FindsLoops same-node (onward header heads) roots (search same-node (onward header heads) (suc (suc (length (all-nodes heads)))) roots)
     finds = search-finds same-node (onward header heads) same-node-yes same-node-refl roots (signal o ∷ all-nodes heads)
         (λ r i. List·Memᴰ·head (List·Memᴰ·eq-of-singleton i)) (λ a b i j. List·Memᴰ·tail (read-all heads a (reads-of-read heads a (onward-read a b j))))
         (suc (suc (length (all-nodes heads)))) (omega arith)

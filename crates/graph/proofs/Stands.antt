@@ -17,7 +17,7 @@ use Rattle.spec.specs.Edge.{Node, same-node, Head, all-nodes, head-nodes, all-r
 use Rattle.spec.specs.FindCycles.{start-of}
 use Rattle.spec.proofs.Numbers.{if-case}
 use Rattle.spec.proofs.Nodes.{same-node-yes, node-in, headed-all, read-all}
-use Rattle.spec.proofs.DepthFirst.{among-yes, among-no}
+use Rattle.spec.proofs.Lists.{among-yes, among-no}
 use Rattle.spec.proofs.HeadLaws.{true-left, true-right}
 use Rattle.graph.specs.Table.{count, edge-total, node-words, node-at, start-at, headed-at, nodes-below, source, target, edges-below, out, Linked, pushed, stored, Found, node-of}
 use Rattle.graph.specs.Stands.{nodes, edges, Holds, Stands, IsNode, Heading, head-of, Got, Headed, Read}
@@ -311,10 +311,10 @@ module _ {g : List ℕ} {hs : List Head} (H : Stands g hs) (k n x o : ℕ) (few 
 
 -- the test for a number among numbers
 pub number-in : (n : ℕ) (l : List ℕ) → among eqb n l ≡ true → n ∈ l
-number-in = among-yes eqb (λ n. []) eqb-true (λ n. eq-eqb n n refl)
+number-in = among-yes eqb eqb-true (λ n. eq-eqb n n refl)
 
 pub number-out : (n : ℕ) (l : List ℕ) → among eqb n l ≡ false → ¬ (n ∈ l)
-number-out = among-no eqb (λ n. []) eqb-true (λ n. eq-eqb n n refl)
+number-out = among-no eqb eqb-true (λ n. eq-eqb n n refl)
 
 -- a node that is there
 module _ {g : List ℕ} {hs : List Head} (H : Stands g hs) {i : ℕ} {n : Node} (q : IsNode g i n) where

@@ -16,7 +16,7 @@ use Rattle.spec.specs.Summary.{is-input, onward, Kept, module-heads}
 use Rattle.spec.specs.FindCycles.{next-nodes, find-cycles}
 use Rattle.spec.specs.Graph.{_∈_, Chain, last, ClosedWalk}
 use Rattle.spec.specs.DepthFirstFinds.{Reached}
-use Rattle.spec.specs.Hierarchy.{Instance, Acyclic, Unheaded, From}
+use Rattle.spec.specs.Hierarchy.{Instance, Hierarchy, Acyclic, Unheaded, From}
 use Rattle.spec.specs.Opened.{connections-to}
 use Rattle.spec.specs.DesignHierarchy.{lines-of, header-of, line-instance-at, instances, own-heads, lines-own-heads, out-names, hierarchy}
 use Rattle.spec.specs.Premises.{NotWired}
@@ -286,19 +286,16 @@ module _ (d : Design) (m : ℕ) (hs : List Head) (reads : (n x : Node) → x ∈
   pub cycles-loop : (w : List Node) → w ∈ find-cycles hs → EdgeLoop (hierarchy d) m w
   cycles-loop w i = walk-loop w (cycles-found hs .walks w i .0)
 
--- and one whose next nodes are all of them.
-module _ (d : Design) (m : ℕ) (hs : List Head) (edges : (n x : Node) → x ∈ next-nodes hs n ↔ Edge (hierarchy d) m n x) where
-  edges-chain : (n : Node) (l : List Node) → EdgeChain (hierarchy d) m n l → Chain (next-nodes hs) n l
+-- and edges that are steps of a graph: where they lead back a walk closes.
+module _ (H : Hierarchy) (m : H .Key) (next : Node → List Node) (steps : (n x : Node) → Edge H m n x → x ∈ next n) where
+  edges-chain : (n : Node) (l : List Node) → EdgeChain H m n l → Chain next n l
   edges-chain n [] c = tt
-  edges-chain n (x ∷ l) c = (edges n x .1 (c .0), edges-chain x l (c .1))
+  edges-chain n (x ∷ l) c = (steps n x (c .0), edges-chain x l (c .1))
 
-  loop-walk : (w : List Node) → EdgeLoop (hierarchy d) m w → ClosedWalk (next-nodes hs) w
+  pub loop-walk : (w : List Node) → EdgeLoop H m w → ClosedWalk next w
   loop-walk [] c = c
   loop-walk (n ∷ []) c = c
   loop-walk (n ∷ x ∷ l) c = (edges-chain n (x ∷ l) (c .0), c .1)
-
-  cycles-none : find-cycles hs ≡ [] ↔ ((v : List Node) → ¬ EdgeLoop (hierarchy d) m v)
-  cycles-none = (λ e v l. cycles-found hs .none .0 e v (loop-walk v l), λ h. cycles-found hs .none .1 (λ w c. h w (walk-loop d m hs (λ n x. edges n x .0) w c)))
 
 -- A module past the end has no edges.
 own-heads-missing : (d : Design) (m : ℕ) → getElem? d m ≡ none → own-heads d m ≡ []
@@ -310,20 +307,7 @@ unfolding all-reads
 no-edge-missing d m f n x (own i) = List·Memᴰ·not-nil (subst (λ z. x ∈ all-reads z n) (own-heads-missing d m f) i)
 no-edge-missing d m f n x (through j o p i t k w r) = List·Memᴰ·not-nil (subst (λ z. j ∈ z) (instances-missing d m f) i)
 
-pub no-loop-missing : (d : Design) (m : ℕ) → getElem? d m ≡ none → (v : List Node) → ¬ EdgeLoop (hierarchy d) m v
-no-loop-missing d m f [] l = l
-no-loop-missing d m f (n ∷ []) l = l
-no-loop-missing d m f (n ∷ x ∷ v) l = no-edge-missing d m f n x (l .0 .0)
-
--- The theorems, of the heads that the check of module m searches, whatever was summarised before.
+-- The theorem, of the heads that the check of module m searches, whatever was summarised before.
 module _ (d : Design) (m : ℕ) (good : Good d m) (k : Module) (at : getElem? d m ≡ some k) (kept : Kept) (plain : PlainTable d kept) where
   pub check-edge : (n x : Node) → x ∈ next-nodes (module-heads d kept k (lines-of d m) .heads) n ↔ Edge (hierarchy d) m n x
   check-edge n x = subst⁻¹ (λ hs. x ∈ next-nodes hs n ↔ Edge (hierarchy d) m n x) (summaries d .headed kept plain m k at .0 (good .0)) (plain-edges d m good n x)
-
-  -- no report just where no edges lead back
-  pub check-none : find-cycles (module-heads d kept k (lines-of d m) .heads) ≡ [] ↔ ((v : List Node) → ¬ EdgeLoop (hierarchy d) m v)
-  check-none = cycles-none d m (module-heads d kept k (lines-of d m) .heads) check-edge
-
-  -- each walk reported leads back by edges
-  pub check-loop : (w : List Node) → w ∈ find-cycles (module-heads d kept k (lines-of d m) .heads) → EdgeLoop (hierarchy d) m w
-  check-loop w i = cycles-loop d m (module-heads d kept k (lines-of d m) .heads) (λ n x. check-edge n x .0) w i

@@ -2,7 +2,7 @@
 -- Assumes nothing.
 use Prim.Native.Nat.{ℕ}
 use mathlib.Core.Path.{_≡_, refl, sym, _∙_, ap, subst, subst⁻¹}
-use mathlib.Core.Bool.{Bool, true, false, _&&_, false≢true}
+use mathlib.Core.Bool.{Bool, true, false, _&&_, true≢false, false≢true}
 use mathlib.Core.Logic.{_⊎_, inl, inr}
 use mathlib.Core.List.{List, [], _∷_, _++_, map, List·Memᴰ·head, List·Memᴰ·tail, List·Memᴰ·not-nil, List·Memᴰ·cases-cons, List·Memᴰ·append-cases, Memᴰ·append-left, Memᴰ·append-right, Memᴰ·map, Memᴰ·of-map}
 use mathlib.Core.Option.{Option, some, none, Option·some-injective, Option·none-ne-some}
@@ -84,10 +84,10 @@ module _ {Key : Type 0} where
       pick on (inr k) = let r = on k in (r .0, List·Memᴰ·tail (r .1), r .2)
 
 -- what is read at a key: by its lines, and by a connection to an input
-abbrev FedBy : ℕ → Node → List Connection → Type 0
+abbrev pub FedBy : ℕ → Node → List Connection → Type 0
 FedBy q x cs = (c : Connection) × (c ∈ cs) × (c .port ≡ q) × (x ∈ c .nodes)
 
-fed-by : (q : ℕ) (x : Node) (cs : List Connection) → x ∈ connections-to q cs → FedBy q x cs
+pub fed-by : (q : ℕ) (x : Node) (cs : List Connection) → x ∈ connections-to q cs → FedBy q x cs
 unfolding connections-to
 fed-by q x [] h = absurd (List·Memᴰ·not-nil h)
 fed-by q x (c ∷ cs) h = go (fed-by q x cs) (eqb q (c .port)) refl h
@@ -103,6 +103,17 @@ fed-by q x (c ∷ cs) h = go (fed-by q x cs) (eqb q (c .port)) refl h
         → x ∈ (elim b as (λ z. List Node) [ true ↦ c .nodes ++ connections-to q cs | false ↦ connections-to q cs ]) → FedBy q x (c ∷ cs)
     go on true e u = pick on e (List·Memᴰ·append-cases (c .nodes) u)
     go on false e u = more (on u)
+
+pub fed-in : (q : ℕ) (x : Node) (cs : List Connection) → FedBy q x cs → x ∈ connections-to q cs
+unfolding connections-to
+fed-in q x [] (c, i, e, u) = absurd (List·Memᴰ·not-nil i)
+fed-in q x (c ∷ cs) (b, i, e, u) = go (λ j. fed-in q x cs (b, j, e, u)) (eqb q (c .port)) refl (List·Memᴰ·cases-cons i)
+  where
+    go : (b ∈ cs → x ∈ connections-to q cs) → (v : Bool) → eqb q (c .port) ≡ v → (b ≡ c) ⊎ (b ∈ cs) → x ∈ (elim v as (λ z. List Node) [ true ↦ c .nodes ++ connections-to q cs | false ↦ connections-to q cs ])
+    go on true f (inl d) = Memᴰ·append-left (connections-to q cs) (subst (λ (z : Connection). x ∈ z .nodes) d u)
+    go on true f (inr j) = Memᴰ·append-right (c .nodes) (on j)
+    go on false f (inl d) = absurd (true≢false (sym (eq-eqb q (c .port) (sym e ∙ ap (λ z. z .port) d)) ∙ f))
+    go on false f (inr j) = on j
 
 module _ (H : Hierarchy) where
   pub read-own : (m : H .Key) (n : Node) {x : Node} → x ∈ all-reads (H .own m) n → ReadAt H m x

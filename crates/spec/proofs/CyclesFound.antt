@@ -8,14 +8,16 @@ use native.Mathlib.Omega.{arith}
 use Prim.Native.Nat.{suc}
 use Rattle.spec.specs.Graph.{_∈_, Once, Chain, last, ClosedWalk}
 use Rattle.spec.specs.DepthFirst.{search}
-use Rattle.spec.specs.DepthFirstFinds.{FindsLoops, InOrder}
+use Rattle.spec.specs.DepthFirstFinds.{Topological, FindsLoops, Goes, InOrder, final-steps, cut}
 use Rattle.spec.specs.Edge.{Node, Head, same-node, all-nodes, head-nodes}
 use Rattle.spec.specs.FindCycles.{ascends, next-nodes, roots, find-cycles}
 use Rattle.spec.specs.FirstWays.{ReportedBefore, ByWays}
 use Rattle.spec.specs.CyclesFound.{CyclesFound}
-use Rattle.spec.proofs.DepthFirst.{reached-root, search-finds}
+use Rattle.spec.proofs.Walks.{reached-root}
+use Rattle.spec.proofs.DepthFirst.{search-finds}
 use Rattle.spec.proofs.LastFirst.{cycles-descend}
-use Rattle.spec.proofs.FirstWays.{reported-one-way, search-by-ways, one-by-ways}
+use Rattle.spec.proofs.FirstWays.{reported-one-way, one-final, own-final, search-by-ways, one-by-ways}
+use Rattle.spec.proofs.FinalSteps.{Final}
 use Rattle.spec.proofs.Nodes.{same-node-yes, same-node-refl, Rising, rising-once, next-read, next-by, next-once, next-rising, reader-headed, roots-headed, roots-rising, headed-all, read-all}
 
 module _ (hs : List Head) where
@@ -28,7 +30,7 @@ module _ (hs : List Head) where
   roots-once : Once (roots hs)
   roots-once = rising-once hs (roots hs) (roots-rising hs)
 
-  finds : FindsLoops (next-nodes hs) (roots hs) (search same-node (next-nodes hs) (suc (length (all-nodes hs))) (roots hs))
+  finds : FindsLoops same-node (next-nodes hs) (roots hs) (search same-node (next-nodes hs) (suc (length (all-nodes hs))) (roots hs))
   finds = search-finds same-node (next-nodes hs) same-node-yes same-node-refl (roots hs) (all-nodes hs) in-roots in-next (suc (length (all-nodes hs))) (omega arith)
 
   by-ways : ByWays (next-nodes hs) (roots hs) (find-cycles hs)
@@ -57,6 +59,24 @@ module _ (hs : List Head) where
   in-order : (l : List Node) → Rising hs l → InOrder (λ m n. ascends hs m n ≡ true) l
   in-order [] r = tt
   in-order (n ∷ l) r = (r .0, in-order l (r .1))
+
+  -- without the final steps of its reports the nodes left stand in order, all from which a step goes among them
+  pub left-order : (l : List Node) × Once l × ((n m : Node) → m ∈ next-nodes hs n → n ∈ l) × Topological (cut same-node (final-steps (find-cycles hs)) (next-nodes hs)) l
+  unfolding find-cycles
+  left-order = (
+    search same-node (next-nodes hs) (suc (length (all-nodes hs))) (roots hs) .left,
+    finds .once,
+    λ n m i. finds .all n .1 (reached-root (next-nodes hs) (roots-headed hs .1 (reader-headed hs n (next-read hs n i)))),
+    finds .order,
+  )
+
+  -- and reports with one final step are one
+  pub final-one : (w x : List Node) (s : Node × Node) → w ∈ find-cycles hs → x ∈ find-cycles hs → Final w s → Final x s → w ≡ x
+  final-one w x s i j = one-final same-node (next-nodes hs) same-node-yes same-node-refl (roots hs) (all-nodes hs) in-roots in-next roots-once (next-once hs) w x s (by-ways .exactly w .0 i) (by-ways .exactly x .0 j)
+
+  -- and a report goes over no final step but its own
+  pub final-own : (w x : List Node) (u v : Node) → w ∈ find-cycles hs → x ∈ find-cycles hs → Goes w u v → Final x (u, v) → Final w (u, v)
+  final-own w x u v i j = own-final same-node (next-nodes hs) same-node-yes same-node-refl (roots hs) (all-nodes hs) in-roots in-next roots-once (next-once hs) w x u v (by-ways .exactly w .0 i) (by-ways .exactly x .0 j)
 
   -- The theorem.
   pub cycles-found : CyclesFound hs

@@ -4,15 +4,17 @@ use Prim.Native.Nat.{ℕ, zero, suc, _+_, _<_}
 use mathlib.Core.Path.{_≡_, refl, sym, _∙_, ap, subst, subst⁻¹}
 use mathlib.Core.Bool.{Bool, true, false}
 use mathlib.Core.Logic.{_⊎_, inl, inr}
+use mathlib.Core.Option.{some}
 use mathlib.Core.List.{List, [], _∷_, _++_, append-assoc, append-nil, List·Memᴰ·head, List·Memᴰ·tail, List·Memᴰ·not-nil, List·Memᴰ·cases-cons, List·Memᴰ·append-cases, List·Memᴰ·eq-of-singleton, Memᴰ·append-left, Memᴰ·append-right, Memᴰ·cast}
 use lib.ListN.{length, length-append}
 use native.Mathlib.Omega.{arith}
 use Rattle.spec.specs.Graph.{_∈_, Once}
 use Rattle.spec.specs.DepthFirst.{Searched, backwards, among, back-to, in-turn, step, search}
-use Rattle.spec.specs.DepthFirstFinds.{InOrder, StandsBefore}
-use Rattle.spec.specs.FirstWays.{Way, TakenBefore, Sooner, FirstWay, Closes, ReportedBefore, ByWays}
-use Rattle.spec.proofs.Lists.{once-length}
-use Rattle.spec.proofs.DepthFirst.{in-backwards, of-backwards, among-yes, among-no, differs}
+use Rattle.spec.specs.DepthFirstFinds.{Goes, InOrder, StandsBefore}
+use Rattle.spec.specs.FirstWays.{Way, TakenBefore, Sooner, FirstWay, Closes, Reported, ReportedBefore, ByWays}
+use Rattle.spec.proofs.Lists.{once-length, among-yes, among-no, differs}
+use Rattle.spec.proofs.FinalSteps.{Final, final-at, one-step}
+use Rattle.spec.proofs.DepthFirst.{in-backwards, of-backwards, moved}
 use Rattle.spec.proofs.Firsts.{head-same, tail-same, not-cons, part-at, order-append, order-once, order-stands, stands-one-way, same-list}
 use Rattle.spec.proofs.LastFirst.{stands-more, backwards-down}
 
@@ -67,42 +69,6 @@ module _ {A : Type 0} where
     shorter : (z : List A) (n : A) → a ≡ z ++ n ∷ b → Compared a b
     parting : (x y : List A) (m n : A) (c : List A) → a ≡ x ++ m ∷ c → b ≡ y ++ n ∷ c → ¬ (m ≡ n) → Compared a b
 
--- ---- the last step of a walk
-
--- w ends with the step from p to n
-record Ends {A : Type 0} (w : List A) (p n : A) : Type 0 where
-  front : List A
-  parted : w ≡ front ++ p ∷ n ∷ []
-
--- the last two of a ∷ b ∷ l
-final-pair : {A : Type 0} → A → A → List A → A × A
-final-pair a b [] = (a, b)
-final-pair a b (c ∷ l) = final-pair b c l
-
-final : {A : Type 0} → A → List A → A × A
-final a [] = (a, a)
-final a (b ∷ l) = final-pair a b l
-
-whole-final : {A : Type 0} → List A → A × A → A × A
-whole-final [] x = x
-whole-final (a ∷ l) x = final a l
-
-final-pair-at : {A : Type 0} (front : List A) (a b p n : A) → final-pair a b (front ++ p ∷ n ∷ []) ≡ (p, n)
-unfolding final-pair
-final-pair-at [] a b p n = refl
-final-pair-at (c ∷ front) a b p n = final-pair-at front b c p n
-
-final-at : {A : Type 0} (front : List A) (p n : A) (x : A × A) → whole-final (front ++ p ∷ n ∷ []) x ≡ (p, n)
-unfolding whole-final final final-pair
-final-at [] p n x = refl
-final-at (a ∷ []) p n x = refl
-final-at (a ∷ b ∷ front) p n x = final-pair-at front a b p n
-
-ends-same : {A : Type 0} {w : List A} {p n q m : A} → Ends w p n → Ends w q m → (p ≡ q) × (n ≡ m)
-ends-same {p = p} {n = n} {q = q} {m = m} e f =
-    let s = sym (final-at (e .front) p n (p, n)) ∙ ap (λ z. whole-final z (p, n)) (sym (e .parted) ∙ f .parted) ∙ final-at (f .front) q m (p, n) in
-    (ap (λ z. z .0) s, ap (λ z. z .1) s)
-
 module _ {A : Type 0} (same : A → A → Bool) (next : A → List A)
     (same-yes : (a b : A) → same a b ≡ true → a ≡ b) (same-refl : (a : A) → same a a ≡ true) where
   -- the walk back to v, where v stands once
@@ -129,7 +95,7 @@ module _ {A : Type 0} (same : A → A → Bool) (next : A → List A)
 
       test : (v : Bool) (z : List A) (n : A) → b ≡ z ++ n ∷ a → same h n ≡ v → Compared (h ∷ a) b
       test true z n e d = on z n e (same-yes h n d)
-      test false z n e d = parting [] z h n a refl e (differs same next same-yes same-refl d)
+      test false z n e d = parting [] z h n a refl e (differs same same-yes same-refl d)
 
       go : Compared a b → Compared (h ∷ a) b
       go (equal e) = shorter [] h (ap (_∷_ h) e)
@@ -198,16 +164,17 @@ module _ {A : Type 0} (same : A → A → Bool) (next : A → List A)
       taken : (a : A) → a ∈ l → (a ∈ st′ .left) ⊎ (a ∈ path)
       told : (a : A) → a ∈ l → a ∈ path → back-to same a path (a ∷ []) ∈ st′ .reports
 
-    does-nothing : (path : List A) (st : Searched A) → Good path st → Does path [] st st
-    does-nothing path st g = record {
+    -- nothing is done where all of l are left or told
+    does-nothing : (path l : List A) (st : Searched A) → Good path st → ((a : A) → a ∈ l → (a ∈ st .left) ⊎ (a ∈ path)) → ((a : A) → a ∈ l → a ∈ path → back-to same a path (a ∷ []) ∈ st .reports) → Does path l st st
+    does-nothing path l st g taken told = record {
       good = g;
       keeps = λ a i. i;
       new = [];
       added = sym (append-nil (st .reports));
       order = tt;
       sources = λ w i. absurd (List·Memᴰ·not-nil i);
-      taken = λ a i. absurd (List·Memᴰ·not-nil i);
-      told = λ a i. absurd (List·Memᴰ·not-nil i);
+      taken = taken;
+      told = told;
     }
 
     does-more : {path l : List A} {n : A} {st st′ st″ : Searched A} → InOrder (TakenBefore next roots path) (n ∷ l) → Does path (n ∷ []) st st′ → Does path l st′ st″ → Does path (n ∷ l) st st″
@@ -302,7 +269,7 @@ module _ {A : Type 0} (same : A → A → Bool) (next : A → List A)
         → ((n : A) → n ∈ l → (st : Searched A) → Good path st → Ahead (n ∷ path) st → Does path (n ∷ []) st (visit n st))
         → (st : Searched A) → Good path st → Ahead path st → Ready path l st → Does path l st (in-turn visit l st)
     unfolding in-turn
-    in-turn-does path visit [] down each st g outer ready = does-nothing path st g
+    in-turn-does path visit [] down each st g outer ready = does-nothing path [] st g (λ a i. absurd (List·Memᴰ·not-nil i)) (λ a i. absurd (List·Memᴰ·not-nil i))
     in-turn-does path visit (n ∷ l) down each st g outer ready =
         let f = each n (List·Memᴰ·head refl) st g (ahead-next path n st g outer (λ m t. done m t (ready m n (List·Memᴰ·head refl) t))) in
         does-more down f
@@ -376,16 +343,8 @@ module _ {A : Type 0} (same : A → A → Bool) (next : A → List A)
     }
 
     does-again : (path : List A) (n : A) (st : Searched A) → Good path st → n ∈ st .left → ¬ (n ∈ path) → Does path (n ∷ []) st st
-    does-again path n st g h off = record {
-      good = g;
-      keeps = λ a i. i;
-      new = [];
-      added = sym (append-nil (st .reports));
-      order = tt;
-      sources = λ w i. absurd (List·Memᴰ·not-nil i);
-      taken = λ a i. inl (Memᴰ·cast (List·Memᴰ·eq-of-singleton i) h);
-      told = λ a i j. absurd (off (Memᴰ·cast (sym (List·Memᴰ·eq-of-singleton i)) j));
-    }
+    does-again path n st g h off =
+        does-nothing path (n ∷ []) st g (λ a i. inl (Memᴰ·cast (List·Memᴰ·eq-of-singleton i) h)) (λ a i j. absurd (off (Memᴰ·cast (sym (List·Memᴰ·eq-of-singleton i)) j)))
 
     does-entered : (path : List A) (n : A) (st done : Searched A) → FirstWay next roots n path → ¬ (n ∈ path) → Does (n ∷ path) (backwards (next n)) st done
         → Does path (n ∷ []) st (record { left = n ∷ done .left; reports = done .reports })
@@ -400,17 +359,9 @@ module _ {A : Type 0} (same : A → A → Bool) (next : A → List A)
       told = λ a i j. absurd (off (Memᴰ·cast (sym (List·Memᴰ·eq-of-singleton i)) j));
     }
       where
-        up : (b : A) → (b ≡ n) ⊎ (b ∈ path) → (b ∈ (n ∷ done .left)) ⊎ (b ∈ path)
-        up b (inl e) = inl (List·Memᴰ·head e)
-        up b (inr m) = inr m
-
-        moved : (b : A) → (b ∈ done .left) ⊎ (b ∈ (n ∷ path)) → (b ∈ (n ∷ done .left)) ⊎ (b ∈ path)
-        moved b (inl i) = inl (List·Memᴰ·tail i)
-        moved b (inr m) = up b (List·Memᴰ·cases-cons m)
-
         leads : (a b : A) → b ∈ next a → (a ≡ n) ⊎ (a ∈ done .left) → (b ∈ (n ∷ done .left)) ⊎ (b ∈ path)
-        leads a b h (inl e) = moved b (d .taken b (in-backwards (next n) (subst (λ z. b ∈ next z) e h)))
-        leads a b h (inr i) = moved b (d .good .led a b i h)
+        leads a b h (inl e) = moved (d .taken b (in-backwards (next n) (subst (λ z. b ∈ next z) e h)))
+        leads a b h (inr i) = moved (d .good .led a b i h)
 
         knows : (a : A) → (a ≡ n) ⊎ (a ∈ done .left) → Known a (done .reports)
         knows a (inl e) = subst⁻¹ (λ z. Known z (done .reports)) e (path, f, λ v i j. d .told v (in-backwards (next n) i) j)
@@ -448,11 +399,11 @@ module _ {A : Type 0} (same : A → A → Bool) (next : A → List A)
         go : (b : Bool) → among same n path ≡ b → (c : Bool) → among same n (st .left) ≡ c
             → (¬ (n ∈ path) → FirstWay next roots n path → Does (n ∷ path) (backwards (next n)) st (in-turn (step same next fuel (n ∷ path)) (backwards (next n)) st))
             → Does path (n ∷ []) st (step same next (suc fuel) path n st)
-        go true e c d ih = rw (e, step) (does-report path n st g w o f (among-yes same next same-yes same-refl n path e))
-        go false e true d ih = rw (e, d, step) (does-again path n st g (among-yes same next same-yes same-refl n (st .left) d) (among-no same next same-yes same-refl n path e))
+        go true e c d ih = rw (e, step) (does-report path n st g w o f (among-yes same same-yes same-refl n path e))
+        go false e true d ih = rw (e, d, step) (does-again path n st g (among-yes same same-yes same-refl n (st .left) d) (among-no same same-yes same-refl n path e))
         go false e false d ih =
-            let new = among-no same next same-yes same-refl n path e in
-            let fresh = among-no same next same-yes same-refl n (st .left) d in
+            let new = among-no same same-yes same-refl n path e in
+            let fresh = among-no same same-yes same-refl n (st .left) d in
             let first : FirstWay next roots n path = record { way = w; once = (new, o); soonest = λ k x u s. fresh (ahead n k x u s) } in
             rw (e, d, step) (does-entered path n st _ first new (ih new first))
 
@@ -492,21 +443,62 @@ module _ {A : Type 0} (same : A → A → Bool) (next : A → List A)
             either (inl t) = absurd (g .soonest l (f .way) (f .once) (record { common = c; one = m; other = n; one-on = x; other-on = y; first = e; second = e′; taken = t }))
             either (inr t) = absurd (f .soonest k (g .way) (g .once) (record { common = c; one = n; other = m; one-on = y; other-on = x; first = e′; second = e; taken = t }))
 
-    closes-ends : {w : List A} {v u : A} {l : List A} → Closes next roots w v u l → Ends w u v
-    unfolding backwards
-    closes-ends {w} {v} {u} {l} c = go (c .front) (c .parted) (c .walk)
+    -- behind each node of a first way stands that node's first way
+    first-behind : (u p : A) (l : List A) → FirstWay next roots u (p ∷ l) → FirstWay next roots p l
+    first-behind u p l f = record { way = f .way .1; once = f .once .1; soonest = λ k w o s. go k w o s (among same u (p ∷ k)) refl }
       where
-        go : (front : List A) → u ∷ l ≡ front ++ v ∷ c .back → w ≡ v ∷ backwards front ++ (v ∷ []) → Ends w u v
-        go [] e f = record { front = []; parted = f ∙ ap (λ z. z ∷ v ∷ []) (sym (head-same e)) }
-        go (a ∷ front) e f =
-            record { front = v ∷ backwards front; parted = f ∙ ap (_∷_ v) (append-assoc (backwards front) (a ∷ []) (v ∷ []) ∙ ap (λ z. backwards front ++ z ∷ v ∷ []) (sym (head-same e))) }
+        sooner : (k : List A) (s : Sooner next roots (p ∷ k) (p ∷ l)) (j z : List A) → u ∷ j ≡ z ++ s .one ∷ s .common → Sooner next roots (u ∷ j) (u ∷ p ∷ l)
+        sooner k s j z e = record { common = s .common; one = s .one; other = s .other; one-on = z; other-on = u ∷ s .other-on; first = e; second = ap (_∷_ u) (s .second); taken = s .taken }
 
-    -- a walk closes one way only
-    closes-one : {w : List A} {v u v′ u′ : A} {l l′ : List A} → Closes next roots w v u l → Closes next roots w v′ u′ l′ → v ∷ u ∷ l ≡ v′ ∷ u′ ∷ l′
-    closes-one {v = v} {u} {v′} {u′} {l} {l′} c d =
-        let (p, q) = ends-same (closes-ends c) (closes-ends d) in
+        -- a sooner way to p that passes u has a sooner way to u in it
+        passes : (k : List A) → Way next roots p k → Once (p ∷ k) → (s : Sooner next roots (p ∷ k) (p ∷ l)) → (x y : List A) → p ∷ k ≡ x ++ u ∷ y → ⊥
+        passes k w o s x y e = either (ends-within (s .one-on) x (s .one ∷ s .common) (u ∷ y) (sym (s .first) ∙ e))
+          where
+            done : (z : List A) → u ∷ y ≡ z ++ s .one ∷ s .common → ⊥
+            done z h = f .soonest y (way-at x p k w u y e) (once-back x (u ∷ y) (subst Once e o)) (sooner k s y z h)
+
+            within : (z : List A) → s .one ∷ s .common ≡ z ++ u ∷ y → ⊥
+            within [] h = done [] (sym h)
+            within (a ∷ z) h =
+                f .once .0
+                (subst⁻¹ (λ v. u ∈ v) (s .second)
+                (Memᴰ·append-right (s .other-on) (List·Memᴰ·tail (subst⁻¹ (λ v. u ∈ v) (tail-same h) (Memᴰ·append-right z (List·Memᴰ·head refl))))))
+
+            either : ((z : List A) × (u ∷ y ≡ z ++ s .one ∷ s .common)) ⊎ ((z : List A) × (s .one ∷ s .common ≡ z ++ u ∷ y)) → ⊥
+            either (inl (z, h)) = done z h
+            either (inr (z, h)) = within z h
+
+        go : (k : List A) → Way next roots p k → Once (p ∷ k) → Sooner next roots (p ∷ k) (p ∷ l) → (b : Bool) → among same u (p ∷ k) ≡ b → ⊥
+        go k w o s true h = let (x, y, e) = part-at (among-yes same same-yes same-refl u (p ∷ k) h) in passes k w o s x y e
+        go k w o s false h = f .soonest (p ∷ k) (f .way .0, w) (among-no same same-yes same-refl u (p ∷ k) h, o) (sooner k s (p ∷ k) (u ∷ s .one-on) (ap (_∷_ u) (s .first)))
+
+    first-at : (x : List A) (u : A) (l : List A) → FirstWay next roots u l → (m : A) (c : List A) → u ∷ l ≡ x ++ m ∷ c → FirstWay next roots m c
+    first-at [] u l f m c e = subst (λ z. FirstWay next roots z c) (head-same e) (subst (FirstWay next roots u) (tail-same e) f)
+    first-at (a ∷ x) u [] f m c e = absurd (not-cons x m c (tail-same e))
+    first-at (a ∷ x) u (p ∷ l) f m c e = first-at x p l (first-behind u p l f) m c (tail-same e)
+
+    closes-final : {w : List A} {v u : A} {l : List A} → Closes next roots w v u l → Final w (u, v)
+    unfolding backwards
+    closes-final {w} {v} {u} {l} c = go (c .front) (c .parted) (c .walk)
+      where
+        ends : (front : List A) → w ≡ front ++ u ∷ v ∷ [] → Final w (u, v)
+        ends front e = subst⁻¹ (λ z. Final z (u, v)) e (final-at front u v)
+
+        go : (front : List A) → u ∷ l ≡ front ++ v ∷ c .back → w ≡ v ∷ backwards front ++ (v ∷ []) → Final w (u, v)
+        go [] e f = ends [] (f ∙ ap (λ z. z ∷ v ∷ []) (sym (head-same e)))
+        go (a ∷ front) e f = ends (v ∷ backwards front) (f ∙ ap (_∷_ v) (append-assoc (backwards front) (a ∷ []) (v ∷ []) ∙ ap (λ z. backwards front ++ z ∷ v ∷ []) (sym (head-same e))))
+
+    -- walks with one final step close one way only
+    closes-alike : {w x : List A} {v u v′ u′ : A} {l l′ : List A} {s : A × A} → Closes next roots w v u l → Closes next roots x v′ u′ l′ → Final w s → Final x s → v ∷ u ∷ l ≡ v′ ∷ u′ ∷ l′
+    closes-alike {w} {x} {v} {u} {v′} {u′} {l} {l′} c d f g =
+        let e : _≡_ {A = A × A} (u, v) (u′, v′) = one-step w (closes-final c) f ∙ one-step x g (closes-final d) in
+        let p = ap (λ z. z .0) e in
+        let q = ap (λ z. z .1) e in
         let r = first-one u l l′ (c .entered) (subst⁻¹ (λ z. FirstWay next roots z l′) p (d .entered)) in
         λ i. q i ∷ p i ∷ r i
+
+    closes-one : {w : List A} {v u v′ u′ : A} {l l′ : List A} → Closes next roots w v u l → Closes next roots w v′ u′ l′ → v ∷ u ∷ l ≡ v′ ∷ u′ ∷ l′
+    closes-one c d = closes-alike c d (closes-final c) (closes-final c)
 
     sooner-one-way : (a b : List A) → Sooner next roots a b → Sooner next roots b a → ⊥
     sooner-one-way a b s t = go (ends-within (s .one-on) (t .other-on) (s .one ∷ s .common) (t .other ∷ t .common) (sym (s .first) ∙ t .second))
@@ -573,6 +565,59 @@ module _ {A : Type 0} (same : A → A → Bool) (next : A → List A)
     closes-walk {w} {v} {u} {l} c =
         c .walk ∙ sym (back-at v (c .front) (c .back) (v ∷ []) (once-front (c .front) v (c .back) (subst Once (c .parted) (c .entered .once))))
         ∙ ap (λ z. back-to same v z (v ∷ [])) (sym (c .parted))
+
+    -- and so are one walk
+    pub one-final : (w x : List A) (s : A × A) → Reported next roots w → Reported next roots x → Final w s → Final x s → w ≡ x
+    one-final w x s (v, u, l, c) (v′, u′, l′, d) f g =
+        let e = closes-alike c d f g in
+        let p : v ≡ v′ = head-same e in
+        let r : u ∷ l ≡ u′ ∷ l′ = tail-same e in
+        closes-walk c ∙ (λ i. back-to same (p i) (r i) (p i ∷ [])) ∙ sym (closes-walk d)
+
+    -- one node stands directly above another on a way
+    abbrev Above : List A → A → A → Type 0
+    Above way b a = (x : List A) × (y : List A) × (way ≡ x ++ b ∷ a ∷ y)
+
+    -- the steps of a walk back are those of the path
+    back-steps : (n : A) (path : List A) (t : A) (walk : List A) (a b : A) → Goes (back-to same n path (t ∷ walk)) a b → Goes (t ∷ walk) a b ⊎ Above (t ∷ path) b a
+    unfolding back-to
+    back-steps n [] t walk a b g = inl g
+    back-steps n (p ∷ path) t walk a b g = go (same n p) g (back-steps n path p (t ∷ walk) a b)
+      where
+        first : Goes (p ∷ t ∷ walk) a b → Goes (t ∷ walk) a b ⊎ Above (t ∷ p ∷ path) b a
+        first (inl (d, e)) = inr ([], path, λ i. sym e i ∷ sym d i ∷ path)
+        first (inr h) = inl h
+
+        later : Goes (p ∷ t ∷ walk) a b ⊎ Above (p ∷ path) b a → Goes (t ∷ walk) a b ⊎ Above (t ∷ p ∷ path) b a
+        later (inl h) = first h
+        later (inr (x, y, e)) = inr (t ∷ x, y, ap (_∷_ t) e)
+
+        go : (v : Bool) → Goes (elim v as (λ z. List A) [ true ↦ p ∷ t ∷ walk | false ↦ back-to same n path (p ∷ t ∷ walk) ]) a b
+            → (Goes (back-to same n path (p ∷ t ∷ walk)) a b → Goes (p ∷ t ∷ walk) a b ⊎ Above (p ∷ path) b a) → Goes (t ∷ walk) a b ⊎ Above (t ∷ p ∷ path) b a
+        go true h on = first h
+        go false h on = later (on h)
+
+    -- a walk goes over no final step but its own
+    pub own-final : (w x : List A) (a b : A) → Reported next roots w → Reported next roots x → Goes w a b → Final x (a, b) → Final w (a, b)
+    own-final w x a b (v, u, l, c) (v′, u′, l′, d) g h = go (back-steps v (u ∷ l) v [] a b (subst (λ z. Goes z a b) (closes-walk c) g))
+      where
+        -- a step on the way goes to a node that was not open
+        not-open : (z y : List A) → u ∷ l ≡ z ++ b ∷ a ∷ y → ⊥
+        not-open z y e =
+            let f = first-at z u l (c .entered) b (a ∷ y) e in
+            let s : _≡_ {A = A × A} (u′, v′) (a, b) = one-step x (closes-final d) h in
+            let p : u′ ≡ a = ap (λ q. q .0) s in
+            let r = first-one a y l′ (first-behind b a y f) (subst (λ q. FirstWay next roots q l′) p (d .entered)) in
+            let i : v′ ∈ (u′ ∷ l′) = subst⁻¹ (λ q. v′ ∈ q) (d .parted) (Memᴰ·append-right (d .front) (List·Memᴰ·head refl)) in
+            f .once .0 (subst⁻¹ (λ q. b ∈ (a ∷ q)) r (subst (λ q. b ∈ (q ∷ l′)) p (Memᴰ·cast (ap (λ q. q .1) (sym s)) i)))
+
+        top : (z y : List A) → v ∷ u ∷ l ≡ z ++ b ∷ a ∷ y → Final w (a, b)
+        top [] y e = closes-final c ∙ (λ i. some (head-same (tail-same e) i, head-same e i))
+        top (q ∷ z) y e = absurd (not-open z y (tail-same e))
+
+        go : Goes (v ∷ []) a b ⊎ Above (v ∷ u ∷ l) b a → Final w (a, b)
+        go (inl h) = absurd h
+        go (inr (z, y, e)) = top z y e
 
     does-by-ways : (st : Searched A) → Does [] roots (record { left = []; reports = [] }) st → ByWays next roots (st .reports)
     does-by-ways st d = record {

@@ -11,7 +11,8 @@ use Rattle.spec.specs.DepthFirst.{Searched, backwards, among, back-to, i
 use Rattle.spec.specs.DepthFirstFinds.{Goes, InOrder, StandsBefore}
 use Rattle.spec.specs.Edge.{Node, Head, same-node, all-nodes}
 use Rattle.spec.specs.FindCycles.{ascends, next-nodes, roots, find-cycles}
-use Rattle.spec.proofs.DepthFirst.{of-backwards, among-no}
+use Rattle.spec.proofs.DepthFirst.{of-backwards}
+use Rattle.spec.proofs.Lists.{among-no}
 use Rattle.spec.proofs.Firsts.{order-append, order-weaken}
 use Rattle.spec.proofs.Nodes.{same-node-yes, same-node-refl, Rising, next-rising}
 
@@ -182,8 +183,8 @@ module _ {A : Type 0} (same : A → A → Bool) (next : A → List A)
       go true e c f ih = rw (e, step) (adds-report path n st)
       go false e true f ih = rw (e, f, step) (adds-nothing path (n ∷ []) st)
       go false e false f ih =
-          let off = among-no same next same-yes same-refl n path e in
-          rw (e, f, step) (adds-entered path n st _ (among-no same next same-yes same-refl n (st .left) f) off (ih off))
+          let off = among-no same same-yes same-refl n path e in
+          rw (e, f, step) (adds-entered path n st _ (among-no same same-yes same-refl n (st .left) f) off (ih off))
 
   -- the reports of a search
   pub reports-descend : (fuel : ℕ) (roots : List A) → InOrder Descends (search same next fuel roots .reports)

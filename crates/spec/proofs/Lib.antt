@@ -1,6 +1,7 @@
 pub mod Lists
 pub mod Rank
 pub mod Net
+pub mod Walks
 pub mod DepthFirst
 pub mod Sample
 pub mod Numbers
@@ -12,7 +13,10 @@ pub mod CheckEdge
 pub mod Collection
 pub mod Copies
 pub mod Counts
+pub mod Cuts
+pub mod CutOpened
 pub mod Examples
+pub mod FinalSteps
 pub mod Firsts
 pub mod Flags
 pub mod Acyclic

@@ -2,12 +2,14 @@
 -- Assumes nothing.
 use Prim.Native.Nat.{suc, _≤_}
 use mathlib.Core.Path.{_≡_, refl, sym, _∙_, ap, subst, subst⁻¹}
+use mathlib.Core.Bool.{Bool, true, false, true≢false, false≢true}
 use mathlib.Core.Logic.{_⊎_, inl, inr}
 use mathlib.Core.List.{List, [], _∷_, _++_, map, List·Memᴰ·head, List·Memᴰ·tail, List·Memᴰ·not-nil, List·Memᴰ·cases-cons, List·Memᴰ·append-cases, Memᴰ·append-left, Memᴰ·append-right, Memᴰ·cast, Memᴰ·of-map}
 use mathlib.Core.HLevel.{hedberg}
 use lib.ListN.{length}
 use native.Mathlib.Omega.{arith}
 use Rattle.spec.specs.Graph.{_∈_, Once}
+use Rattle.spec.specs.DepthFirst.{among}
 use Rattle.spec.specs.Opened.{concat-map}
 
 module _ {A : Type 0} where
@@ -99,3 +101,27 @@ module _ {A B : Type 0} (f : A → List B) where
       pick : (b ∈ concat-map f l → (c : A) × (c ∈ l) × (b ∈ f c)) → (b ∈ f a) ⊎ (b ∈ concat-map f l) → (c : A) × (c ∈ (a ∷ l)) × (b ∈ f c)
       pick on (inl u) = (a, List·Memᴰ·head refl, u)
       pick on (inr u) = let r = on u in (r .0, List·Memᴰ·tail (r .1), r .2)
+
+module _ {A : Type 0} (same : A → A → Bool) (same-yes : (a b : A) → same a b ≡ true → a ≡ b) (same-refl : (a : A) → same a a ≡ true) where
+  -- Boolean membership
+  pub among-yes : (a : A) (l : List A) → among same a l ≡ true → a ∈ l
+  unfolding among
+  among-yes a [] h = absurd (false≢true h)
+  among-yes a (b ∷ l) h = go (among-yes a l) (same a b) refl h
+    where
+      go : (among same a l ≡ true → a ∈ l) → (v : Bool) → same a b ≡ v → elim v as (λ z. Bool) [ true ↦ true | false ↦ among same a l ] ≡ true → a ∈ (b ∷ l)
+      go on true e h = List·Memᴰ·head (same-yes a b e)
+      go on false e h = List·Memᴰ·tail (on h)
+
+  pub differs : {a b : A} → same a b ≡ false → ¬ (a ≡ b)
+  differs {a} h e = true≢false (sym (same-refl a) ∙ ap (same a) e ∙ h)
+
+  pub among-no : (a : A) (l : List A) → among same a l ≡ false → ¬ (a ∈ l)
+  unfolding among
+  among-no a [] h m = List·Memᴰ·not-nil m
+  among-no a (b ∷ l) h m = go (among-no a l) (same a b) refl h (List·Memᴰ·cases-cons m)
+    where
+      go : (among same a l ≡ false → ¬ (a ∈ l)) → (v : Bool) → same a b ≡ v → elim v as (λ z. Bool) [ true ↦ true | false ↦ among same a l ] ≡ false → (a ≡ b) ⊎ (a ∈ l) → ⊥
+      go on true e h i = true≢false h
+      go on false e h (inl d) = differs e d
+      go on false e h (inr i) = on h i

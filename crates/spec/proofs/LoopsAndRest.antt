@@ -114,7 +114,7 @@ module _ (a : Answer) (old : Bytes) (d : Design) (m : ℕ) (g : GivesReports a o
       let n = none-from a old d m g in
       (λ h. none-closes d m flat inputs outputs (n .0 h), λ h. n .1 (λ t start w r i. h (report-closes d m t start w r i)))
 
-  without-loops : NoLoopLineOf (Leads (hierarchy d) m) (report-text a) → OpenedRests d m
+  without-loops : NoLoopLineOf (Leads (hierarchy d) m) (report-text a) → OpenedRests (hierarchy d) m
   without-loops h = from d m .rests (loops-exactly .0 h)
 
 pub registers-only-fixed : RegistersOnlyFixed

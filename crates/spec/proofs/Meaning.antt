@@ -23,7 +23,7 @@ use Rattle.spec.specs.FindCycles.{start-of, find-cycles, next-nodes, roo
 use Rattle.spec.specs.FirstWays.{Reported}
 use Rattle.spec.specs.Report.{Detail, misused, many, never, gap, no-block, blocks, mem-blocks, Report, report, loop-report}
 use Rattle.spec.specs.Check.{misuse-reports, conflict-reports, coverage-report, output-reports, reg-report, mem-report, storage-reports, loop-reports, check-module-drivers, check-modules, check-design}
-use Rattle.spec.specs.Graph.{_∈_, Chain, ClosedWalk}
+use Rattle.spec.specs.Graph.{_∈_, ClosedWalk}
 use Rattle.spec.specs.Situations.{own-lines, own-names, First, misuses-of, IsMisused, sites-named, Has, Meet, Conflicts, Poisoned, IsOutput, IsRange, AllRanges, SetBy, Several, Holds}
 use Rattle.spec.specs.Meaning.{heads-at, BeginsAt, NamedBefore, number-of, stage, StageOrder, Precedes, by-module, by-stage, in-stage, ExactlyOne, Means, all-rounds, Meaning}
 use Rattle.spec.specs.DepthFirstFinds.{InOrder}
@@ -31,6 +31,7 @@ use Rattle.spec.proofs.Flags.{which}
 use Rattle.spec.proofs.Numbers.{if-case}
 use Rattle.spec.proofs.Firsts.{part-at, order-append, order-weaken, order-once, gather, of-gather, in-gather, gather-order, firsts, firsts-say, first-of, firsts-order}
 use Rattle.spec.proofs.Meetings.{meeting-up, no-meetings, conflicts-order, SomeHas, gap-says, no-gap, never-says, gap-covers, none-says, several-says}
+use Rattle.spec.proofs.Walks.{closed-along}
 use Rattle.spec.proofs.Nodes.{next-read, read-next}
 use Rattle.spec.proofs.CyclesFound.{cycles-found, loops-one-way}
 use Rattle.spec.proofs.Refusals.{accepted-is}
@@ -447,16 +448,25 @@ module _ (hs : List Head) (m : ℕ) (k : Module) where
       same : (r r′ : Report) → r ∈ p → r′ ∈ p → StageOrder hs k r r′ → ModuleOrder r r′
       same r r′ i i′ s = let x = q .up r i .1 in let y = q .up r′ i′ .1 in inr (x ∙ sym y, s)
 
-  module-list : List Report
-  module-list =
+  -- all but loops
+  pub others-list : List Report
+  others-list =
       misuse-reports m (misused-in k) ++ conflict-reports m (conflicts-in k) ++ output-reports m (own-names k) (poisoned-in k) (sites-in k) (outputs (own-lines k))
       ++ storage-reports (reg-report m) (poisoned-in k) (pairs (k .header) (own-lines k)) (regs (own-lines k))
-      ++ storage-reports (mem-report m) (poisoned-in k) (pairs (k .header) (own-lines k)) (mems (own-lines k)) ++ loop-reports m hs (find-cycles hs)
+      ++ storage-reports (mem-report m) (poisoned-in k) (pairs (k .header) (own-lines k)) (mems (own-lines k))
+
+  others-below : Below 5 others-list
+  unfolding others-list
+  others-below = below-more 4 _ _ (below-more 3 _ _ (below-more 2 _ _ (below-more 1 _ _ (below-more 0 [] _ below-none misuse-part) conflict-part) output-part) reg-part) mem-part
+
+  pub others-stage : (r : Report) → r ∈ others-list → stage r < 5
+  others-stage r i = others-below .up r i .1
+
+  abbrev module-list : List Report
+  module-list = others-list ++ loop-reports m hs (find-cycles hs)
 
   module-below : Below 6 module-list
-  unfolding module-list
-  module-below =
-      below-more 5 _ _ (below-more 4 _ _ (below-more 3 _ _ (below-more 2 _ _ (below-more 1 _ _ (below-more 0 [] _ below-none misuse-part) conflict-part) output-part) reg-part) mem-part) loop-part
+  module-below = below-more 5 _ _ others-below loop-part
 
   stage-below : (r : Report) → stage r < 6
   stage-below (report m′ start n (misused u)) = omega arith
@@ -470,11 +480,11 @@ module _ (hs : List Head) (m : ℕ) (k : Module) where
 
 -- ---- all modules
 
-abbrev heads-in : Design → Kept → Module → List Head
+abbrev pub heads-in : Design → Kept → Module → List Head
 heads-in d kept k = module-heads d kept k (own-lines k) .heads
 
-module-is : (d : Design) (kept : Kept) (m : ℕ) (k : Module) → check-module-drivers d kept m k .reports ≡ module-list (heads-in d kept k) m k
-unfolding check-module-drivers module-list
+pub module-is : (d : Design) (kept : Kept) (m : ℕ) (k : Module) → check-module-drivers d kept m k .reports ≡ others-list (heads-in d kept k) m k ++ loop-reports m (heads-in d kept k) (find-cycles (heads-in d kept k))
+unfolding check-module-drivers others-list
 module-is d kept m k = refl
 
 -- of these modules, the first of which has the number m, one says it
@@ -564,15 +574,6 @@ module _ (d : Design) where
       own = order-weaken a (λ r r′ i i′ h. later r r′ (number r i) (number r′ i′) h) (subst⁻¹ (InOrder (ModuleOrder hs m k)) (module-is d kept m k) (module-below hs m k .order))
 
 -- ---- walks
-
-chain-along : {A : Type 0} (f g : A → List A) → ((n m : A) → m ∈ f n → m ∈ g n) → (n : A) (l : List A) → Chain f n l → Chain g n l
-chain-along f g h n [] c = tt
-chain-along f g h n (m ∷ l) c = (h n m (c .0), chain-along f g h m l (c .1))
-
-closed-along : {A : Type 0} (f g : A → List A) → ((n m : A) → m ∈ f n → m ∈ g n) → (w : List A) → ClosedWalk f w → ClosedWalk g w
-closed-along f g h [] c = c
-closed-along f g h (n ∷ []) c = c
-closed-along f g h (n ∷ m ∷ l) c = (chain-along f g h n (m ∷ l) (c .0), c .1)
 
 found-closed : (hs : List Head) (w : List Node) → w ∈ find-cycles hs → ClosedWalk (all-reads hs) w
 found-closed hs w i = closed-along (next-nodes hs) (all-reads hs) (λ n m j. next-read hs n j) w (cycles-found hs .walks w i .0)

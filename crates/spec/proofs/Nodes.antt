@@ -16,7 +16,7 @@ use Rattle.spec.specs.Graph.{_∈_, Once}
 use Rattle.spec.specs.Edge.{Node, signal, inst-out, same-index, same-node, Head, all-nodes, head-nodes, all-reads, reads-of}
 use Rattle.spec.specs.FindCycles.{start-of, index-before, node-before, ascends, insert-node, ascending, next-nodes, roots}
 use Rattle.spec.proofs.Numbers.{if-case}
-use Rattle.spec.proofs.DepthFirst.{among-yes, among-no}
+use Rattle.spec.proofs.Lists.{among-yes, among-no}
 
 -- tests joined
 pub and-parts : (a b : Bool) → a && b ≡ true → (a ≡ true) × (b ≡ true)
@@ -233,10 +233,10 @@ ascends-strict hs = record {
 
 -- `among` decides membership of nodes
 pub node-in : (n : Node) (l : List Node) → among same-node n l ≡ true → n ∈ l
-node-in = among-yes same-node (λ n. []) same-node-yes same-node-refl
+node-in = among-yes same-node same-node-yes same-node-refl
 
 pub node-out : (n : Node) (l : List Node) → among same-node n l ≡ false → ¬ (n ∈ l)
-node-out = among-no same-node (λ n. []) same-node-yes same-node-refl
+node-out = among-no same-node same-node-yes same-node-refl
 
 -- the members of a list, each once: no other members, and none twice
 module _ {A : Type 0} (same : A → A → Bool) (yes-same : (a b : A) → same a b ≡ true → a ≡ b) (self : (a : A) → same a a ≡ true) where
@@ -257,7 +257,7 @@ module _ {A : Type 0} (same : A → A → Bool) (yes-same : (a b : A) → same a
   unfolding each-once
   in-each-once {a} (b ∷ l) (List·Memᴰ·head e) =
       let f = in-each-once {a = a} l in
-      if-case (λ (k : List A). a ∈ k) (among same b l) _ _ (λ h. f (Memᴰ·cast e (among-yes same (λ _. []) yes-same self b l h))) (λ h. List·Memᴰ·head e)
+      if-case (λ (k : List A). a ∈ k) (among same b l) _ _ (λ h. f (Memᴰ·cast e (among-yes same yes-same self b l h))) (λ h. List·Memᴰ·head e)
   in-each-once {a} (b ∷ l) (List·Memᴰ·tail m) =
       let i = in-each-once l m in
       if-case (λ (k : List A). a ∈ k) (among same b l) _ _ (λ h. i) (λ h. List·Memᴰ·tail i)
@@ -267,7 +267,7 @@ module _ {A : Type 0} (same : A → A → Bool) (yes-same : (a b : A) → same a
   each-once-once [] = tt
   each-once-once (b ∷ l) =
       let i = each-once-once l in
-      if-case (λ (k : List A). Once k) (among same b l) _ _ (λ h. i) (λ h. (λ m. among-no same (λ _. []) yes-same self b l h (each-once-in l m), i))
+      if-case (λ (k : List A). Once k) (among same b l) _ _ (λ h. i) (λ h. (λ m. among-no same yes-same self b l h (each-once-in l m), i))
 
 -- ascending: each before all behind it
 abbrev pub Rising : List Head → List Node → Type 0

@@ -24,9 +24,8 @@ use Rattle.spec.specs.DesignHierarchy.{lines-of, header-of, connections-
 use Rattle.spec.specs.LoopsAndRest.{OpenedRests}
 use Rattle.spec.specs.Premises.{NotWired, Premise, acyclic, fixed-unheaded, no-input-port, outputs-are-ports, Meets, BreaksOnly, LoopUnseen, Endless, inside-itself, wired-input, no-port, wired-register, input-port, EachPremise, beside-itself, OthersDoNotMatter, quiet-instance, looped-instance, WithinPremises}
 use Rattle.spec.proofs.Cases.{outcome, answers}
-use Rattle.spec.proofs.Lists.{once-length, in-concat}
+use Rattle.spec.proofs.Lists.{once-length, in-concat, among-yes}
 use Rattle.spec.proofs.HeadLaws.{in-first}
-use Rattle.spec.proofs.DepthFirst.{among-yes}
 use Rattle.spec.proofs.Nodes.{and-parts}
 use Rattle.spec.proofs.Listed.{signal-yes, signal-refl}
 use Rattle.spec.proofs.Copies.{At, leads-here, under-reads}
@@ -121,7 +120,7 @@ abbrev Back : Design → ℕ → Signal → List Signal → Type 0
 Back d m s l = leads-back (signal-reads (hierarchy d) m) s s l ≡ true
 
 read-yes : (s : Signal) (l : List Signal) → among same-signal s l ≡ true → s ∈ l
-read-yes = among-yes same-signal (λ _. []) signal-yes signal-refl
+read-yes = among-yes same-signal signal-yes signal-refl
 
 module _ (next : Signal → List Signal) (first : Signal) where
   back-chain : (s : Signal) (l : List Signal) → leads-back next first s l ≡ true → Chain next s (l ++ first ∷ []) × (last s (l ++ first ∷ []) ≡ first)
@@ -553,7 +552,7 @@ quiet-text : report-text (check-drivers [] quiet-instance []) ≡ []
 unfolding check-drivers too-short answer-checked opening
 quiet-text = refl
 
-quiet-rests : (m : ℕ) → OpenedRests quiet m
+quiet-rests : (m : ℕ) → OpenedRests (hierarchy quiet) m
 unfolding lines
 quiet-rests = rest [] quiet-instance [] quiet-accepted quiet-premises .rests (λ s i b. List·Memᴰ·not-nil (subst (λ l. s ∈ lines l) quiet-text i))
 

@@ -7,11 +7,11 @@ use native.Mathlib.Omega.{arith}
 use mathlib.Core.Path.{_≡_, refl, sym, _∙_}
 use mathlib.Core.Bool.{Bool, true, false}
 use mathlib.Core.Logic.{_⊎_, inl, inr}
-use mathlib.Core.List.{List, [], _∷_, List·Memᴰ·head, List·Memᴰ·tail, List·Memᴰ·not-nil, List·Memᴰ·eq-of-singleton}
-use Rattle.spec.specs.Graph.{Graph, _∈_, Once, Closed}
+use mathlib.Core.List.{List, [], _∷_, map, List·Memᴰ·head, List·Memᴰ·tail, List·Memᴰ·not-nil, List·Memᴰ·eq-of-singleton}
+use Rattle.spec.specs.Graph.{Graph, _∈_, Once, ClosedWalk, Closed}
 use Rattle.spec.specs.Net.{Net, Round, State, Rests, rounds}
-use Rattle.spec.specs.DepthFirst.{backwards, in-turn, step, search}
-use Rattle.spec.specs.DepthFirstFinds.{Goes, InOrder, StandsBefore}
+use Rattle.spec.specs.DepthFirst.{backwards, in-turn, among, step, search}
+use Rattle.spec.specs.DepthFirstFinds.{Goes, InOrder, StandsBefore, final-step, final-steps, remove-if, cut}
 use Rattle.spec.proofs.Rank.{falling-no-loop}
 use Rattle.spec.proofs.Net.{comes-to-rest}
 use Rattle.spec.proofs.Firsts.{stands-one-way}
@@ -135,3 +135,29 @@ not-first-to-last h = go (h .0 (2 ∷ 3 ∷ 2 ∷ []) (List·Memᴰ·head refl) 
       where
         apart : _≡_ {A = ℕ} 1 2 → ⊥
         apart e = omega arith
+
+-- three loops that share steps (docs/CUTS.md): 1 reads 2 and 4, 2 reads 3, 3 reads 1, 2 and 4, 4 reads 2
+abbrev shared : ℕ → List ℕ
+shared zero = []
+shared (suc zero) = 2 ∷ 4 ∷ []
+shared (suc (suc zero)) = 3 ∷ []
+shared (suc (suc (suc zero))) = 1 ∷ 2 ∷ 4 ∷ []
+shared (suc (suc (suc (suc n)))) = 2 ∷ []
+
+three-found : search same-number shared 5 (1 ∷ 2 ∷ 3 ∷ 4 ∷ []) ≡ record { left = 1 ∷ 4 ∷ 2 ∷ 3 ∷ []; reports = (4 ∷ 2 ∷ 3 ∷ 4 ∷ []) ∷ (2 ∷ 3 ∷ 2 ∷ []) ∷ (1 ∷ 4 ∷ 2 ∷ 3 ∷ 1 ∷ []) ∷ [] }
+unfolding search in-turn step
+three-found = refl
+
+three-finals : final-steps {A = ℕ} ((4 ∷ 2 ∷ 3 ∷ 4 ∷ []) ∷ (2 ∷ 3 ∷ 2 ∷ []) ∷ (1 ∷ 4 ∷ 2 ∷ 3 ∷ 1 ∷ []) ∷ []) ≡ (3, 4) ∷ (3, 2) ∷ (3, 1) ∷ []
+unfolding final-steps final-step
+three-finals = refl
+
+-- without them 1 leads to 2 and 4, 2 to 3, 3 nowhere, 4 to 2
+three-cut : map (cut same-number ((3, 4) ∷ (3, 2) ∷ (3, 1) ∷ []) shared) (1 ∷ 2 ∷ 3 ∷ 4 ∷ []) ≡ (2 ∷ 4 ∷ []) ∷ (3 ∷ []) ∷ [] ∷ (2 ∷ []) ∷ []
+unfolding remove-if among
+three-cut = refl
+
+-- cut at 4 to 2, 3 to 2 and 1 to 4, two of which are not final, each report is broken and a loop is left that is not reported
+cut-elsewhere : ClosedWalk (cut same-number ((4, 2) ∷ (3, 2) ∷ (1, 4) ∷ []) shared) (1 ∷ 2 ∷ 3 ∷ 1 ∷ [])
+unfolding remove-if among
+cut-elsewhere = ((List·Memᴰ·head refl, (List·Memᴰ·head refl, (List·Memᴰ·head refl, tt))), refl)

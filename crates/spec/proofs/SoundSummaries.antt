@@ -15,7 +15,7 @@ use Rattle.spec.specs.Site.{kind-of}
 use Rattle.spec.specs.Edge.{Node, signal, inst-out, Head, Heads, Summary, inst-edges, line-heads, inst-of, index-of, place-value, all-reads}
 use Rattle.spec.specs.Summary.{onward, module-summary, Kept, kept-summary, Asked, ask-for, lines-heads, make-summary, comb-summary, module-heads}
 use Rattle.spec.specs.FindCycles.{find-cycles}
-use Rattle.spec.specs.Check.{check-module-drivers}
+use Rattle.spec.specs.Check.{check-module-drivers, check-modules}
 use Rattle.spec.specs.Graph.{_∈_}
 use Rattle.spec.specs.DesignHierarchy.{lines-of, header-of, line-instance-at, own-heads, lines-own-heads, out-names, hierarchy}
 use Rattle.spec.proofs.Numbers.{if-case}
@@ -139,9 +139,14 @@ module _ (d : Design) where
       (λ s f. (t m s (kept-in kept m s f), t))))
 
   -- through the check
-  pub check-sound : (kept : Kept) → SoundTable kept → (m : ℕ) (k : Module) → SoundTable (check-module-drivers d kept m k .kept)
+  check-sound : (kept : Kept) → SoundTable kept → (m : ℕ) (k : Module) → SoundTable (check-module-drivers d kept m k .kept)
   unfolding check-module-drivers module-heads
   check-sound kept t m k = lines-sound (comb-summary (suc (length d)) d []) (comb-sound (suc (length d)) []) (k .header) kept t (collection (own-vals k) k .lines) .1
+
+  pub checks-sound : (kept : Kept) → SoundTable kept → (m : ℕ) (ks : List Module) → SoundTable (check-modules d kept m ks .kept)
+  unfolding check-modules
+  checks-sound kept t m [] = t
+  checks-sound kept t m (k ∷ ks) = checks-sound (check-module-drivers d kept m k .kept) (check-sound kept t m k) (suc m) ks
 
   pub found-loop : (kept : Kept) → SoundTable kept → (m : ℕ) (k : Module) → getElem? d m ≡ some k → (w : List Node) → w ∈ find-cycles (module-heads d kept k (lines-of d m) .heads) → EdgeLoop (hierarchy d) m w
   unfolding module-heads

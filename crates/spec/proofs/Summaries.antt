@@ -164,7 +164,7 @@ in-inputs hs (signal n ∷ ns) i k m =
 in-inputs hs (inst-out j x o ∷ ns) i k m = in-first (λ f. absurd (signal-not-out i j o x f)) (λ n. in-inputs hs ns i k n) m
 
 -- the search from one output finds just what is reached
-pub reached-found : (hs : List Header) (heads : List Head) (o : ℕ) → FindsLoops (onward hs heads) (signal o ∷ []) (search same-node (onward hs heads) (suc (suc (length (all-nodes heads)))) (signal o ∷ []))
+pub reached-found : (hs : List Header) (heads : List Head) (o : ℕ) → FindsLoops same-node (onward hs heads) (signal o ∷ []) (search same-node (onward hs heads) (suc (suc (length (all-nodes heads)))) (signal o ∷ []))
 reached-found hs heads o =
     search-finds same-node (onward hs heads) same-node-yes same-node-refl (signal o ∷ []) (signal o ∷ all-nodes heads)
     (λ r i. in-first (λ e. List·Memᴰ·head e) (λ j. absurd (List·Memᴰ·not-nil j)) i)
@@ -386,12 +386,12 @@ module _ (d : Design) where
   headed-free kept p m k e = own-plain (comb-summary (suc (length d)) d []) kept m k e p (λ c i h f kept′ p′. asked-free kept′ p′ (i .«module»))
 
   -- through the check
-  pub check-plain : (kept : Kept) → PlainTable d kept → (m : ℕ) (k : Module) → PlainTable d (check-module-drivers d kept m k .kept)
+  check-plain : (kept : Kept) → PlainTable d kept → (m : ℕ) (k : Module) → PlainTable d (check-module-drivers d kept m k .kept)
   unfolding check-module-drivers module-heads
   check-plain kept p m k =
       lines-plain (comb-summary (suc (length d)) d []) (k .header) kept (collection (own-vals k) k .lines) p (λ c i h f kept′ p′. asked-free kept′ p′ (i .«module»)) .1
 
-  checks-plain : (kept : Kept) → PlainTable d kept → (m : ℕ) (ks : List Module) → PlainTable d (check-modules d kept m ks .kept)
+  pub checks-plain : (kept : Kept) → PlainTable d kept → (m : ℕ) (ks : List Module) → PlainTable d (check-modules d kept m ks .kept)
   unfolding check-modules
   checks-plain kept p m [] = p
   checks-plain kept p m (k ∷ ks) = checks-plain (check-module-drivers d kept m k .kept) (check-plain kept p m k) (suc m) ks

@@ -34,3 +34,4 @@ pub mod LoopsAndRest
 pub mod Situations
 pub mod Summaries
 pub mod Cleared
+pub mod Cuts

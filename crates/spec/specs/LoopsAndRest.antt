@@ -22,7 +22,7 @@ use Rattle.spec.specs.Report.{loop-report, show-report}
 use Rattle.spec.specs.Check.{Answer, Lent, check-design, check-drivers}
 use Rattle.spec.specs.Graph.{_∈_}
 use Rattle.spec.specs.Net.{ComesToRest}
-use Rattle.spec.specs.Hierarchy.{Leads, PremisesFrom}
+use Rattle.spec.specs.Hierarchy.{Hierarchy, Leads, PremisesFrom}
 use Rattle.spec.specs.Opened.{Signal, HasClosedWalk, OnClosedWalk, Listing, opened-graph, Signals}
 use Rattle.spec.specs.DesignHierarchy.{hierarchy, Premises}
 use Rattle.spec.specs.Printing.{Begins, loop-mark, loop-mark-of, report-text, NoLoopLine, NoLoopLineOf, GivesReports}
@@ -33,11 +33,11 @@ abbrev pub ShowsWalk : Design → ℕ → Bytes → Type 0
 ShowsWalk d m s =
     (start : ℕ) × (w : List Node) × (loop-report m start w ∈ check-design d .reports) × (s ≡ show-report (loop-report m start w)) × OnClosedWalk (hierarchy d) m w
 
--- 01, Rest: the design opened from module m comes to rest: with its own list of signals, and with every other that has all that its members
+-- 01, Rest: the design opened from m comes to rest: with its own list of signals, and with every other that has all that its members
 -- read, there is for all values and functions one state that rests, it is the only one, and it stands from every start after as many rounds
 -- as there are signals and after each later one, for every list of rounds.
-abbrev pub OpenedRests : Design → ℕ → Type 1
-OpenedRests d m = (signals : List Signal) (l : Listing (hierarchy d) m signals) → ComesToRest (opened-graph (hierarchy d) m signals l)
+abbrev pub OpenedRests : (H : Hierarchy) → H .Key → Type 1
+OpenedRests H m = (signals : List Signal) (l : Listing H m signals) → ComesToRest (opened-graph H m signals l)
 
 -- Demand 3 of the whole text: of an answer `a` over a buffer that held `old`, and the design `d` of its text. (Where a loop is reported of
 -- one module, `RestFrom` still says that a module that does not lead there comes to rest.)
@@ -51,7 +51,7 @@ pub record LoopsAndRest (a : Answer) (old : Bytes) (d : Design) : Type 1 where
   -- each opened design has finitely many signals: all its nodes, each once; its inputs and all registers are fixed
   pub signals : (m : ℕ) → Signals (hierarchy d) m
   -- where no line begins `(E0504` every opened design comes to rest
-  pub rests : NoLoopLine (report-text a) → (m : ℕ) → OpenedRests d m
+  pub rests : NoLoopLine (report-text a) → (m : ℕ) → OpenedRests (hierarchy d) m
 
 -- Demand 3 from module m on: the same of the modules that m leads to, m among them, and of the design opened from m.
 pub record LoopsAndRestFrom (a : Answer) (old : Bytes) (d : Design) (m : ℕ) : Type 1 where
@@ -64,7 +64,7 @@ pub record LoopsAndRestFrom (a : Answer) (old : Bytes) (d : Design) (m : ℕ) : 
   -- the opened design has finitely many signals: all its nodes, each once; its inputs and all registers are fixed
   pub signals : Signals (hierarchy d) m
   -- where there is no such line it comes to rest
-  pub rests : NoLoopLineOf (Leads (hierarchy d) m) (report-text a) → OpenedRests d m
+  pub rests : NoLoopLineOf (Leads (hierarchy d) m) (report-text a) → OpenedRests (hierarchy d) m
 
 -- Demand 3 from one module on, of every accepted text that meets the premises from there on, whatever it has beside them.
 abbrev pub RestFrom : Type 1

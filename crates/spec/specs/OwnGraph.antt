@@ -1,6 +1,7 @@
 -- The own graph of a key, and what the design opened from it has to do with the own graphs of the keys that it leads to: of every
 -- hierarchy, with no text in it. 01: The edge, Rest.
--- To a reader: a statement, `OpenedDesigns`, proved in proofs/Opened.antt. Demand 3 rests on it and does not cite it.
+-- To a reader: a statement, `OpenedDesigns`, proved in proofs/Opened.antt. Demand 3 rests on it and does not cite it. `Edge` and `Walks` are
+-- definitions to believe for specs/Cuts.antt.
 use mathlib.Core.Path.{_≡_}
 use mathlib.Core.Logic.{_↔_}
 use mathlib.Core.List.{List, [], _∷_}

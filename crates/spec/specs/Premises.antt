@@ -79,7 +79,7 @@ RegistersOnlyFixed =
     → (m : ℕ) → Acyclic (hierarchy (decode text)) m → From (hierarchy (decode text)) (Unheaded (hierarchy (decode text)) in-kind) m
     → From (hierarchy (decode text)) (OutputsArePorts (hierarchy (decode text))) m
     → (NoLoopLineOf (Leads (hierarchy (decode text)) m) (report-text (check-drivers working text buffer)) ↔ ¬ HasClosedWalk (hierarchy (decode text)) m)
-    × (NoLoopLineOf (Leads (hierarchy (decode text)) m) (report-text (check-drivers working text buffer)) → OpenedRests (decode text) m)
+    × (NoLoopLineOf (Leads (hierarchy (decode text)) m) (report-text (check-drivers working text buffer)) → OpenedRests (hierarchy (decode text)) m)
 
 -- 01, Rest: no loop is reported of a module that m leads to, m among them.
 abbrev pub NoLoopReportFrom : Design → ℕ → Type 0
@@ -247,7 +247,7 @@ looped-instance =
 pub record WithinPremises : Type 1 where
   pub quiet : Premises (decode quiet-instance)
   pub quiet-answer : Answers quiet-instance (accepted 0 0 [])
-  pub quiet-rests : (m : ℕ) → OpenedRests (decode quiet-instance) m
+  pub quiet-rests : (m : ℕ) → OpenedRests (hierarchy (decode quiet-instance)) m
   pub looped : Premises (decode looped-instance)
   pub looped-answer : Answers looped-instance (accepted 1 0 (text-of ("(E0504 0 20 (walk (u 5 - 3) 2 (u 5 - 3)))" ∷ [])))
   pub looped-walk : HasClosedWalk (hierarchy (decode looped-instance)) 0

@@ -19,10 +19,8 @@ use Rattle.spec.specs.Site.{kind-of, Output, first-lines}
 use Rattle.spec.specs.Edge.{Node, signal, inst-out, same-node, Reads, and-reads, expr-reads, Head, Heads, no-heads, Summary, reaches, has-output, conn-reads, index-of, place-value, output-heads, inst-edges, all-nodes}
 use Rattle.spec.specs.Summary.{is-input, onward, inputs-among, inputs-reached, paired, top-outputs, outputs-reach, module-summary}
 use Rattle.spec.proofs.Lists.{once-length}
-use Rattle.spec.proofs.DepthFirst.{left-once}
-use Rattle.spec.proofs.Nodes.{same-node-yes, same-node-refl, read-all}
 use Rattle.spec.proofs.HeadLaws.{in-first}
-use Rattle.spec.proofs.Summaries.{name-in, onward-reads}
+use Rattle.spec.proofs.Summaries.{reached-found, name-in}
 use Rattle.walk.specs.Alike.{out-list, Alike}
 
 -- ---- the inputs that each output reaches, in whatever order they are found
@@ -224,10 +222,7 @@ reached-once : (hs : List Header) (heads : List Head) (o : ℕ) → Once (inputs
 unfolding inputs-reached
 reached-once hs heads o =
     inputs-once hs (search same-node (onward hs heads) (suc (suc (length (all-nodes heads)))) (signal o ∷ []) .left)
-    (left-once same-node (onward hs heads) same-node-yes same-node-refl (signal o ∷ []) (signal o ∷ all-nodes heads)
-    (λ r i. in-first (λ e. List·Memᴰ·head e) (λ j. absurd (List·Memᴰ·not-nil j)) i)
-    (λ n x i m. List·Memᴰ·tail (read-all heads n (onward-reads hs heads n x m)))
-    (suc (suc (length (all-nodes heads)))) (omega arith))
+    (reached-found hs heads o .once)
 
 reach-is : (hs : List Header) (heads : List Head) (os : List Output) → reach-by (inputs-reached hs heads) os ≡ outputs-reach hs heads os
 unfolding reach-by outputs-reach

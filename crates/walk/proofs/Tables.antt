@@ -15,8 +15,7 @@ use Rattle.spec.specs.Graph.{_∈_, Once}
 use Rattle.spec.specs.Site.{Misused, once-a-name, Output, first-lines}
 use Rattle.spec.specs.Block.{Pair, has-pair, different-pairs, block-count, Storage, first-storage}
 use Rattle.spec.proofs.Numbers.{if-case}
-use Rattle.spec.proofs.Lists.{once-length, once-append}
-use Rattle.spec.proofs.DepthFirst.{among-yes, among-no}
+use Rattle.spec.proofs.Lists.{once-length, once-append, among-yes, among-no}
 use Rattle.spec.proofs.Nodes.{and-parts, each-once-in, in-each-once, each-once-once}
 use Rattle.walk.specs.Walk.{add-new, add-all, same-output, same-storage, same-misused, same-pair}
 
@@ -110,7 +109,7 @@ module _ {A : Type 0} (same : A → A → Bool) (yes-same : (a b : A) → same a
   unfolding add-new
   new-once a l o =
       if-case (λ (k : List A). Once k) (among same a l) l (l ++ (a ∷ [])) (λ e. o)
-      (λ e. once-append {l = l} {k = a ∷ []} o (List·Memᴰ·not-nil, tt) (λ b i j. among-no same (λ _. []) yes-same self a l e (one b i (List·Memᴰ·cases-cons j))))
+      (λ e. once-append {l = l} {k = a ∷ []} o (List·Memᴰ·not-nil, tt) (λ b i j. among-no same yes-same self a l e (one b i (List·Memᴰ·cases-cons j))))
     where
       one : (b : A) → b ∈ l → (b ≡ a) ⊎ (b ∈ []) → a ∈ l
       one b i (inl d) = Memᴰ·cast (sym d) i
@@ -129,7 +128,7 @@ module _ {A : Type 0} (same : A → A → Bool) (yes-same : (a b : A) → same a
   new-new : (a : A) (l : List A) → a ∈ add-new same a l
   unfolding add-new
   new-new a l =
-      if-case (λ (k : List A). a ∈ k) (among same a l) l (l ++ (a ∷ [])) (λ e. among-yes same (λ _. []) yes-same self a l e) (λ e. Memᴰ·append-right l (List·Memᴰ·head refl))
+      if-case (λ (k : List A). a ∈ k) (among same a l) l (l ++ (a ∷ [])) (λ e. among-yes same yes-same self a l e) (λ e. Memᴰ·append-right l (List·Memᴰ·head refl))
 
   new-from : {b : A} (a : A) (l : List A) → b ∈ add-new same a l → (b ≡ a) ⊎ (b ∈ l)
   unfolding add-new
