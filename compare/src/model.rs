@@ -11,6 +11,8 @@ mod tree;
 mod value;
 mod walk;
 
+use std::collections::BTreeSet;
+
 /// What one call gives back (01, "Refused because of the state"). On a refusal all but `number`
 /// and `line` are zero or empty; on acceptance `line` is 0.
 #[derive(Clone, Debug, PartialEq, Eq)]
@@ -99,6 +101,16 @@ pub fn ties(text: &[u8]) -> Vec<bool> {
         return Vec::new();
     };
     checked.graphs.iter().map(walk::tied).collect()
+}
+
+/// For each module of an accepted text the edges that its search for loops walks; none where the
+/// text is refused.
+pub fn edges(text: &[u8]) -> Option<Vec<BTreeSet<(opened::Node, opened::Node)>>> {
+    if answer(text, PROGRAM_BUFFER).number != 0 {
+        return None;
+    }
+    let checked = collect::check_drivers(&read::read(text).ok()?).ok()?;
+    Some(checked.graphs.iter().map(|g| g.edges().collect()).collect())
 }
 
 /// The design of an accepted text, ready to be opened; none where the text is refused.

@@ -77,6 +77,11 @@ impl Graph {
         self.edges.get(&node).into_iter().flatten().copied()
     }
 
+    pub fn edges(&self) -> impl Iterator<Item = (Node, Node)> + '_ {
+        let steps = |(&head, reads)| BTreeSet::iter(reads).map(move |&read| (head, read));
+        self.edges.iter().flat_map(steps)
+    }
+
     /// The names for which `stop` holds that `from` reaches, stopping there.
     pub fn reached(&self, from: Node, stop: impl Fn(Name) -> bool) -> BTreeSet<Name> {
         let mut found = BTreeSet::new();

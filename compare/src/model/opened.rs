@@ -155,6 +155,25 @@ impl Opened {
         })
     }
 
+    /// Takes a step away from module `k`, and so from each copy of it: the wire and drive lines that
+    /// head `u` no longer read `v`; where `u` is an instance output, the connections to inputs of
+    /// the instances with its name and index no longer read `v`.
+    pub fn cut(&mut self, k: usize, u: Node, v: Node) {
+        let lines = &mut self.lines[k];
+        if let Some(reads) = lines.heads.get_mut(&u) {
+            reads.retain(|&read| read != v);
+        }
+        let Node::InstOut { inst, index, .. } = u else {
+            return;
+        };
+        let all = lines.instances.iter_mut();
+        for i in all.filter(|i| (i.name, i.index) == (inst, index)) {
+            for (_, reads) in &mut i.conns {
+                reads.retain(|&read| read != v);
+            }
+        }
+    }
+
     /// The module of a copy.
     fn module_of(&self, m: usize, copy: &[usize]) -> usize {
         copy.iter()
