@@ -19,7 +19,7 @@ use Rattle.spec.specs.Edge.{Node, same-node, Head, all-nodes, head-nodes
 use Rattle.spec.specs.Report.{show-reports}
 use Rattle.spec.specs.Check.{check-design, refuse, Lent, too-short, check-drivers}
 use Rattle.spec.specs.Graph.{_∈_, Once}
-use Rattle.spec.specs.Reading.{Fault, not-one-form, badly-written, out-of-range, out-of-place, one-too-many, bitwise, feeds, Refused, bad-byte, no-feed, bad-line}
+use Rattle.spec.specs.Reading.{Fault, not-one-form, badly-written, out-of-range, out-of-place, one-too-many, feeds, Refused, bad-byte, no-feed, bad-line}
 use Rattle.spec.specs.Counts.{Counted, IsNode, IsEdge, Counts, Numbered, too-long, in-line, limit-passed, no-room, RefusalsKeep}
 use Rattle.spec.proofs.Numbers.{if-case}
 use Rattle.spec.proofs.Lists.{once-append, once-map}
@@ -136,7 +136,6 @@ fault-above b s k (badly-written e) = omega arith
 fault-above b s k (out-of-range w e) = omega arith
 fault-above b s k (out-of-place w e) = omega arith
 fault-above b s k (one-too-many w e) = omega arith
-fault-above b s k (bitwise w e) = omega arith
 
 some-line : (text : Bytes) → ends-in-feed text ≡ false → 1 ≤ length (lines text)
 unfolding ends-in-feed lines onto

@@ -1,5 +1,5 @@
 -- Small texts computed by the definitions, each rule of 01 among them. What is printed is what the original Rust reports; of a
--- refusal, and on ties, it is what 01 demands. 01: all sections.
+-- refusal, on ties, and where `shr` is by 0, it is what 01 and 02 demand. 01: all sections.
 -- Assumes nothing.
 use mathlib.Core.Path.{_≡_, refl}
 use mathlib.Core.List.{List, [], _∷_}
@@ -41,6 +41,7 @@ value-table =
     ∷ example "value-arithmetic" ("(module 0 bound)" ∷ "(constif (eq (add 2 3) 5) (then (reg 1 10)) (else))" ∷ "(constif (eq (sub 2 3) (neg 1)) (then (reg 2 20)) (else))" ∷ "(constif (eq (mul (neg 2) 3) (neg 6)) (then (reg 3 30)) (else))" ∷ "(constif (eq (neg (neg 4)) 4) (then (reg 4 40)) (else))" ∷ []) ("(E0503 0 10 1 none)" ∷ "(E0503 0 20 2 none)" ∷ "(E0503 0 30 3 none)" ∷ "(E0503 0 40 4 none)" ∷ [])
     ∷ example "value-comparisons" ("(module 0 bound)" ∷ "(constif (lt (neg 1) 0) (then (reg 1 10)) (else))" ∷ "(constif (lt 0 0) (then (reg 2 20)) (else))" ∷ "(constif (le 0 0) (then (reg 3 30)) (else))" ∷ "(constif (gt 1 (neg 5)) (then (reg 4 40)) (else))" ∷ "(constif (ge 1 2) (then (reg 5 50)) (else))" ∷ "(constif (ne 1 1) (then (reg 6 60)) (else))" ∷ "(constif (eq (gt 3 2) 1) (then (reg 7 70)) (else))" ∷ "(constif (ge 2 2) (then (reg 8 80)) (else))" ∷ "(constif (gt 2 2) (then (reg 9 90)) (else))" ∷ []) ("(E0503 0 10 1 none)" ∷ "(E0503 0 30 3 none)" ∷ "(E0503 0 40 4 none)" ∷ "(E0503 0 70 7 none)" ∷ "(E0503 0 80 8 none)" ∷ [])
     ∷ example "value-and-or-give-1-or-0" ("(module 0 bound)" ∷ "(constif (eq (and 5 (neg 2)) 1) (then (reg 1 10)) (else))" ∷ "(constif (eq (and 5 0) 0) (then (reg 2 20)) (else))" ∷ "(constif (eq (or 0 7) 1) (then (reg 3 30)) (else))" ∷ "(constif (eq (or 0 0) 0) (then (reg 4 40)) (else))" ∷ "(constif (eq (or 0 (neg 7)) 1) (then (reg 5 50)) (else))" ∷ []) ("(E0503 0 10 1 none)" ∷ "(E0503 0 20 2 none)" ∷ "(E0503 0 30 3 none)" ∷ "(E0503 0 40 4 none)" ∷ "(E0503 0 50 5 none)" ∷ [])
+    ∷ example "value-shifts-and-bits" ("(module 0 bound)" ∷ "(constif (eq (shl 3 4) 48) (then (reg 1 10)) (else))" ∷ "(constif (eq (shr 7 1) 3) (then (reg 2 20)) (else))" ∷ "(constif (eq (shr (neg 7) 1) (neg 4)) (then (reg 3 30)) (else))" ∷ "(constif (eq (band 12 (neg 10)) 4) (then (reg 4 40)) (else))" ∷ "(constif (eq (bor 12 (neg 10)) (neg 2)) (then (reg 5 50)) (else))" ∷ "(constif (eq (bxor 12 (neg 10)) (neg 6)) (then (reg 6 60)) (else))" ∷ []) ("(E0503 0 10 1 none)" ∷ "(E0503 0 20 2 none)" ∷ "(E0503 0 30 3 none)" ∷ "(E0503 0 40 4 none)" ∷ "(E0503 0 50 5 none)" ∷ "(E0503 0 60 6 none)" ∷ [])
     ∷ example "value-clog2" ("(module 0 bound)" ∷ "(constif (eq (clog2 1) 1) (then (reg 1 10)) (else))" ∷ "(constif (eq (clog2 2) 1) (then (reg 2 20)) (else))" ∷ "(constif (eq (clog2 3) 2) (then (reg 3 30)) (else))" ∷ "(constif (eq (clog2 4) 2) (then (reg 4 40)) (else))" ∷ "(constif (eq (clog2 5) 3) (then (reg 5 50)) (else))" ∷ "(constif (eq (clog2 1073741824) 30) (then (reg 6 60)) (else))" ∷ "(constif (eq (clog2 1073741825) 31) (then (reg 7 70)) (else))" ∷ "(constif (eq (clog2 2147483647) 31) (then (reg 8 80)) (else))" ∷ []) ("(E0503 0 10 1 none)" ∷ "(E0503 0 20 2 none)" ∷ "(E0503 0 30 3 none)" ∷ "(E0503 0 40 4 none)" ∷ "(E0503 0 50 5 none)" ∷ "(E0503 0 60 6 none)" ∷ "(E0503 0 70 7 none)" ∷ "(E0503 0 80 8 none)" ∷ [])
     ∷ example "value-clog2-below-1-has-none" ("(module 0 bound)" ∷ "(constif (clog2 0) (then) (else (reg 1 10)))" ∷ "(constif (clog2 (neg 4)) (then) (else (reg 2 20)))" ∷ []) ("(E0503 0 10 1 none)" ∷ "(E0503 0 20 2 none)" ∷ [])
     ∷ example "value-and-with-a-missing-operand-has-none" ("(module 0 bound)" ∷ "(constif (not (and 0 (n 9))) (then) (else (reg 1 10)))" ∷ []) ("(E0503 0 10 1 none)" ∷ [])
@@ -63,7 +64,7 @@ value-table =
 
 value-rows : All-print value-table
 unfolding computed-print
-value-rows = printed value-table (refl, (refl, (refl, (refl, (refl, (refl, (refl, (refl, (refl, (refl, (refl, (refl, (refl, (refl, (refl, (refl, (refl, (refl, (refl, (refl, (refl, (refl, tt))))))))))))))))))))))
+value-rows = printed value-table (refl, (refl, (refl, (refl, (refl, (refl, (refl, (refl, (refl, (refl, (refl, (refl, (refl, (refl, (refl, (refl, (refl, (refl, (refl, (refl, (refl, (refl, (refl, tt)))))))))))))))))))))))
 
 -- 01, The collected item.
 abbrev collected-table : List Example
@@ -367,36 +368,40 @@ place-table =
     ∷ example "both-4-and-5" ("(module 0 bound)" ∷ "(reg 256 05)" ∷ []) ("(refused 4 2)" ∷ [])
     ∷ example "both-5-and-6" ("(module 0 bound)" ∷ "(reg 1 5)" ∷ "(kind 256 in)" ∷ []) ("(refused 5 3)" ∷ [])
     ∷ example "both-6-and-7" ("(module 0 bound)" ∷ "(kind 1 in)" ∷ "(reg 1 5)" ∷ "(kind 1 in)" ∷ []) ("(refused 6 4)" ∷ [])
-    ∷ example "both-6-and-8" ("(const 1 (shl 1 2))" ∷ []) ("(refused 6 1)" ∷ [])
-    ∷ example "both-5-and-8" ("(module 0 bound)" ∷ "(const 256 (shl 1 2))" ∷ []) ("(refused 5 2)" ∷ [])
-    ∷ example "line-8-before-line-3" ("(module 0 bound)" ∷ "(const 1 (shl 1 2))" ∷ "(" ∷ []) ("(refused 8 2)" ∷ [])
     ∷ example "text-before-state" ("(module 0 bound)" ∷ "(const 1 (mul 65536 65536))" ∷ "(reg 1 05)" ∷ []) ("(refused 4 3)" ∷ [])
     ∷ []
 
 place-rows : All-print place-table
 unfolding computed-print
-place-rows = printed place-table (refl, (refl, (refl, (refl, (refl, (refl, (refl, (refl, (refl, (refl, (refl, (refl, (refl, (refl, (refl, (refl, (refl, (refl, tt))))))))))))))))))
+place-rows = printed place-table (refl, (refl, (refl, (refl, (refl, (refl, (refl, (refl, (refl, (refl, (refl, (refl, (refl, (refl, (refl, tt)))))))))))))))
 
--- 01, Refused because of the text: 8.
+-- 02, U1: shifts and bit operators in constant places. Of `shr-by-0` the original reports 2 at 20: docs/DIFFERENCES.md.
 abbrev constant-table : List Example
 constant-table =
-    example "8-shl" ("(module 0 bound)" ∷ "(const 1 (shl 1 2))" ∷ []) ("(refused 8 2)" ∷ [])
-    ∷ example "8-in-lv-low" ("(module 0 bound)" ∷ "(drive (lv 1 5 9 (shl 1 2)) 0)" ∷ []) ("(refused 8 2)" ∷ [])
-    ∷ example "8-in-bits-of-an-input" ("(module 0 bound)" ∷ "(port in 1 (bits (shl 1 12)) 5)" ∷ []) ("(refused 8 2)" ∷ [])
-    ∷ example "8-in-x" ("(module 0 bound)" ∷ "(inst 1 (shl 1 2) 0 5)" ∷ []) ("(refused 8 2)" ∷ [])
-    ∷ example "8-in-high-bound" ("(module 0 bound)" ∷ "(repeat 1 0 (shl 1 2))" ∷ []) ("(refused 8 2)" ∷ [])
-    ∷ example "8-in-condition" ("(module 0 bound)" ∷ "(constif (shl 1 2) (then) (else))" ∷ []) ("(refused 8 2)" ∷ [])
-    ∷ example "8-in-f-index" ("(module 0 bound)" ∷ "(wire 1 (f (ix (n 9) (shl 1 2)) 3) 5)" ∷ []) ("(refused 8 2)" ∷ [])
-    ∷ example "8-in-f-index-of-a-wire" ("(module 0 bound)" ∷ "(kind 9 wire)" ∷ "(wire 1 (f (ix (n 9) (shl 1 2)) 3) 5)" ∷ []) ("(refused 8 3)" ∷ [])
-    ∷ example "8-in-a-branch-never-taken" ("(module 0 bound)" ∷ "(const 1 (if 1 2 (shr 1 2)))" ∷ []) ("(refused 8 2)" ∷ [])
-    ∷ example "8-in-nested-const" ("(module 0 bound)" ∷ "(constif 0 (then (const 1 (shl 1 2))) (else))" ∷ []) ("(refused 8 2)" ∷ [])
-    ∷ example "8-not-in-f-over-two-ix" ("(module 0 bound)" ∷ "(wire 1 (f (ix (ix (n 2) (shl 1 2)) (shr 1 2)) 3) 5)" ∷ []) []
-    ∷ example "8-not-in-ix-alone" ("(module 0 bound)" ∷ "(wire 1 (ix (n 2) (shl 1 2)) 5)" ∷ []) []
+    example "shl-as-width" ("(module 0 bound)" ∷ "(kind 1 out)" ∷ "(port out 1 (bits (shl 1 2)) 4)" ∷ "(drive (lv 1 5 2 0) 0)" ∷ []) ("(E0502 0 4 1 gap 3)" ∷ [])
+    ∷ example "shl-in-lv" ("(module 0 bound)" ∷ "(kind 1 out)" ∷ "(port out 1 (bits 5) 4)" ∷ "(drive (lv 1 5 (shl 1 2) 0) 0)" ∷ []) []
+    ∷ example "shl-in-bits-of-an-input" ("(module 0 bound)" ∷ "(port in 1 (bits (shl 1 12)) 5)" ∷ []) []
+    ∷ example "shl-to-the-lowest" ("(module 0 bound)" ∷ "(constif (lt (shl (neg 1) 31) (neg 2147483647)) (then (reg 1 10)) (else (reg 2 20)))" ∷ []) ("(E0503 0 10 1 none)" ∷ [])
+    ∷ example "shl-outside" ("(module 0 bound)" ∷ "(const 1 (shl 1 31))" ∷ []) ("(refused 20 0)" ∷ [])
+    ∷ example "shl-below-outside" ("(module 0 bound)" ∷ "(const 1 (shl (neg 1) 32))" ∷ []) ("(refused 20 0)" ∷ [])
+    ∷ example "shl-past-the-width-limit" ("(module 0 bound)" ∷ "(const 0 (shl 1 999999))" ∷ []) ("(refused 20 0)" ∷ [])
+    ∷ example "shl-of-0-by-999998" ("(module 0 bound)" ∷ "(constif (not (shl 0 999998)) (then (reg 1 10)) (else (reg 2 20)))" ∷ []) ("(E0503 0 10 1 none)" ∷ [])
+    ∷ example "shl-of-0-by-999999-has-none" ("(module 0 bound)" ∷ "(constif (not (shl 0 999999)) (then (reg 1 10)) (else (reg 2 20)))" ∷ []) ("(E0503 0 20 2 none)" ∷ [])
+    ∷ example "shl-by-less-than-0-has-none" ("(module 0 bound)" ∷ "(constif (shl 1 (neg 1)) (then (reg 1 10)) (else (reg 2 20)))" ∷ []) ("(E0503 0 20 2 none)" ∷ [])
+    ∷ example "shl-of-0-by-less-than-0-has-none" ("(module 0 bound)" ∷ "(constif (not (shl 0 (neg 1))) (then (reg 1 10)) (else (reg 2 20)))" ∷ []) ("(E0503 0 20 2 none)" ∷ [])
+    ∷ example "shr-by-less-than-0-has-none" ("(module 0 bound)" ∷ "(constif (not (shr 0 (neg 1))) (then (reg 1 10)) (else (reg 2 20)))" ∷ []) ("(E0503 0 20 2 none)" ∷ [])
+    ∷ example "shr-by-0" ("(module 0 bound)" ∷ "(constif (eq (shr 5 0) 5) (then (reg 1 10)) (else (reg 2 20)))" ∷ []) ("(E0503 0 10 1 none)" ∷ [])
+    ∷ example "shr-past-its-bits" ("(module 0 bound)" ∷ "(constif (eq (shr (neg 2147483647) 40) (neg 1)) (then (reg 1 10)) (else (reg 2 20)))" ∷ []) ("(E0503 0 10 1 none)" ∷ [])
+    ∷ example "operands-before-the-amount-is-rejected" ("(module 0 bound)" ∷ "(const 0 (shl (add 2147483647 1) (neg 1)))" ∷ []) ("(refused 20 0)" ∷ [])
+    ∷ example "amount-outside" ("(module 0 bound)" ∷ "(const 0 (shr 0 (mul 65536 65536)))" ∷ []) ("(refused 20 0)" ∷ [])
+    ∷ example "shl-in-a-branch-never-taken" ("(module 0 bound)" ∷ "(const 1 (if 1 2 (shl 1 31)))" ∷ []) []
+    ∷ example "shl-in-f-over-two-ix" ("(module 0 bound)" ∷ "(wire 1 (f (ix (ix (n 2) (shl 1 2)) (shr 1 2)) 3) 5)" ∷ []) []
+    ∷ example "no-8-before-line-3" ("(module 0 bound)" ∷ "(const 0 (shl 0 0))" ∷ "" ∷ []) ("(refused 3 3)" ∷ [])
     ∷ []
 
 constant-rows : All-print constant-table
 unfolding computed-print
-constant-rows = printed constant-table (refl, (refl, (refl, (refl, (refl, (refl, (refl, (refl, (refl, (refl, (refl, (refl, tt))))))))))))
+constant-rows = printed constant-table (refl, (refl, (refl, (refl, (refl, (refl, (refl, (refl, (refl, (refl, (refl, (refl, (refl, (refl, (refl, (refl, (refl, (refl, (refl, tt)))))))))))))))))))
 
 -- 01, Refused because of the state: a constant outside INT.
 abbrev state-table : List Example

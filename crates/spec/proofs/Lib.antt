@@ -45,3 +45,5 @@ pub mod Triples
 pub mod OrderOfAsking
 pub mod FirstWays
 pub mod Cleared
+pub mod Bits
+pub mod Constants

@@ -13,8 +13,8 @@ use Rattle.spec.specs.Bytes.{Bytes, same-bytes, onto}
 use Rattle.spec.specs.Syntax.{Items, Header, Design, Line, module-line, header-line, item-line}
 use Rattle.spec.specs.Show.{show-line, header-lines, item-lines, design-lines, show-lines, show-design}
 use Rattle.spec.specs.Decode.{depth-limit, decode-line}
-use Rattle.spec.specs.Refusal.{text-limit, lines, in-set, well-formed, refused, byte-fault, ends-in-feed, set-fault, one-form, written, line-in-range, Before, at-start, after-line, in-place, first-kind, line-places, tree-fault, line-fault, lines-fault, refusal, decode-lines, gather, decode, line-depth, lines-in-range, in-range}
-use Rattle.spec.specs.Reading.{AllInSet, feeds, Fault, not-one-form, badly-written, out-of-range, out-of-place, one-too-many, bitwise, LowestFault, after-lines, Faultless, Refused, too-long, bad-byte, no-feed, bad-line, Reading}
+use Rattle.spec.specs.Refusal.{text-limit, lines, in-set, well-formed, refused, byte-fault, ends-in-feed, set-fault, one-form, written, line-in-range, Before, at-start, after-line, in-place, first-kind, tree-fault, line-fault, lines-fault, refusal, decode-lines, gather, decode, line-depth, lines-in-range, in-range}
+use Rattle.spec.specs.Reading.{AllInSet, feeds, Fault, not-one-form, badly-written, out-of-range, out-of-place, one-too-many, LowestFault, after-lines, Faultless, Refused, too-long, bad-byte, no-feed, bad-line, Reading}
 use Rattle.spec.proofs.Parts.{AllIn}
 use Rattle.spec.proofs.Shown.{decode-show-line, show-line-form, show-line-set}
 
@@ -58,38 +58,35 @@ written-eq s e = sym (same-eq s _ e)
 
 -- ---- the faults of a line
 
--- a tree with none of the faults 5 to 8
-record Sound (b : Before) (l : Line) : Type 0 where
-  range : line-in-range l ≡ true
+-- a tree with none of the faults 5 to 7
+pub record Sound (b : Before) (l : Line) : Type 0 where
+  pub range : line-in-range l ≡ true
   place : in-place b l ≡ true
   first : first-kind b l ≡ true
-  places : line-places l ≡ true
 
-sound-of : (b : Before) (l : Line) → tree-fault b l ≡ 0 → Sound b l
+pub sound-of : (b : Before) (l : Line) → tree-fault b l ≡ 0 → Sound b l
 unfolding tree-fault
-sound-of b l e = go _ refl _ refl _ refl _ refl
+sound-of b l e = go _ refl _ refl _ refl
   where
-    go : (r : Bool) → line-in-range l ≡ r → (p : Bool) → in-place b l ≡ p → (f : Bool) → first-kind b l ≡ f → (q : Bool) → line-places l ≡ q → Sound b l
-    go false r p ep f ef q eq = let z : _≡_ {A = ℕ} 5 0 = rw (r, tree-fault) at e in absurd (omega arith)
-    go true r false p f ef q eq = let z : _≡_ {A = ℕ} 6 0 = rw (r, p, tree-fault) at e in absurd (omega arith)
-    go true r true p false f q eq = let z : _≡_ {A = ℕ} 7 0 = rw (r, p, f, tree-fault) at e in absurd (omega arith)
-    go true r true p true f false q = let z : _≡_ {A = ℕ} 8 0 = rw (r, p, f, q, tree-fault) at e in absurd (omega arith)
-    go true r true p true f true q = record { range = r; place = p; first = f; places = q }
+    go : (r : Bool) → line-in-range l ≡ r → (p : Bool) → in-place b l ≡ p → (f : Bool) → first-kind b l ≡ f → Sound b l
+    go false r p ep f ef = let z : _≡_ {A = ℕ} 5 0 = rw (r, tree-fault) at e in absurd (omega arith)
+    go true r false p f ef = let z : _≡_ {A = ℕ} 6 0 = rw (r, p, tree-fault) at e in absurd (omega arith)
+    go true r true p false f = let z : _≡_ {A = ℕ} 7 0 = rw (r, p, f, tree-fault) at e in absurd (omega arith)
+    go true r true p true f = record { range = r; place = p; first = f }
 
 sound-fault : (b : Before) (l : Line) → Sound b l → tree-fault b l ≡ 0
 unfolding tree-fault
-sound-fault b l h = rw (h .range, h .place, h .first, h .places, tree-fault)
+sound-fault b l h = rw (h .range, h .place, h .first, tree-fault)
 
 module _ (b : Before) (s : Bytes) where
   below :
-      (k : ℕ) → k ≤ 8 → (3 < k → one-form s ≡ true) → (4 < k → written s ≡ true) → (5 < k → line-in-range (decode-line s) ≡ true)
-      → (6 < k → in-place b (decode-line s) ≡ true) → (7 < k → first-kind b (decode-line s) ≡ true) → (j : ℕ) → j < k → Fault b s j → ⊥
-  below k m o w r p f j h (not-one-form e) = clash (o h) e
-  below k m o w r p f j h (badly-written e) = clash (w h) e
-  below k m o w r p f j h (out-of-range v e) = clash (r h) e
-  below k m o w r p f j h (out-of-place v e) = clash (p h) e
-  below k m o w r p f j h (one-too-many v e) = clash (f h) e
-  below k m o w r p f j h (bitwise v e) = omega arith
+      (k : ℕ) → k ≤ 7 → (3 < k → one-form s ≡ true) → (4 < k → written s ≡ true) → (5 < k → line-in-range (decode-line s) ≡ true)
+      → (6 < k → in-place b (decode-line s) ≡ true) → (j : ℕ) → j < k → Fault b s j → ⊥
+  below k m o w r p j h (not-one-form e) = clash (o h) e
+  below k m o w r p j h (badly-written e) = clash (w h) e
+  below k m o w r p j h (out-of-range v e) = clash (r h) e
+  below k m o w r p j h (out-of-place v e) = clash (p h) e
+  below k m o w r p j h (one-too-many v e) = omega arith
 
   line-clean : ((k : ℕ) → Fault b s k → ⊥) → (one-form s ≡ true) × (written s ≡ true) × Sound b (decode-line s)
   line-clean h =
@@ -100,7 +97,6 @@ module _ (b : Before) (s : Bytes) where
           range = not-false _ (λ e. h 5 (out-of-range w e));
           place = not-false _ (λ e. h 6 (out-of-place w e));
           first = not-false _ (λ e. h 7 (one-too-many w e));
-          places = not-false _ (λ e. h 8 (bitwise w e));
         },
       )
 
@@ -119,9 +115,6 @@ module _ (b : Before) (s : Bytes) where
     place-of : 6 < k → written s ≡ true → in-place b (decode-line s) ≡ true
     place-of l w = not-false _ (λ e. h 6 l (out-of-place w e))
 
-    first-of : 7 < k → written s ≡ true → first-kind b (decode-line s) ≡ true
-    first-of l w = not-false _ (λ e. h 7 l (one-too-many w e))
-
   line-bad : (k : ℕ) → Fault b s k → ((j : ℕ) → j < k → Fault b s j → ⊥) → (k ≡ suc (k - 1)) × (line-fault b s ≡ k)
   unfolding line-fault tree-fault
   line-bad k (not-one-form e) h = (refl, rw (e, line-fault))
@@ -130,30 +123,26 @@ module _ (b : Before) (s : Bytes) where
   line-bad k (out-of-place w e) h = (refl, rw (form-of k h (omega arith), w, range-of k h (omega arith) w, e, line-fault, tree-fault))
   line-bad k (one-too-many w e) h =
       (refl, rw (form-of k h (omega arith), w, range-of k h (omega arith) w, place-of k h (omega arith) w, e, line-fault, tree-fault))
-  line-bad k (bitwise w e) h =
-      (refl, rw (form-of k h (omega arith), w, range-of k h (omega arith) w, place-of k h (omega arith) w, first-of k h (omega arith) w, e, line-fault, tree-fault))
 
   -- a line has no fault, or one is the lowest
   line-cases : ((k : ℕ) → Fault b s k → ⊥) ⊎ ((k : ℕ) × LowestFault b s k)
-  line-cases = go _ refl _ refl _ refl _ refl _ refl _ refl
+  line-cases = go _ refl _ refl _ refl _ refl _ refl
     where
       go :
           (o : Bool) → one-form s ≡ o → (w : Bool) → written s ≡ w → (r : Bool) → line-in-range (decode-line s) ≡ r
           → (p : Bool) → in-place b (decode-line s) ≡ p → (f : Bool) → first-kind b (decode-line s) ≡ f
-          → (q : Bool) → line-places (decode-line s) ≡ q → ((k : ℕ) → Fault b s k → ⊥) ⊎ ((k : ℕ) × LowestFault b s k)
-      go false o w ew r er p ep f ef q eq =
-          inr (3, record { fault = not-one-form o; lowest = below 3 (omega arith) (λ h. absurd (omega arith)) (λ h. absurd (omega arith)) (λ h. absurd (omega arith)) (λ h. absurd (omega arith)) (λ h. absurd (omega arith)) })
-      go true o false w r er p ep f ef q eq =
-          inr (4, record { fault = badly-written w; lowest = below 4 (omega arith) (λ h. o) (λ h. absurd (omega arith)) (λ h. absurd (omega arith)) (λ h. absurd (omega arith)) (λ h. absurd (omega arith)) })
-      go true o true w false r p ep f ef q eq =
-          inr (5, record { fault = out-of-range w r; lowest = below 5 (omega arith) (λ h. o) (λ h. w) (λ h. absurd (omega arith)) (λ h. absurd (omega arith)) (λ h. absurd (omega arith)) })
-      go true o true w true r false p f ef q eq =
-          inr (6, record { fault = out-of-place w p; lowest = below 6 (omega arith) (λ h. o) (λ h. w) (λ h. r) (λ h. absurd (omega arith)) (λ h. absurd (omega arith)) })
-      go true o true w true r true p false f q eq =
-          inr (7, record { fault = one-too-many w f; lowest = below 7 (omega arith) (λ h. o) (λ h. w) (λ h. r) (λ h. p) (λ h. absurd (omega arith)) })
-      go true o true w true r true p true f false q =
-          inr (8, record { fault = bitwise w q; lowest = below 8 (omega arith) (λ h. o) (λ h. w) (λ h. r) (λ h. p) (λ h. f) })
-      go true o true w true r true p true f true q = inl none
+          → ((k : ℕ) → Fault b s k → ⊥) ⊎ ((k : ℕ) × LowestFault b s k)
+      go false o w ew r er p ep f ef =
+          inr (3, record { fault = not-one-form o; lowest = below 3 (omega arith) (λ h. absurd (omega arith)) (λ h. absurd (omega arith)) (λ h. absurd (omega arith)) (λ h. absurd (omega arith)) })
+      go true o false w r er p ep f ef =
+          inr (4, record { fault = badly-written w; lowest = below 4 (omega arith) (λ h. o) (λ h. absurd (omega arith)) (λ h. absurd (omega arith)) (λ h. absurd (omega arith)) })
+      go true o true w false r p ep f ef =
+          inr (5, record { fault = out-of-range w r; lowest = below 5 (omega arith) (λ h. o) (λ h. w) (λ h. absurd (omega arith)) (λ h. absurd (omega arith)) })
+      go true o true w true r false p f ef =
+          inr (6, record { fault = out-of-place w p; lowest = below 6 (omega arith) (λ h. o) (λ h. w) (λ h. r) (λ h. absurd (omega arith)) })
+      go true o true w true r true p false f =
+          inr (7, record { fault = one-too-many w f; lowest = below 7 (omega arith) (λ h. o) (λ h. w) (λ h. r) (λ h. p) })
+      go true o true w true r true p true f = inl none
         where
           none : (k : ℕ) → Fault b s k → ⊥
           none k (not-one-form e) = clash o e
@@ -161,7 +150,6 @@ module _ (b : Before) (s : Bytes) where
           none k (out-of-range v e) = clash r e
           none k (out-of-place v e) = clash p e
           none k (one-too-many v e) = clash f e
-          none k (bitwise v e) = clash q e
 
 -- ---- line by line
 
@@ -456,7 +444,6 @@ faultless-line b l d s k (badly-written e) = clash (same-refl (show-line l)) (rw
 faultless-line b l d s k (out-of-range w e) = clash (s .range) (rw (decode-show-line l d) at e)
 faultless-line b l d s k (out-of-place w e) = clash (s .place) (rw (decode-show-line l d) at e)
 faultless-line b l d s k (one-too-many w e) = clash (s .first) (rw (decode-show-line l d) at e)
-faultless-line b l d s k (bitwise w e) = clash (s .places) (rw (decode-show-line l d) at e)
 
 faultless-shown : (ls : List Line) (b : Before) → lines-in-range b ls ≡ true → Faultless b (lines (show-lines ls))
 unfolding show-lines lines

@@ -9,12 +9,13 @@ use Prim.Native.Nat.{ℕ, zero, suc, _+_, _-_, _/_, _≤_, _<_}
 use native.Mathlib.Omega.{arith}
 use lib.ListN.{length, getElem?, replicate, length-replicate}
 use lib.IntN.{ℤ, pos, negsuc, negℤ, _+ℤ_, _-ℤ_, _*ℤ_}
-use lib.Dec.{eqb, ltb}
+use lib.Dec.{eqb, ltb, leb}
 use borrow.Author.Tests.{ltb-true, ltb-false, lt-ltb, le-ltb, eqb-true, eqb-false, eq-eqb}
 use Rattle.spec.specs.Bytes.{Bytes}
 use Rattle.spec.specs.Syntax.{number-bound, Unary, neg, not, clog2, Binary, add, sub, mul, eq, ne, lt, le, gt, ge, and, or, shl, shr, band, bor, bxor, Kind, in-kind, out-kind, wire-kind, reg-kind, mem-kind, inst-kind, Expr, Exprs, lit, truth, name, field, index, if-else, unary, binary, all, Index, whole, at-bit, high-low, LValue, Conn, Inst, Item, Items, port, wire, reg, mem, const, drive, on, inst, repeat, const-if, Header, Module, Design}
+use Rattle.spec.specs.Bits.{shift-up}
 use Rattle.spec.specs.Refusal.{in-int, Verdict, well-formed, refused, Before, refusal, decode, has-name}
-use Rattle.spec.specs.Value.{Value, known, missing, outside, Names, value-of-name, within, is-zero, int-eq, int-lt, truth-value, bit-length, clog2-bits, clog2-value, unary-value, binary-value, value, is-outside, Table, with-value, own-vals, name-table, const-names}
+use Rattle.spec.specs.Value.{Value, known, missing, outside, Names, value-of-name, within, is-zero, int-eq, int-lt, truth-value, bit-length, clog2-bits, clog2-value, unary-value, shl-value, shr-value, binary-value, value, is-outside, Table, with-value, own-vals, name-table, const-names}
 use Rattle.spec.specs.Collect.{Collected, collection}
 use Rattle.spec.specs.Site.{kind-of, Driving, an-output, a-wire, a-reg, a-mem, nothing, driving, Site, index-constants, line-constants, any-outside, lines-outside, sites, sites-of, Output, outputs, deciding-width}
 use Rattle.spec.specs.Block.{pairs}
@@ -24,11 +25,12 @@ use Rattle.spec.specs.Summary.{Kept, kept-summary, triples, triple-limit
 use Rattle.spec.specs.Report.{show-reports}
 use Rattle.spec.specs.Check.{site-limit, pair-limit, widths-out, Checked, check-module-drivers, check-modules, check-design, refuse, accept, answer-checked, Lent, too-short, check-drivers, Slice, cleared, check-call}
 use Rattle.spec.specs.Graph.{_∈_, Once}
-use Rattle.spec.specs.Reading.{Fault, not-one-form, badly-written, out-of-range, out-of-place, one-too-many, bitwise, Refused, too-long, bad-byte, no-feed, bad-line}
-use Rattle.spec.specs.Refusals.{PartOutside, literal, condition, then-branch, else-branch, operand, negation, left-operand, right-operand, sum, difference, product, field-index, read-constants, reads-constants, is-reached, conns-read, drive-read, line-read, GraphPasses, many-nodes, many-edges, LinesPass, line-asks, line-reads, MakingPasses, summary-walk, summary-graph, many-triples, AskPasses, const-table, item-list, ModulePasses, const-outside, line-outside, width-outside, many-sites, many-pairs, own-walk, own-graph, Passes, own-check, Short, Refusals}
+use Rattle.spec.specs.Reading.{Fault, not-one-form, badly-written, out-of-range, out-of-place, one-too-many, Refused, too-long, bad-byte, no-feed, bad-line}
+use Rattle.spec.specs.Refusals.{PartOutside, literal, condition, then-branch, else-branch, operand, negation, left-operand, right-operand, sum, difference, product, shifted, field-index, read-constants, reads-constants, is-reached, conns-read, drive-read, line-read, GraphPasses, many-nodes, many-edges, LinesPass, line-asks, line-reads, MakingPasses, summary-walk, summary-graph, many-triples, AskPasses, const-table, item-list, ModulePasses, const-outside, line-outside, width-outside, many-sites, many-pairs, own-walk, own-graph, Passes, own-check, Short, Refusals}
 use Rattle.spec.proofs.Flags.{clash, which, not-so, or-cases, or-left, or-right, and-both, and-of, or-says, unnamed}
 use Rattle.spec.proofs.Lists.{once-length}
 use Rattle.spec.proofs.Numbers.{if-case}
+use Rattle.spec.proofs.Bits.{zero-up}
 use Rattle.spec.proofs.Firsts.{head-same, tail-same, not-cons}
 use Rattle.spec.proofs.Meetings.{deciding-says}
 use Rattle.spec.proofs.Situations.{poisoned-in, clean-says, outputs-say}
@@ -130,6 +132,32 @@ unary-up names neg a x h e = negation a x h (within-out (negℤ x) e)
 unary-up names not a x h e = absurd (truth-not (is-zero x) e)
 unary-up names clog2 a x h e = absurd (clog2-not x e)
 
+shl-out : (x : ℤ) (n : ℕ) → shl-value x (pos n) ≡ outside → in-int (shift-up x n) ≡ false
+unfolding shl-value
+shl-out x n e = go (is-zero x && leb 999999 n) refl
+  where
+    go : (b : Bool) → is-zero x && leb 999999 n ≡ b → in-int (shift-up x n) ≡ false
+    go true h = absurd (missing-not (rw (h, shl-value) at e))
+    go false h = within-out (shift-up x n) (rw (h, shl-value) at e)
+
+out-shl : (x : ℤ) (n : ℕ) → in-int (shift-up x n) ≡ false → shl-value x (pos n) ≡ outside
+unfolding shl-value
+out-shl x n e = go (is-zero x) refl
+  where
+    go : (b : Bool) → is-zero x ≡ b → shl-value x (pos n) ≡ outside
+    go true h = absurd (clash (zero-up x n h) e)
+    go false h = rw (h, shl-value) (out-within (shift-up x n) e)
+
+shl-up : (names : Names) (a b : Expr) (x y : ℤ) → value names a ≡ known x → value names b ≡ known y → shl-value x y ≡ outside → PartOutside names (binary shl a b)
+unfolding shl-value
+shl-up names a b x (pos n) h k e = shifted a b x n h k (shl-out x n e)
+shl-up names a b x (negsuc n) h k e = absurd (missing-not e)
+
+shr-not : (x y : ℤ) → shr-value x y ≡ outside → ⊥
+unfolding shr-value
+shr-not x (pos n) e = known-not e
+shr-not x (negsuc n) e = missing-not e
+
 binary-up : (names : Names) (o : Binary) (a b : Expr) (x y : ℤ) → value names a ≡ known x → value names b ≡ known y → binary-value o x y ≡ outside → PartOutside names (binary o a b)
 unfolding binary-value
 binary-up names add a b x y h k e = sum a b x y h k (within-out (x +ℤ y) e)
@@ -143,11 +171,11 @@ binary-up names gt a b x y h k e = absurd (truth-not (int-lt y x) e)
 binary-up names ge a b x y h k e = absurd (truth-not (opposite (int-lt x y)) e)
 binary-up names and a b x y h k e = absurd (truth-not (opposite (is-zero x) && opposite (is-zero y)) e)
 binary-up names or a b x y h k e = absurd (truth-not (opposite (is-zero x) || opposite (is-zero y)) e)
-binary-up names shl a b x y h k e = absurd (missing-not e)
-binary-up names shr a b x y h k e = absurd (missing-not e)
-binary-up names band a b x y h k e = absurd (missing-not e)
-binary-up names bor a b x y h k e = absurd (missing-not e)
-binary-up names bxor a b x y h k e = absurd (missing-not e)
+binary-up names shl a b x y h k e = shl-up names a b x y h k e
+binary-up names shr a b x y h k e = absurd (shr-not x y e)
+binary-up names band a b x y h k e = absurd (known-not e)
+binary-up names bor a b x y h k e = absurd (known-not e)
+binary-up names bxor a b x y h k e = absurd (known-not e)
 
 taken-branch : (names : Names) (c a b : Expr) (x : ℤ) (z : Bool) → value names c ≡ known x → is-zero x ≡ z → value names (if-else c a b) ≡ elim z as (λ _. Value) [ true ↦ value names b | false ↦ value names a ]
 unfolding value
@@ -199,6 +227,7 @@ part-down names e (right-operand o a b x h p) = rw (h, part-down names b p, valu
 part-down names e (sum a b x y h k z) = rw (h, k, value) (out-within (x +ℤ y) z)
 part-down names e (difference a b x y h k z) = rw (h, k, value) (out-within (x -ℤ y) z)
 part-down names e (product a b x y h k z) = rw (h, k, value) (out-within (x *ℤ y) z)
+part-down names e (shifted a b x n h k z) = rw (h, k, value) (out-shl x n z)
 
 -- ---- the constants of collected lines
 
@@ -868,19 +897,18 @@ design-says d =
 
 -- ---- the answer
 
-pub fault-number : (b : Before) (s : Bytes) (k : ℕ) → Fault b s k → (1 ≤ k) × (k ≤ 8)
+pub fault-number : (b : Before) (s : Bytes) (k : ℕ) → Fault b s k → (1 ≤ k) × (k ≤ 7)
 fault-number b s k (not-one-form e) = omega arith
 fault-number b s k (badly-written e) = omega arith
 fault-number b s k (out-of-range w e) = omega arith
 fault-number b s k (out-of-place w e) = omega arith
 fault-number b s k (one-too-many w e) = omega arith
-fault-number b s k (bitwise w e) = omega arith
 
--- a refusal of the text has a number from 1 to 8
-text-number : (text : Bytes) (k n : ℕ) → refusal text ≡ refused k n → (1 ≤ k) × (k ≤ 8)
+-- a refusal of the text has a number from 1 to 7
+text-number : (text : Bytes) (k n : ℕ) → refusal text ≡ refused k n → (1 ≤ k) × (k ≤ 7)
 text-number text k n e = go k n (reading .lowest text k n e)
   where
-    go : (k n : ℕ) → Refused text k n → (1 ≤ k) × (k ≤ 8)
+    go : (k n : ℕ) → Refused text k n → (1 ≤ k) × (k ≤ 7)
     go k n (too-long h) = omega arith
     go k n (bad-byte x c y l e i h) = omega arith
     go k n (no-feed l i h) = omega arith
@@ -939,7 +967,7 @@ module _ (working : List Lent) (text buffer : Bytes) where
   -- the answer's number tells the case
   record Case (k : ℕ) : Type 0 where
     short : too-short working ≡ true → k ≡ 20
-    text-fault : too-short working ≡ false → (j n : ℕ) → refusal text ≡ refused j n → (k ≡ j) × (1 ≤ j) × (j ≤ 8)
+    text-fault : too-short working ≡ false → (j n : ℕ) → refusal text ≡ refused j n → (k ≡ j) × (1 ≤ j) × (j ≤ 7)
     full : too-short working ≡ false → refusal text ≡ well-formed → found text .full ≡ true → k ≡ 20
     longer : too-short working ≡ false → refusal text ≡ well-formed → found text .full ≡ false → length buffer < length (said text) → k ≡ 21
     fits : too-short working ≡ false → refusal text ≡ well-formed → found text .full ≡ false → length (said text) ≤ length buffer → k ≡ 0

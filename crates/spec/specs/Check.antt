@@ -163,7 +163,7 @@ answer-checked c buffer =
           elim (ltb (length buffer) (length text)) [ true ↦ refuse 21 0 buffer | false ↦ accept text c buffer ]
     ]
 
--- 01, Refused because of the state: after 1 to 8, 20 and 21.
+-- 01, Refused because of the state: after 1 to 7, 20 and 21.
 abbrev pub answer-read : Verdict → Bytes → Bytes → Answer
 answer-read (refused number line) text buffer = refuse number line buffer
 answer-read well-formed text buffer = answer-checked (check-design (decode text)) buffer

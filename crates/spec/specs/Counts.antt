@@ -37,7 +37,7 @@ pub record Counts : Type 0 where
 -- 01, Refused because of the state: a refusal's number, and its line (from 1; 0 for 1, 20, 21).
 pub data Numbered : ℕ → ℕ → Type 0 where
   too-long : Numbered 1 0
-  in-line : (number line : ℕ) → 2 ≤ number → number ≤ 8 → 1 ≤ line → Numbered number line
+  in-line : (number line : ℕ) → 2 ≤ number → number ≤ 7 → 1 ≤ line → Numbered number line
   limit-passed : Numbered 20 0
   no-room : Numbered 21 0
 

@@ -4,6 +4,7 @@ pub mod Show
 pub mod Decode
 pub mod Refusal
 pub mod Reading
+pub mod Bits
 pub mod Value
 pub mod Collect
 pub mod Site
@@ -23,6 +24,7 @@ pub mod DepthFirstFinds
 pub mod FirstWays
 pub mod Cases
 pub mod Collection
+pub mod Constants
 pub mod Counts
 pub mod CyclesFound
 pub mod Meaning

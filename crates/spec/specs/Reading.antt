@@ -12,7 +12,7 @@ use Rattle.spec.specs.Bytes.{Bytes}
 use Rattle.spec.specs.Syntax.{Design, Line}
 use Rattle.spec.specs.Show.{show-line, show-design}
 use Rattle.spec.specs.Decode.{depth-limit, decode-line}
-use Rattle.spec.specs.Refusal.{text-limit, lines, in-set, well-formed, refused, ends-in-feed, one-form, written, line-in-range, Before, at-start, after-line, in-place, first-kind, line-places, refusal, decode, line-depth, in-range}
+use Rattle.spec.specs.Refusal.{text-limit, lines, in-set, well-formed, refused, ends-in-feed, one-form, written, line-in-range, Before, at-start, after-line, in-place, first-kind, refusal, decode, line-depth, in-range}
 
 -- 01, Refused because of the text, 2: every byte is in the set.
 abbrev pub AllInSet : Bytes → Type 0
@@ -24,14 +24,13 @@ unfoldable pub feeds : Bytes → ℕ
 feeds [] = 0
 feeds (c ∷ s) = elim (eqb c 10) [ true ↦ suc (feeds s) | false ↦ feeds s ]
 
--- 01, Refused because of the text, 3 to 8: what each of these faults of the line s is, b having been read before it.
+-- 01, Refused because of the text, 3 to 7: what each of these faults of the line s is, b having been read before it.
 pub data Fault (b : Before) (s : Bytes) : ℕ → Type 0 where
   not-one-form : one-form s ≡ false → Fault b s 3
   badly-written : written s ≡ false → Fault b s 4
   out-of-range : written s ≡ true → line-in-range (decode-line s) ≡ false → Fault b s 5
   out-of-place : written s ≡ true → in-place b (decode-line s) ≡ false → Fault b s 6
   one-too-many : written s ≡ true → first-kind b (decode-line s) ≡ false → Fault b s 7
-  bitwise : written s ≡ true → line-places (decode-line s) ≡ false → Fault b s 8
 
 -- 01, Refused because of the text, Order: of a line's faults the lowest.
 pub record LowestFault (b : Before) (s : Bytes) (k : ℕ) : Type 0 where
@@ -49,7 +48,7 @@ Faultless b [] = Unit {0}
 Faultless b (s ∷ l) = ((k : ℕ) → Fault b s k → ⊥) × Faultless (after-line b (decode-line s)) l
 
 -- 01, Refused because of the text, Order: 1, then 2 over the whole text (line of the first such byte, else the last line), then
--- line by line 3 to 8: the text is refused with this number and this line.
+-- line by line 3 to 7: the text is refused with this number and this line.
 pub data Refused (text : Bytes) : ℕ → ℕ → Type 0 where
   too-long : text-limit < length text → Refused text 1 0
   bad-byte :
@@ -62,7 +61,7 @@ pub data Refused (text : Bytes) : ℕ → ℕ → Type 0 where
       → Refused text k (suc (length before))
 
 -- 01, The line; Refused because of the text: the theorem. `line-back`: what shows a line at most 32 deep decodes to it. `well-written`: the
--- lines without the faults 3 and 4 are those that show a line at most 32 deep; the faults 5 to 8 are faults of that line.
+-- lines without the faults 3 and 4 are those that show a line at most 32 deep; the faults 5 to 7 are faults of that line.
 pub record Reading : Type 0 where
   pub line-back : (l : Line) → line-depth l ≤ depth-limit → decode-line (show-line l) ≡ l
   pub well-written : (s : Bytes) → ((one-form s ≡ true) × (written s ≡ true)) ↔ ((l : Line) × (line-depth l ≤ depth-limit) × (show-line l ≡ s))

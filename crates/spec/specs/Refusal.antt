@@ -1,4 +1,4 @@
--- What is refused because of the text: faults 1 to 8 and their line. 01: Refused because of the text.
+-- What is refused because of the text: faults 1 to 7 and their line. 01: Refused because of the text; 02, U1: 8 no longer occurs.
 -- To a reader: definitions to believe; refusal, written and decode are pinned by Reading.Reading (proved in proofs/Reading).
 use mathlib.Core.Bool.{Bool, true, false, _&&_, _||_, not as opposite}
 use mathlib.Core.List.{List, [], _∷_}
@@ -7,7 +7,7 @@ use lib.ListN.{length}
 use lib.Dec.{eqb, ltb, leb}
 use lib.IntN.{ℤ, pos, negsuc}
 use Rattle.spec.specs.Bytes.{Bytes, same-bytes, onto}
-use Rattle.spec.specs.Syntax.{name-bound, module-bound, number-bound, Binary, add, sub, mul, eq, ne, lt, le, gt, ge, and, or, shl, shr, band, bor, bxor, Expr, Exprs, lit, truth, name, field, index, if-else, unary, binary, all, Width, bit, opaque, bits, signed, Index, whole, at-bit, high-low, Stmt, Stmts, set, default, loop, when, Place, single, at, Conn, Inst, Item, Items, port, wire, reg, mem, const, drive, on, inst, repeat, const-if, Header, kind, val, Design, Line, module-line, header-line, item-line}
+use Rattle.spec.specs.Syntax.{name-bound, module-bound, number-bound, Expr, Exprs, lit, truth, name, field, index, if-else, unary, binary, all, Width, bit, opaque, bits, signed, Index, whole, at-bit, high-low, Stmt, Stmts, set, default, loop, when, Place, single, at, Conn, Inst, Item, Items, port, wire, reg, mem, const, drive, on, inst, repeat, const-if, Header, kind, val, Design, Line, module-line, header-line, item-line}
 use Rattle.spec.specs.Show.{show-line, design-lines}
 use Rattle.spec.specs.Decode.{depth-limit, decode-line}
 
@@ -199,128 +199,7 @@ first-kind b (header-line (kind n k)) = opposite (has-name n (b .kinds))
 first-kind b (header-line (val n i)) = true
 first-kind b (item-line i) = true
 
--- 01, Refused because of the text, 8: `shl`, `shr`, `band`, `bor` or `bxor`.
-abbrev pub is-bitwise : Binary → Bool
-is-bitwise add = false
-is-bitwise sub = false
-is-bitwise mul = false
-is-bitwise eq = false
-is-bitwise ne = false
-is-bitwise lt = false
-is-bitwise le = false
-is-bitwise gt = false
-is-bitwise ge = false
-is-bitwise and = false
-is-bitwise or = false
-is-bitwise shl = true
-is-bitwise shr = true
-is-bitwise band = true
-is-bitwise bor = true
-is-bitwise bxor = true
-
--- 01, Refused because of the text, 8: none of the five anywhere in an expression. Decision: 8 goes by form, whether or not a part is
--- ever evaluated.
-unfoldable mutual
-  pub constant : Expr → Bool
-  constant (lit n) = true
-  constant (truth b) = true
-  constant (name n) = true
-  constant (field e n) = constant e
-  constant (index e i) = constant e && constant i
-  constant (if-else c a b) = constant c && constant a && constant b
-  constant (unary o a) = constant a
-  constant (binary o a b) = opposite (is-bitwise o) && constant a && constant b
-  constant (all es) = constants es
-
-  pub constants : Exprs → Bool
-  constants Exprs.none = true
-  constants (Exprs.more e es) = constant e && constants es
-
--- 01, The line, constant places: I in `(f (ix (n NAME) I) NAME)`. Decision: whatever kind NAME has.
-unfoldable pub field-place : Expr → Bool
-field-place (lit n) = true
-field-place (truth b) = true
-field-place (name n) = true
-field-place (field e n) = true
-field-place (index (lit n) i) = true
-field-place (index (truth b) i) = true
-field-place (index (name n) i) = constant i
-field-place (index (field e n) i) = true
-field-place (index (index e j) i) = true
-field-place (index (if-else c a b) i) = true
-field-place (index (unary o a) i) = true
-field-place (index (binary o a b) i) = true
-field-place (index (all es) i) = true
-field-place (if-else c a b) = true
-field-place (unary o a) = true
-field-place (binary o a b) = true
-field-place (all es) = true
-
--- 01, The line, constant places: those in an expression that is read.
-unfoldable mutual
-  pub read-places : Expr → Bool
-  read-places (lit n) = true
-  read-places (truth b) = true
-  read-places (name n) = true
-  read-places (field e n) = field-place e && read-places e
-  read-places (index e i) = read-places e && read-places i
-  read-places (if-else c a b) = read-places c && read-places a && read-places b
-  read-places (unary o a) = read-places a
-  read-places (binary o a b) = read-places a && read-places b
-  read-places (all es) = reads-places es
-
-  pub reads-places : Exprs → Bool
-  reads-places Exprs.none = true
-  reads-places (Exprs.more e es) = read-places e && reads-places es
-
--- 01, The line, constant places: E in T.
-unfoldable pub width-places : Width → Bool
-width-places bit = true
-width-places opaque = true
-width-places (bits e) = constant e
-width-places (signed e) = constant e
-
--- 01, The line, constant places: E in LV.
-unfoldable pub index-places : Index → Bool
-index-places whole = true
-index-places (at-bit e) = constant e
-index-places (high-low h l) = constant h && constant l
-
--- 01, The line, constant places: X.
-unfoldable pub place-places : Place → Bool
-place-places single = true
-place-places (at e) = constant e
-
--- 01, The line, constant places: those in C.
-unfoldable pub conn-places : List Conn → Bool
-conn-places [] = true
-conn-places (c ∷ cs) = read-places (c .signal) && conn-places cs
-
--- 01, The line, constant places: E in LV, T, `const`, X, `repeat` bounds, the `constif` condition.
-unfoldable mutual
-  pub item-places : Item → Bool
-  item-places (port d n w start) = width-places w
-  item-places (wire n e start) = read-places e
-  item-places (reg n start) = true
-  item-places (mem n start) = true
-  item-places (const n e) = constant e
-  item-places (drive lv e) = index-places (lv .index) && read-places e
-  item-places (on start ss) = true
-  item-places (inst i) = place-places (i .place) && conn-places (i .conns)
-  item-places (repeat n low high is) = constant low && constant high && items-places is
-  item-places (const-if c is js) = constant c && items-places is && items-places js
-
-  pub items-places : Items → Bool
-  items-places Items.none = true
-  items-places (Items.more i is) = item-places i && items-places is
-
--- 01, Refused because of the text, 8: one of the five in a constant place of a line.
-unfoldable pub line-places : Line → Bool
-line-places (module-line m b) = true
-line-places (header-line h) = true
-line-places (item-line i) = item-places i
-
--- 01, Refused because of the text, Order; decision: the lowest fault, 5 to 8, of a line whose tree is l; 0 for none.
+-- 01, Refused because of the text, Order; decision: the lowest fault, 5 to 7, of a line whose tree is l; 0 for none.
 unfoldable pub tree-fault : Before → Line → ℕ
 tree-fault b l =
     elim (line-in-range l) [
@@ -329,12 +208,12 @@ tree-fault b l =
         | false ↦ 6
         | true ↦ elim (first-kind b l) [
           | false ↦ 7
-          | true ↦ elim (line-places l) [ false ↦ 8 | true ↦ 0 ]
+          | true ↦ 0
         ]
       ]
     ]
 
--- 01, Refused because of the text, Order; decision: the lowest fault, 3 to 8, of a line; 0 for none.
+-- 01, Refused because of the text, Order; decision: the lowest fault, 3 to 7, of a line; 0 for none.
 unfoldable pub line-fault : Before → Bytes → ℕ
 line-fault b s =
     elim (one-form s) [
@@ -342,13 +221,13 @@ line-fault b s =
       | true ↦ elim (written s) [ false ↦ 4 | true ↦ tree-fault b (decode-line s) ]
     ]
 
--- 01, Refused because of the text, Order: line by line 3 to 8; n is the number of the first line.
+-- 01, Refused because of the text, Order: line by line 3 to 7; n is the number of the first line.
 unfoldable pub lines-fault : Before → ℕ → List Bytes → Verdict
 lines-fault b n [] = well-formed
 lines-fault b n (s ∷ l) =
     elim (line-fault b s) [ zero ↦ lines-fault (after-line b (decode-line s)) (suc n) l | suc k ↦ refused (suc k) n ]
 
--- 01, Refused because of the text, Order: 1, then 2 over the whole text, then line by line 3 to 8. 1 has line 0.
+-- 01, Refused because of the text, Order: 1, then 2 over the whole text, then line by line 3 to 7. 1 has line 0.
 unfoldable pub refusal : Bytes → Verdict
 refusal text =
     elim (ltb text-limit (length text)) [
@@ -459,7 +338,7 @@ line-depth (module-line m b) = 1
 line-depth (header-line h) = 1
 line-depth (item-line i) = item-depth i
 
--- 01, The line: each line of a design, in turn, is at most so many brackets deep and has none of the faults 5 to 8.
+-- 01, The line: each line of a design, in turn, is at most so many brackets deep and has none of the faults 5 to 7.
 unfoldable pub lines-in-range : Before → List Line → Bool
 lines-in-range b [] = true
 lines-in-range b (l ∷ ls) = leb (line-depth l) depth-limit && eqb (tree-fault b l) 0 && lines-in-range (after-line b l) ls

@@ -10,8 +10,9 @@ use lib.ListN.{length, getElem?}
 use lib.Dec.{eqb}
 use lib.IntN.{ℤ, pos, negℤ, _+ℤ_, _-ℤ_, _*ℤ_}
 use Rattle.spec.specs.Bytes.{Bytes}
-use Rattle.spec.specs.Syntax.{Unary, neg, Binary, add, sub, mul, Expr, Exprs, lit, truth, name, field, index, if-else, unary, binary, all, Index, Conn, Inst, Item, Items, port, wire, reg, mem, const, drive, on, inst, repeat, const-if, Width, Header, Module, Design}
+use Rattle.spec.specs.Syntax.{Unary, neg, Binary, add, sub, mul, shl, Expr, Exprs, lit, truth, name, field, index, if-else, unary, binary, all, Index, Conn, Inst, Item, Items, port, wire, reg, mem, const, drive, on, inst, repeat, const-if, Width, Header, Module, Design}
 use Rattle.spec.specs.Refusal.{in-int, well-formed, refused, refusal, decode, has-name}
+use Rattle.spec.specs.Bits.{shift-up}
 use Rattle.spec.specs.Value.{known, outside, Names, is-zero, value, Table, own-vals, const-names}
 use Rattle.spec.specs.Collect.{Collected}
 use Rattle.spec.specs.Site.{kind-of, Driving, an-output, a-wire, a-reg, a-mem, nothing, driving, index-constants, line-constants, sites, width-value}
@@ -25,7 +26,8 @@ use Rattle.spec.specs.Graph.{_∈_}
 use Rattle.spec.specs.Situations.{own-lines, own-names, sites-named, Poisoned, IsOutput, AllRanges}
 
 -- 01, Refused because of the state: a constant, or a part of one, evaluated outside INT. The parts that are evaluated are those of
--- The value: operands left to right, a missing one ends it; `if` takes one branch. `clog2` and the tests give no number outside.
+-- The value: operands left to right, a missing one ends it; `if` takes one branch. `clog2` and the tests give no number outside, and
+-- of INT neither do `shr`, `band`, `bor` and `bxor` (02, U1).
 pub data PartOutside (names : Names) : Expr → Type 0 where
   literal : (n : ℕ) → in-int (pos n) ≡ false → PartOutside names (lit n)
   condition : (c a b : Expr) → PartOutside names c → PartOutside names (if-else c a b)
@@ -38,6 +40,7 @@ pub data PartOutside (names : Names) : Expr → Type 0 where
   sum : (a b : Expr) (x y : ℤ) → value names a ≡ known x → value names b ≡ known y → in-int (x +ℤ y) ≡ false → PartOutside names (binary add a b)
   difference : (a b : Expr) (x y : ℤ) → value names a ≡ known x → value names b ≡ known y → in-int (x -ℤ y) ≡ false → PartOutside names (binary sub a b)
   product : (a b : Expr) (x y : ℤ) → value names a ≡ known x → value names b ≡ known y → in-int (x *ℤ y) ≡ false → PartOutside names (binary mul a b)
+  shifted : (a b : Expr) (x : ℤ) (n : ℕ) → value names a ≡ known x → value names b ≡ known (pos n) → in-int (shift-up x n) ≡ false → PartOutside names (binary shl a b)
 
 -- 01, The edge: the indexes that are evaluated where an expression is read: of `(f (ix (n I) E) P)`, I an inst.
 unfoldable pub field-index : List Header → Expr → List Expr
@@ -161,7 +164,7 @@ Short working = (l : Lent) × (l ∈ working) × (l .places < l .limit)
 
 -- The theorem. 01: Refused because of the state. `twenty`: 20 exactly when a slice is too short, or the text has no fault and a listed
 -- limit is passed or an evaluated constant leaves INT. `twenty-one`: 21 exactly when not 20 and the report text is longer than the
--- buffer. `by-text`: else a fault of the text gives its own number, 1 to 8. `otherwise`: else the reports are written. A refusal gives
+-- buffer. `by-text`: else a fault of the text gives its own number, 1 to 7. `otherwise`: else the reports are written. A refusal gives
 -- zeros and keeps the buffer. `leaves`: the whole call gives that answer, and every lent place of working memory is zero after it, whatever
 -- it held. `outside-is`: a constant leaves INT exactly when an evaluated part does. `fuel`: that of the summaries never runs out, so that
 -- it decides nothing.
@@ -169,7 +172,7 @@ pub record Refusals : Type 0 where
   pub twenty : (working : List Lent) (text buffer : Bytes) → check-drivers working text buffer ≡ refuse 20 0 buffer ↔ (Short working ⊎ ((refusal text ≡ well-formed) × Passes (decode text)))
   pub twenty-one : (working : List Lent) (text buffer : Bytes) → check-drivers working text buffer ≡ refuse 21 0 buffer
       ↔ (¬ Short working × (refusal text ≡ well-formed) × ¬ Passes (decode text) × (length buffer < length (show-reports (check-design (decode text) .reports))))
-  pub by-text : (working : List Lent) (text buffer : Bytes) (k n : ℕ) → ¬ Short working → refusal text ≡ refused k n → (check-drivers working text buffer ≡ refuse k n buffer) × (1 ≤ k) × (k ≤ 8)
+  pub by-text : (working : List Lent) (text buffer : Bytes) (k n : ℕ) → ¬ Short working → refusal text ≡ refused k n → (check-drivers working text buffer ≡ refuse k n buffer) × (1 ≤ k) × (k ≤ 7)
   pub otherwise : (working : List Lent) (text buffer : Bytes) → ¬ Short working → refusal text ≡ well-formed → ¬ Passes (decode text)
       → length (show-reports (check-design (decode text) .reports)) ≤ length buffer → check-drivers working text buffer ≡ accept (show-reports (check-design (decode text) .reports)) (check-design (decode text)) buffer
   pub leaves : (working : List Slice) (text buffer : Bytes) → (check-call working text buffer .answer ≡ check-drivers (map lent working) text buffer)

@@ -3,10 +3,11 @@
 use mathlib.Core.Bool.{Bool, true, false, _&&_, _||_, not as opposite}
 use mathlib.Core.List.{List, [], _∷_}
 use Prim.Native.Nat.{ℕ, zero, suc, _-_, _/_}
-use lib.Dec.{eqb, ltb}
+use lib.Dec.{eqb, ltb, leb}
 use lib.IntN.{ℤ, pos, negsuc, negℤ, _+ℤ_, _-ℤ_, _*ℤ_}
 use Rattle.spec.specs.Syntax.{Unary, neg, not, clog2, Binary, add, sub, mul, eq, ne, lt, le, gt, ge, and, or, shl, shr, band, bor, bxor, Expr, lit, truth, name, field, index, if-else, unary, binary, all, Items, port, wire, reg, mem, const, drive, on, inst, repeat, const-if, Header, kind, val, Module}
 use Rattle.spec.specs.Refusal.{in-int}
+use Rattle.spec.specs.Bits.{bits-and, bits-or, bits-xor, shift-up, shift-down}
 
 -- 01, The value: exact whole numbers; some expressions have none. 01, Refused because of the state: or it is outside INT.
 pub data Value : Type 0 where
@@ -71,7 +72,17 @@ unary-value neg x = within (negℤ x)
 unary-value not x = truth-value (is-zero x)
 unary-value clog2 x = clog2-value x
 
--- 01, The value: operators with two parts. Decision: the five of refusal 8, in no constant place of an accepted text, have no value.
+-- 02, U1: no value: `shl` by a negative amount, and of 0 by 999,999 or more.
+unfoldable pub shl-value : ℤ → ℤ → Value
+shl-value x (pos n) = elim (is-zero x && leb 999999 n) [ true ↦ missing | false ↦ within (shift-up x n) ]
+shl-value x (negsuc n) = missing
+
+-- 02, U1: no value: `shr` by a negative amount.
+unfoldable pub shr-value : ℤ → ℤ → Value
+shr-value x (pos n) = known (shift-down x n)
+shr-value x (negsuc n) = missing
+
+-- 01, The value: operators with two parts. 02, U1: the five on bits; INT is closed under all of them but `shl`.
 unfoldable pub binary-value : Binary → ℤ → ℤ → Value
 binary-value add x y = within (x +ℤ y)
 binary-value sub x y = within (x -ℤ y)
@@ -84,11 +95,11 @@ binary-value gt x y = truth-value (int-lt y x)
 binary-value ge x y = truth-value (opposite (int-lt x y))
 binary-value and x y = truth-value (opposite (is-zero x) && opposite (is-zero y))
 binary-value or x y = truth-value (opposite (is-zero x) || opposite (is-zero y))
-binary-value shl x y = missing
-binary-value shr x y = missing
-binary-value band x y = missing
-binary-value bor x y = missing
-binary-value bxor x y = missing
+binary-value shl x y = shl-value x y
+binary-value shr x y = shr-value x y
+binary-value band x y = known (bits-and x y)
+binary-value bor x y = known (bits-or x y)
+binary-value bxor x y = known (bits-xor x y)
 
 -- 01, The value: a missing operand ends it, and so does one outside INT.
 abbrev pub and-then : Value → (ℤ → Value) → Value
