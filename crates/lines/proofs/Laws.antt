@@ -12,7 +12,7 @@ use lib.Dec.{eqb, ltb}
 use borrow.Author.Tests.{eq-eqb, ne-eqb, lt-ltb, le-ltb, ltb-true, ltb-false}
 use Rattle.lines.specs.Bytes.{classOf, isDigit, isWordly}
 use Rattle.spec.specs.Bytes.{bytes}
-use Rattle.lines.specs.Parse.{lookup-key, key, wordFrom, wordAt, peekAt, moreDigit, digitsFrom, numberAt, numbered, intAt, either, worded, shape, shift, literal, atom, parts-at, form-at, scan}
+use Rattle.lines.specs.Parse.{lookup-key, key, wordFrom, wordAt, moreDigit, digitsFrom, numberAt, numbered, intAt, either, worded, shape, shift, literal, atom, parts-at, form-at, scan}
 use Rattle.lines.specs.declared.parse.Word.{Word}
 use Rattle.lines.specs.declared.parse.Number.the-variants.{None, Is}
 use Rattle.lines.specs.declared.parse.Cat.{Cat}
@@ -205,25 +205,9 @@ module _ (s : List ℕ) (i a : ℕ) where
     unfolding digitsFrom
     digits-more e = rw (add-one i, drop-cons s i 0 h, e, digitsFrom)
 
--- ---- peeking
+-- ---- numbers and literals
 
 module _ (t : List ℕ) (at : ℕ) where
-  pub peek-0 : (getD t at 0 ≡ 32 → ⊥) → false ≡ peekAt t at
-  unfolding peekAt
-  peek-0 f = rw (ne-eqb _ _ f, peekAt)
-
-  pub peek-1 : getD t at 0 ≡ 32 → (getD t (at + 1) 0 ≡ 40 → ⊥) → false ≡ peekAt t at
-  unfolding peekAt
-  peek-1 e f = rw (eq-eqb _ _ e, ne-eqb _ _ f, peekAt)
-
-  pub peek-2 : getD t at 0 ≡ 32 → getD t (at + 1) 0 ≡ 40 → (getD t (at + 2) 0 ≡ 110 → ⊥) → false ≡ peekAt t at
-  unfolding peekAt
-  peek-2 e d f = rw (eq-eqb _ _ e, eq-eqb _ _ d, ne-eqb _ _ f, peekAt)
-
-  pub peek-3 : getD t at 0 ≡ 32 → getD t (at + 1) 0 ≡ 40 → getD t (at + 2) 0 ≡ 110 → eqb (getD t (at + 3) 0) 32 ≡ peekAt t at
-  unfolding peekAt
-  peek-3 e d f = rw (eq-eqb _ _ e, eq-eqb _ _ d, eq-eqb _ _ f, peekAt)
-
   pub number-zero : getD t at 0 ≡ 48 → Is 0 (at + 1) ≡ numberAt t at
   unfolding numberAt
   number-zero e = rw (eq-eqb _ _ e, numberAt)
@@ -256,7 +240,7 @@ module _ (t : List ℕ) (at : ℕ) where
   unfolding literal
   literal-word e = rw (e, literal)
 
-  pub place-single : getD t at 0 ≡ 45 → Good (at + 1) true true ≡ atom X t at
+  pub place-single : getD t at 0 ≡ 45 → Good (at + 1) true ≡ atom X t at
   place-single e = rw (eq-eqb _ _ e, atom)
 
   pub place-at : (getD t at 0 ≡ 45 → ⊥) → literal t at ≡ atom X t at
@@ -278,37 +262,37 @@ unfolding scan
 scan-form zero c t at e f = absurd (f refl)
 scan-form (suc d) c t at e f = rw (eq-eqb _ _ e, sub-one, scan)
 
-module _ (f : Cat → ℕ → Parsed) (t : List ℕ) (q : Shape) (i : ℕ) (range places : Bool) where
-  pub parts-none : (left : ℕ) → left ≤ 0 → Bad ≡ parts-at f left t q i range places
+module _ (f : Cat → ℕ → Parsed) (t : List ℕ) (q : Shape) (i : ℕ) (range : Bool) where
+  pub parts-none : (left : ℕ) → left ≤ 0 → Bad ≡ parts-at f left t q i range
   unfolding parts-at
   parts-none left h = let z : left ≡ 0 = omega arith in rw z
 
   parts-suc : (left : ℕ) → 0 < left → left ≡ suc (left - 1)
   parts-suc left h = omega arith
 
-  pub parts-close : (left : ℕ) → 0 < left → getD t i 0 ≡ 41 → q .need ≡ 0 → Good (i + 1) range places ≡ parts-at f left t q i range places
+  pub parts-close : (left : ℕ) → 0 < left → getD t i 0 ≡ 41 → q .need ≡ 0 → Good (i + 1) range ≡ parts-at f left t q i range
   unfolding parts-at
   parts-close left h e n = rw (parts-suc left h, eq-eqb _ _ e, eq-eqb _ _ n, parts-at)
 
-  pub parts-early : (left : ℕ) → 0 < left → getD t i 0 ≡ 41 → (q .need ≡ 0 → ⊥) → Bad ≡ parts-at f left t q i range places
+  pub parts-early : (left : ℕ) → 0 < left → getD t i 0 ≡ 41 → (q .need ≡ 0 → ⊥) → Bad ≡ parts-at f left t q i range
   unfolding parts-at
   parts-early left h e n = rw (parts-suc left h, eq-eqb _ _ e, ne-eqb _ _ n, parts-at)
 
-  pub parts-junk : (left : ℕ) → 0 < left → (getD t i 0 ≡ 41 → ⊥) → (getD t i 0 ≡ 32 → ⊥) → Bad ≡ parts-at f left t q i range places
+  pub parts-junk : (left : ℕ) → 0 < left → (getD t i 0 ≡ 41 → ⊥) → (getD t i 0 ≡ 32 → ⊥) → Bad ≡ parts-at f left t q i range
   unfolding parts-at
   parts-junk left h e g = rw (parts-suc left h, ne-eqb _ _ e, ne-eqb _ _ g, parts-at)
 
-  pub parts-bad : (left : ℕ) → 0 < left → (getD t i 0 ≡ 41 → ⊥) → getD t i 0 ≡ 32 → f (q .a) (i + 1) ≡ Bad → Bad ≡ parts-at f left t q i range places
+  pub parts-bad : (left : ℕ) → 0 < left → (getD t i 0 ≡ 41 → ⊥) → getD t i 0 ≡ 32 → f (q .a) (i + 1) ≡ Bad → Bad ≡ parts-at f left t q i range
   unfolding parts-at
   parts-bad left h e g b = rw (parts-suc left h, ne-eqb _ _ e, eq-eqb _ _ g, b, parts-at)
 
-  pub parts-more : (left : ℕ) → 0 < left → (getD t i 0 ≡ 41 → ⊥) → getD t i 0 ≡ 32 → (j : ℕ) (r p : Bool) → f (q .a) (i + 1) ≡ Good j r p
-      → parts-at f left t q i range places ≡ parts-at f (left - 1) t (shift q) j (range && r) (places && p)
+  pub parts-more : (left : ℕ) → 0 < left → (getD t i 0 ≡ 41 → ⊥) → getD t i 0 ≡ 32 → (j : ℕ) (r : Bool) → f (q .a) (i + 1) ≡ Good j r
+      → parts-at f left t q i range ≡ parts-at f (left - 1) t (shift q) j (range && r)
   unfolding parts-at
-  parts-more left h e g j r p b = ap (λ (n : ℕ). parts-at f n t q i range places) (parts-suc left h) ∙ rw (ne-eqb _ _ e, eq-eqb _ _ g, b, parts-at)
+  parts-more left h e g j r b = ap (λ (n : ℕ). parts-at f n t q i range) (parts-suc left h) ∙ rw (ne-eqb _ _ e, eq-eqb _ _ g, b, parts-at)
 
 -- a form with its bracket, its word and its shape
-pub form-start : (d : ℕ) (c : Cat) (t : List ℕ) (at : ℕ) (w : Word) (k : Bool) (q : Shape) → getD t at 0 ≡ 40 → (d ≡ 0 → ⊥) → w ≡ wordAt t (at + 1) → k ≡ peekAt t (w .next) → q ≡ shape c (w .key) k
-    → parts-at (λ k i. scan (d - 1) k t i) (length t) t q (w .next) true (q .fine) ≡ scan d c t at
+pub form-start : (d : ℕ) (c : Cat) (t : List ℕ) (at : ℕ) (w : Word) (q : Shape) → getD t at 0 ≡ 40 → (d ≡ 0 → ⊥) → w ≡ wordAt t (at + 1) → q ≡ shape c (w .key)
+    → parts-at (λ k i. scan (d - 1) k t i) (length t) t q (w .next) true ≡ scan d c t at
 unfolding form-at
-form-start d c t at w k q e f g h s = rw (s, h, g) (sym (scan-form d c t at e f))
+form-start d c t at w q e f g s = rw (s, g) (sym (scan-form d c t at e f))

@@ -256,10 +256,6 @@ pub read-below : (l : ℕ) (s : Bytes) {r : Num} {n : ℕ} → r ≡ num-of l s 
 read-below l s {r} {n} q e = let h : Below l r = rw q (num-below l s) in rw e at h
 
 -- ---- `integer`, one law for each way: with a minus, and without
-same-tail : (c : ℕ) (s t : Bytes) → same-bytes (c ∷ s) (c ∷ t) ≡ same-bytes s t
-unfolding same-bytes
-same-tail c s t = rw (eq-eqb c c refl, same-bytes)
-
 -- what is read of bytes that are to show n, or z
 unfoldable num-by : ℕ → ℕ → Bytes → Num
 num-by limit n s = elim (same-bytes s (show-number n)) [ true ↦ elim (ltb n limit) [ true ↦ Is n | false ↦ Large ] | false ↦ Bad ]

@@ -173,41 +173,37 @@ pub written-3 : (t : Bytes) (at : ℕ) → closesAt 1 (drop at t) ≡ false → 
 unfolding notWritten
 written-3 t at e = rw (e, notWritten)
 
-module _ (t : Bytes) (at feed : ℕ) (places : Bool) (modules : ℕ) (items : Bool) (seen : List ℕ) where
-  pub head-module : wordAt t at .key ≡ key (bytes "module") → moduleStep (numberAfter t (wordAt t at .next)) modules feed ≡ headStep t at feed places modules items seen
+module _ (t : Bytes) (at feed modules : ℕ) (items : Bool) (seen : List ℕ) where
+  pub head-module : wordAt t at .key ≡ key (bytes "module") → moduleStep (numberAfter t (wordAt t at .next)) modules feed ≡ headStep t at feed modules items seen
   unfolding headStep
   head-module e = rw (eq-eqb (wordAt t at .key) (key (bytes "module")) e, headStep)
 
   module _ (m : wordAt t at .key ≡ key (bytes "module") → ⊥) where
-    pub head-none : modules ≡ 0 → Fault 6 ≡ headStep t at feed places modules items seen
+    pub head-none : modules ≡ 0 → Fault 6 ≡ headStep t at feed modules items seen
     unfolding headStep
     head-none z = rw (ne-eqb (wordAt t at .key) (key (bytes "module")) m, eq-eqb modules 0 z, headStep)
 
     module _ (z : modules ≡ 0 → ⊥) where
-      pub head-late : wordAt t at .key ≡ key (bytes "kind") → items ≡ true → Fault 6 ≡ headStep t at feed places modules items seen
+      pub head-late : wordAt t at .key ≡ key (bytes "kind") → items ≡ true → Fault 6 ≡ headStep t at feed modules items seen
       unfolding headStep
       head-late e i = rw (ne-eqb (wordAt t at .key) (key (bytes "module")) m, ne-eqb modules 0 z, eq-eqb (wordAt t at .key) (key (bytes "kind")) e, i, headStep)
 
-      pub head-kind : wordAt t at .key ≡ key (bytes "kind") → items ≡ false → kindStep (numberAfter t (wordAt t at .next)) seen feed ≡ headStep t at feed places modules items seen
+      pub head-kind : wordAt t at .key ≡ key (bytes "kind") → items ≡ false → kindStep (numberAfter t (wordAt t at .next)) seen feed ≡ headStep t at feed modules items seen
       unfolding headStep
       head-kind e i = rw (ne-eqb (wordAt t at .key) (key (bytes "module")) m, ne-eqb modules 0 z, eq-eqb (wordAt t at .key) (key (bytes "kind")) e, i, headStep)
 
       module _ (k : wordAt t at .key ≡ key (bytes "kind") → ⊥) where
-        pub head-val-late : wordAt t at .key ≡ key (bytes "val") → items ≡ true → Fault 6 ≡ headStep t at feed places modules items seen
+        pub head-val-late : wordAt t at .key ≡ key (bytes "val") → items ≡ true → Fault 6 ≡ headStep t at feed modules items seen
         unfolding headStep
         head-val-late e i = rw (ne-eqb (wordAt t at .key) (key (bytes "module")) m, ne-eqb modules 0 z, ne-eqb (wordAt t at .key) (key (bytes "kind")) k, eq-eqb (wordAt t at .key) (key (bytes "val")) e, i, headStep)
 
-        pub head-val : wordAt t at .key ≡ key (bytes "val") → items ≡ false → Val feed ≡ headStep t at feed places modules items seen
+        pub head-val : wordAt t at .key ≡ key (bytes "val") → items ≡ false → Val feed ≡ headStep t at feed modules items seen
         unfolding headStep
         head-val e i = rw (ne-eqb (wordAt t at .key) (key (bytes "module")) m, ne-eqb modules 0 z, ne-eqb (wordAt t at .key) (key (bytes "kind")) k, eq-eqb (wordAt t at .key) (key (bytes "val")) e, i, headStep)
 
-        pub head-item : (wordAt t at .key ≡ key (bytes "val") → ⊥) → places ≡ true → Item feed ≡ headStep t at feed places modules items seen
+        pub head-item : (wordAt t at .key ≡ key (bytes "val") → ⊥) → Item feed ≡ headStep t at feed modules items seen
         unfolding headStep
-        head-item v p = rw (ne-eqb (wordAt t at .key) (key (bytes "module")) m, ne-eqb modules 0 z, ne-eqb (wordAt t at .key) (key (bytes "kind")) k, ne-eqb (wordAt t at .key) (key (bytes "val")) v, p, headStep)
-
-        pub head-bitwise : (wordAt t at .key ≡ key (bytes "val") → ⊥) → places ≡ false → Fault 8 ≡ headStep t at feed places modules items seen
-        unfolding headStep
-        head-bitwise v p = rw (ne-eqb (wordAt t at .key) (key (bytes "module")) m, ne-eqb modules 0 z, ne-eqb (wordAt t at .key) (key (bytes "kind")) k, ne-eqb (wordAt t at .key) (key (bytes "val")) v, p, headStep)
+        head-item v = rw (ne-eqb (wordAt t at .key) (key (bytes "module")) m, ne-eqb modules 0 z, ne-eqb (wordAt t at .key) (key (bytes "kind")) k, ne-eqb (wordAt t at .key) (key (bytes "val")) v, headStep)
 
 module _ (t : Bytes) (at modules : ℕ) (items : Bool) (seen : List ℕ) where
   pub line-no-form : (getD t at 0 ≡ 40 → ⊥) → Fault 3 ≡ lineStep t at modules items seen
@@ -219,7 +215,7 @@ module _ (t : Bytes) (at modules : ℕ) (items : Bool) (seen : List ℕ) where
     unfolding lineStep
     line-bad e = rw (eq-eqb (getD t at 0) 40 o, e, lineStep)
 
-    module _ (j : ℕ) (range places : Bool) (e : scan 32 L t at ≡ Good j range places) where
+    module _ (j : ℕ) (range : Bool) (e : scan 32 L t at ≡ Good j range) where
       pub line-junk : (getD t j 0 ≡ 10 → ⊥) → Fault (notWritten t (at + 1)) ≡ lineStep t at modules items seen
       unfolding lineStep
       line-junk f = rw (eq-eqb (getD t at 0) 40 o, e, lineStep) (rw (ne-eqb (getD t j 0) 10 f, parsedStep))
@@ -228,6 +224,6 @@ module _ (t : Bytes) (at modules : ℕ) (items : Bool) (seen : List ℕ) where
       unfolding lineStep
       line-large f r = rw (eq-eqb (getD t at 0) 40 o, e, lineStep) (rw (eq-eqb (getD t j 0) 10 f, r, parsedStep))
 
-      pub line-head : getD t j 0 ≡ 10 → range ≡ true → headStep t (at + 1) j places modules items seen ≡ lineStep t at modules items seen
+      pub line-head : getD t j 0 ≡ 10 → range ≡ true → headStep t (at + 1) j modules items seen ≡ lineStep t at modules items seen
       unfolding lineStep
       line-head f r = rw (eq-eqb (getD t at 0) 40 o, e, lineStep) (rw (eq-eqb (getD t j 0) 10 f, r, parsedStep))

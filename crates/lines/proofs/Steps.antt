@@ -16,7 +16,7 @@ use Rattle.spec.specs.Syntax.{name-bound, Item, port, wire, reg, mem, const, dr
 use Rattle.spec.specs.Syntax as Syntax
 use Rattle.spec.specs.Show.{show-kind, show-bound, show-header, show-line, show-item}
 use Rattle.spec.specs.Decode.{depth-limit, decode-line}
-use Rattle.spec.specs.Refusal.{lines, ends-in-feed, closes, one-form, written, line-in-range, Before, in-place, has-name, first-kind, line-places, tree-fault, line-fault, line-depth}
+use Rattle.spec.specs.Refusal.{lines, ends-in-feed, closes, one-form, written, line-in-range, Before, in-place, has-name, first-kind, tree-fault, line-fault, line-depth}
 use Rattle.spec.proofs.Parts.{AllIn}
 use Rattle.spec.proofs.Shown.{decode-show-line, show-line-form, show-line-set, same-self}
 use Rattle.lines.specs.Bytes.{classOf}
@@ -31,7 +31,7 @@ use Rattle.lines.specs.declared.parse.Number.the-variants.{Is}
 use Rattle.lines.specs.declared.read.Step.{Step}
 use Rattle.lines.specs.declared.read.Step.the-variants.{Fault, Module, Kind, Val, Item as ItemStep}
 use Rattle.lines.proofs.Laws.{if-case}
-use Rattle.lines.proofs.ReadLaws.{head-module, head-none, head-late, head-kind, head-val-late, head-val, head-item, head-bitwise, after-some}
+use Rattle.lines.proofs.ReadLaws.{head-module, head-none, head-late, head-kind, head-val-late, head-val, head-item, after-some}
 use Rattle.lines.proofs.Spelled.{at-cons, cons-at, cons-next, span-next, all-wordly, word-fine, word-there, Caps, number-there}
 use Rattle.lines.proofs.Atoms.{Found, bad-not, good-inj}
 use Rattle.lines.proofs.Formed.{item-word}
@@ -130,7 +130,7 @@ form-here t i (c ∷ x) r e o f =
     rw g (sym (closes-line 0 x r (f .1)) ∙ ap (closesAt 1) (sym (cons-next t i c (x ++ 10 ∷ r) e)))
 
 -- a line that is not read is not written
-module _ (t : Bytes) (i : ℕ) (x r : Bytes) (span : drop i t ≡ x ++ 10 ∷ r) (miss : (j : ℕ) (a p : Bool) → scan depth-limit L t i ≡ Good j a p → getD t j 0 ≡ 10 → ⊥) where
+module _ (t : Bytes) (i : ℕ) (x r : Bytes) (span : drop i t ≡ x ++ 10 ∷ r) (miss : (j : ℕ) (a : Bool) → scan depth-limit L t i ≡ Good j a → getD t j 0 ≡ 10 → ⊥) where
   not-read : one-form x ≡ true → written x ≡ false
   unfolding written classOf
   not-read o = go (written x) refl
@@ -142,7 +142,7 @@ module _ (t : Bytes) (i : ℕ) (x r : Bytes) (span : drop i t ≡ x ++ 10 ∷ r)
           let s : x ≡ show-line l = same-eq x (show-line l) e in
           let h : leb (line-depth l) depth-limit ≡ true = sym (show-line-form l) ∙ ap one-form (sym s) ∙ o in
           let g : drop i t ≡ show-line l ++ 10 ∷ r = span ∙ ap (λ (y : Bytes). y ++ 10 ∷ r) s in
-          absurd (miss (i + length (show-line l)) (line-in-range l) (line-places l) (complete depth-limit t L l i (10 ∷ r) g refl (leb-true (line-depth l) depth-limit h)) (cons-at t (i + length (show-line l)) 10 r (span-next t i (show-line l) (10 ∷ r) g)))
+          absurd (miss (i + length (show-line l)) (line-in-range l) (complete depth-limit t L l i (10 ∷ r) g refl (leb-true (line-depth l) depth-limit h)) (cons-at t (i + length (show-line l)) 10 r (span-next t i (show-line l) (10 ∷ r) g)))
 
   -- its fault is 3 or 4
   unread-fault : (b : Before) → getD t i 0 ≡ 40 → NoFeed x → line-fault b x ≡ notWritten t (i + 1)
@@ -257,13 +257,9 @@ module _ (b : Before) where
   unfolding tree-fault
   fault-first l r p f = rw (r, p, f, tree-fault)
 
-  fault-places : (l : Line) → line-in-range l ≡ true → in-place b l ≡ true → first-kind b l ≡ true → line-places l ≡ false → tree-fault b l ≡ 8
+  fault-none : (l : Line) → line-in-range l ≡ true → in-place b l ≡ true → first-kind b l ≡ true → tree-fault b l ≡ 0
   unfolding tree-fault
-  fault-places l r p f q = rw (r, p, f, q, tree-fault)
-
-  fault-none : (l : Line) → line-in-range l ≡ true → in-place b l ≡ true → first-kind b l ≡ true → line-places l ≡ true → tree-fault b l ≡ 0
-  unfolding tree-fault
-  fault-none l r p f q = rw (r, p, f, q, tree-fault)
+  fault-none l r p f = rw (r, p, f, tree-fault)
 
   fault-range : (l : Line) → line-in-range l ≡ false → tree-fault b l ≡ 5
   unfolding tree-fault
@@ -271,7 +267,7 @@ module _ (b : Before) where
 
 module _ (t : Bytes) (i j : ℕ) (b : Before) (small : b .modules ≤ 32) where
   module-case : (m : ℕ) (bd : Bool) → Wrote t i j (module-line m bd) → (v k : ℕ) → eqb v (b .modules) ≡ eqb m (b .modules) → Right t i b (moduleStep (Is v k) (b .modules) j)
-  unfolding line-in-range in-place first-kind line-places
+  unfolding line-in-range in-place first-kind
   module-case m bd w v k s = go (eqb m (b .modules)) refl (leb 32 (b .modules)) refl
     where
       go : (x : Bool) → eqb m (b .modules) ≡ x → (y : Bool) → leb 32 (b .modules) ≡ y → Right t i b (moduleStep (Is v k) (b .modules) j)
@@ -284,21 +280,21 @@ module _ (t : Bytes) (i j : ℕ) (b : Before) (small : b .modules ≤ 32) where
           let u = s ∙ p in
           let h = leb-false 32 (b .modules) q in
           let e = eqb-true m (b .modules) p in
-          rw (u, q, moduleStep) (bd, rw e at (wrote-passes t i j (module-line m bd) b w (fault-none b (module-line m bd) refl p (lt-ltb (b .modules) 32 h) refl)), h)
+          rw (u, q, moduleStep) (bd, rw e at (wrote-passes t i j (module-line m bd) b w (fault-none b (module-line m bd) refl p (lt-ltb (b .modules) 32 h))), h)
 
   module _ (seen : List ℕ) (agree : Seen seen (b .kinds)) where
-    module-right : (m : ℕ) (bd p : Bool) → Wrote t i j (module-line m bd) → Right t i b (headStep t (i + 1) j p (b .modules) (b .has-item) seen)
+    module-right : (m : ℕ) (bd : Bool) → Wrote t i j (module-line m bd) → Right t i b (headStep t (i + 1) j (b .modules) (b .has-item) seen)
     unfolding show-line all-wordly classOf
-    module-right m bd p w =
+    module-right m bd w =
         let h = headed t i (bytes "module") (show-number m ∷ show-bound bd ∷ []) (10 ∷ drop (j + 1) t) refl (w .span) in
         let n = first-number t (i + 1 + 6) m (show-bound bd ∷ []) (10 ∷ drop (j + 1) t) (h .1) in
         let k : wordAt t (i + 1) .key ≡ key (bytes "module") = ap (λ (x : Word). x .key) (h .0) in
-        let e : moduleStep (Is (n .value) (n .next)) (b .modules) j ≡ headStep t (i + 1) j p (b .modules) (b .has-item) seen = ap (λ (x : Number). moduleStep x (b .modules) j) (sym (ap (λ (x : Word). numberAfter t (x .next)) (h .0) ∙ n .is)) ∙ head-module t (i + 1) j p (b .modules) (b .has-item) seen k in
+        let e : moduleStep (Is (n .value) (n .next)) (b .modules) j ≡ headStep t (i + 1) j (b .modules) (b .has-item) seen = ap (λ (x : Number). moduleStep x (b .modules) j) (sym (ap (λ (x : Word). numberAfter t (x .next)) (h .0) ∙ n .is)) ∙ head-module t (i + 1) j (b .modules) (b .has-item) seen k in
         rw (← e) (module-case m bd w (n .value) (n .next) (caps-same (n .value) m (b .modules) small (n .caps)))
 
     -- a name's first kind, or its second
     kind-case : (n : ℕ) (k : Syntax.Kind) → n < name-bound → (0 < b .modules) → b .has-item ≡ false → Wrote t i j (header-line (kind n k)) → (x : ℕ) → Right t i b (kindStep (Is n x) seen j)
-    unfolding line-in-range in-place first-kind line-places
+    unfolding line-in-range in-place first-kind
     kind-case n k s m z w x = go (has-name n (b .kinds)) refl
       where
         here : in-place b (header-line (kind n k)) ≡ true
@@ -310,11 +306,11 @@ module _ (t : Bytes) (i j : ℕ) (b : Before) (small : b .modules ≤ 32) where
             rw (lt-leb name-bound n s, u, kindStep) (wrote-fails t i j (header-line (kind n k)) b 7 w (fault-first b (header-line (kind n k)) (lt-ltb n name-bound s) here (ap opposite p)) (omega arith))
         go false p =
             let u : eqb (getD seen n 0) 0 ≡ true = agree n s ∙ ap opposite p in
-            rw (lt-leb name-bound n s, u, kindStep) (k, wrote-passes t i j (header-line (kind n k)) b w (fault-none b (header-line (kind n k)) (lt-ltb n name-bound s) here (ap opposite p) refl), s)
+            rw (lt-leb name-bound n s, u, kindStep) (k, wrote-passes t i j (header-line (kind n k)) b w (fault-none b (header-line (kind n k)) (lt-ltb n name-bound s) here (ap opposite p)), s)
 
-    kind-right : (n : ℕ) (k : Syntax.Kind) (p : Bool) → n < name-bound → Wrote t i j (header-line (kind n k)) → Right t i b (headStep t (i + 1) j p (b .modules) (b .has-item) seen)
+    kind-right : (n : ℕ) (k : Syntax.Kind) → n < name-bound → Wrote t i j (header-line (kind n k)) → Right t i b (headStep t (i + 1) j (b .modules) (b .has-item) seen)
     unfolding show-line show-header all-wordly classOf line-in-range in-place key code-after
-    kind-right n k p s w = go (eqb (b .modules) 0) refl (b .has-item) refl
+    kind-right n k s w = go (eqb (b .modules) 0) refl (b .has-item) refl
       where
         h : (wordAt t (i + 1) ≡ record { key = key (bytes "kind"); next = i + 1 + 4 }) × (drop (i + 1 + 4) t ≡ show-rest (show-number n ∷ show-kind k ∷ []) ++ 10 ∷ drop (j + 1) t)
         h = headed t i (bytes "kind") (show-number n ∷ show-kind k ∷ []) (10 ∷ drop (j + 1) t) refl (w .span)
@@ -328,23 +324,23 @@ module _ (t : Bytes) (i j : ℕ) (b : Before) (small : b .modules ≤ 32) where
         f : Numbered t (i + 1 + 4) n
         f = first-number t (i + 1 + 4) n (show-kind k ∷ []) (10 ∷ drop (j + 1) t) (h .1)
 
-        go : (x : Bool) → eqb (b .modules) 0 ≡ x → (y : Bool) → b .has-item ≡ y → Right t i b (headStep t (i + 1) j p (b .modules) (b .has-item) seen)
+        go : (x : Bool) → eqb (b .modules) 0 ≡ x → (y : Bool) → b .has-item ≡ y → Right t i b (headStep t (i + 1) j (b .modules) (b .has-item) seen)
         go true q y r =
             let e = eqb-true (b .modules) 0 q in
-            rw (← head-none t (i + 1) j p (b .modules) (b .has-item) seen no e)
+            rw (← head-none t (i + 1) j (b .modules) (b .has-item) seen no e)
             (wrote-fails t i j (header-line (kind n k)) b 6 w (fault-place b (header-line (kind n k)) (lt-ltb n name-bound s) (rw (le-ltb 0 (b .modules) (omega arith)))) (omega arith))
         go false q true r =
-            rw (← head-late t (i + 1) j p (b .modules) (b .has-item) seen no (eqb-false (b .modules) 0 q) is r)
+            rw (← head-late t (i + 1) j (b .modules) (b .has-item) seen no (eqb-false (b .modules) 0 q) is r)
             (wrote-fails t i j (header-line (kind n k)) b 6 w (fault-place b (header-line (kind n k)) (lt-ltb n name-bound s) (rw r (and-false (ltb 0 (b .modules))))) (omega arith))
         go false q false r =
             let m = eqb-false (b .modules) 0 q in
             let g : numberAfter t (wordAt t (i + 1) .next) ≡ Is n (f .next) = ap (λ (x : Word). numberAfter t (x .next)) (h .0) ∙ f .is ∙ ap (λ (v : ℕ). Is v (f .next)) (caps-small (f .value) n s (f .caps)) in
-            let e : kindStep (Is n (f .next)) seen j ≡ headStep t (i + 1) j p (b .modules) (b .has-item) seen = ap (λ (x : Number). kindStep x seen j) (sym g) ∙ head-kind t (i + 1) j p (b .modules) (b .has-item) seen no m is r in
+            let e : kindStep (Is n (f .next)) seen j ≡ headStep t (i + 1) j (b .modules) (b .has-item) seen = ap (λ (x : Number). kindStep x seen j) (sym g) ∙ head-kind t (i + 1) j (b .modules) (b .has-item) seen no m is r in
             rw (← e) (kind-case n k s (omega arith) r w (f .next))
 
-    val-right : (n : ℕ) (v : ℤ) (p : Bool) → line-in-range (header-line (val n v)) ≡ true → Wrote t i j (header-line (val n v)) → Right t i b (headStep t (i + 1) j p (b .modules) (b .has-item) seen)
-    unfolding show-line show-header all-wordly classOf in-place first-kind line-places key code-after
-    val-right n v p s w = go (eqb (b .modules) 0) refl (b .has-item) refl
+    val-right : (n : ℕ) (v : ℤ) → line-in-range (header-line (val n v)) ≡ true → Wrote t i j (header-line (val n v)) → Right t i b (headStep t (i + 1) j (b .modules) (b .has-item) seen)
+    unfolding show-line show-header all-wordly classOf in-place first-kind key code-after
+    val-right n v s w = go (eqb (b .modules) 0) refl (b .has-item) refl
       where
         h : (wordAt t (i + 1) ≡ record { key = key (bytes "val"); next = i + 1 + 3 }) × (drop (i + 1 + 3) t ≡ show-rest (show-number n ∷ show-int v ∷ []) ++ 10 ∷ drop (j + 1) t)
         h = headed t i (bytes "val") (show-number n ∷ show-int v ∷ []) (10 ∷ drop (j + 1) t) refl (w .span)
@@ -358,37 +354,33 @@ module _ (t : Bytes) (i j : ℕ) (b : Before) (small : b .modules ≤ 32) where
         nok : wordAt t (i + 1) .key ≡ key (bytes "kind") → ⊥
         nok e = let z : _≡_ {A = ℕ} (key (bytes "val")) (key (bytes "kind")) = sym is ∙ e in omega arith
 
-        go : (x : Bool) → eqb (b .modules) 0 ≡ x → (y : Bool) → b .has-item ≡ y → Right t i b (headStep t (i + 1) j p (b .modules) (b .has-item) seen)
+        go : (x : Bool) → eqb (b .modules) 0 ≡ x → (y : Bool) → b .has-item ≡ y → Right t i b (headStep t (i + 1) j (b .modules) (b .has-item) seen)
         go true q y r =
             let e = eqb-true (b .modules) 0 q in
-            rw (← head-none t (i + 1) j p (b .modules) (b .has-item) seen no e)
+            rw (← head-none t (i + 1) j (b .modules) (b .has-item) seen no e)
             (wrote-fails t i j (header-line (val n v)) b 6 w (fault-place b (header-line (val n v)) s (rw (le-ltb 0 (b .modules) (omega arith)))) (omega arith))
         go false q true r =
-            rw (← head-val-late t (i + 1) j p (b .modules) (b .has-item) seen no (eqb-false (b .modules) 0 q) nok is r)
+            rw (← head-val-late t (i + 1) j (b .modules) (b .has-item) seen no (eqb-false (b .modules) 0 q) nok is r)
             (wrote-fails t i j (header-line (val n v)) b 6 w (fault-place b (header-line (val n v)) s (rw r (and-false (ltb 0 (b .modules))))) (omega arith))
         go false q false r =
             let m = eqb-false (b .modules) 0 q in
-            rw (← head-val t (i + 1) j p (b .modules) (b .has-item) seen no m nok is r)
-            (n, v, wrote-passes t i j (header-line (val n v)) b w (fault-none b (header-line (val n v)) s (rw (lt-ltb 0 (b .modules) (omega arith), r)) refl refl))
+            rw (← head-val t (i + 1) j (b .modules) (b .has-item) seen no m nok is r)
+            (n, v, wrote-passes t i j (header-line (val n v)) b w (fault-none b (header-line (val n v)) s (rw (lt-ltb 0 (b .modules) (omega arith), r)) refl))
 
     item-case : (x : Item) → line-in-range (item-line x) ≡ true → Wrote t i j (item-line x) → (wordAt t (i + 1) .key ≡ key (bytes "module") → ⊥) → (wordAt t (i + 1) .key ≡ key (bytes "kind") → ⊥) → (wordAt t (i + 1) .key ≡ key (bytes "val") → ⊥)
-        → Right t i b (headStep t (i + 1) j (line-places (item-line x)) (b .modules) (b .has-item) seen)
+        → Right t i b (headStep t (i + 1) j (b .modules) (b .has-item) seen)
     unfolding in-place first-kind
-    item-case x s w nom nok nov = go (eqb (b .modules) 0) refl (line-places (item-line x)) refl
+    item-case x s w nom nok nov = go (eqb (b .modules) 0) refl
       where
-        go : (u : Bool) → eqb (b .modules) 0 ≡ u → (y : Bool) → line-places (item-line x) ≡ y → Right t i b (headStep t (i + 1) j (line-places (item-line x)) (b .modules) (b .has-item) seen)
-        go true q y r =
+        go : (u : Bool) → eqb (b .modules) 0 ≡ u → Right t i b (headStep t (i + 1) j (b .modules) (b .has-item) seen)
+        go true q =
             let e = eqb-true (b .modules) 0 q in
-            rw (← head-none t (i + 1) j (line-places (item-line x)) (b .modules) (b .has-item) seen nom e)
+            rw (← head-none t (i + 1) j (b .modules) (b .has-item) seen nom e)
             (wrote-fails t i j (item-line x) b 6 w (fault-place b (item-line x) s (le-ltb 0 (b .modules) (omega arith))) (omega arith))
-        go false q true r =
+        go false q =
             let m = eqb-false (b .modules) 0 q in
-            rw (← head-item t (i + 1) j (line-places (item-line x)) (b .modules) (b .has-item) seen nom m nok nov r)
-            (x, wrote-passes t i j (item-line x) b w (fault-none b (item-line x) s (lt-ltb 0 (b .modules) (omega arith)) refl r))
-        go false q false r =
-            let m = eqb-false (b .modules) 0 q in
-            rw (← head-bitwise t (i + 1) j (line-places (item-line x)) (b .modules) (b .has-item) seen nom m nok nov r)
-            (wrote-fails t i j (item-line x) b 8 w (fault-places b (item-line x) s (lt-ltb 0 (b .modules) (omega arith)) refl r) (omega arith))
+            rw (← head-item t (i + 1) j (b .modules) (b .has-item) seen nom m nok nov)
+            (x, wrote-passes t i j (item-line x) b w (fault-none b (item-line x) s (lt-ltb 0 (b .modules) (omega arith)) refl))
 
 -- the head of an item
 item-head : (x : Item) (t : Bytes) (i : ℕ) (z : Bytes) → drop i t ≡ show-item x ++ z → wordAt t (i + 1) .key ≡ key (item-word x)
@@ -418,18 +410,18 @@ item-other (repeat n l h is) = (λ z. omega arith, λ z. omega arith, λ z. omeg
 item-other (const-if c is js) = (λ z. omega arith, λ z. omega arith, λ z. omega arith)
 
 module _ (t : Bytes) (i : ℕ) (b : Before) (small : b .modules ≤ 32) (seen : List ℕ) (agree : Seen seen (b .kinds)) where
-  head-right : (j : ℕ) (l : Line) → line-in-range l ≡ true → Wrote t i j l → Right t i b (headStep t (i + 1) j (line-places l) (b .modules) (b .has-item) seen)
+  head-right : (j : ℕ) (l : Line) → line-in-range l ≡ true → Wrote t i j l → Right t i b (headStep t (i + 1) j (b .modules) (b .has-item) seen)
   unfolding line-in-range show-line
-  head-right j (module-line m bd) s w = module-right t i j b small seen agree m bd (line-places (module-line m bd)) w
-  head-right j (header-line (kind n k)) s w = kind-right t i j b small seen agree n k (line-places (header-line (kind n k))) (ltb-true n name-bound s) w
-  head-right j (header-line (val n v)) s w = val-right t i j b small seen agree n v (line-places (header-line (val n v))) s w
+  head-right j (module-line m bd) s w = module-right t i j b small seen agree m bd w
+  head-right j (header-line (kind n k)) s w = kind-right t i j b small seen agree n k (ltb-true n name-bound s) w
+  head-right j (header-line (val n v)) s w = val-right t i j b small seen agree n v s w
   head-right j (item-line x) s w =
       let h = item-head x t i (10 ∷ drop (j + 1) t) (w .span) in
       let o = item-other x in
       item-case t i j b small seen agree x s w (λ e. o .0 (sym h ∙ e)) (λ e. o .1 (sym h ∙ e)) (λ e. o .2 (sym h ∙ e))
 
   -- a line that `scan` does not read to its feed
-  unread : Split (drop i t) → getD t i 0 ≡ 40 → ((j : ℕ) (a p : Bool) → scan depth-limit L t i ≡ Good j a p → getD t j 0 ≡ 10 → ⊥) → Failed t i b (notWritten t (i + 1))
+  unread : Split (drop i t) → getD t i 0 ≡ 40 → ((j : ℕ) (a : Bool) → scan depth-limit L t i ≡ Good j a → getD t j 0 ≡ 10 → ⊥) → Failed t i b (notWritten t (i + 1))
   unread s o miss = record {
     line = s .line;
     others = lines (s .rest);
@@ -450,22 +442,22 @@ module _ (t : Bytes) (i : ℕ) (b : Before) (small : b .modules ≤ 32) (seen : 
 
       go : (o : Bool) → eqb (getD t i 0) 40 ≡ o → (x : Parsed) → scan depth-limit L t i ≡ x → Right t i b (lineStep t i (b .modules) (b .has-item) seen)
       go false o x q = rw (o, lineStep) (record { line = s .line; others = lines (s .rest); rows = s .rows; fault = no-form-fault t i (s .line) (s .rest) (s .span) b (eqb-false (getD t i 0) 40 o); above = omega arith })
-      go true o Bad q = rw (o, q, lineStep) (unread s (eqb-true (getD t i 0) 40 o) (λ j a p f _. bad-not (sym q ∙ f)))
-      go true o (Good j a p) q = rw (o, q, lineStep) (ends (eqb (getD t j 0) 10) refl)
+      go true o Bad q = rw (o, q, lineStep) (unread s (eqb-true (getD t i 0) 40 o) (λ j a f _. bad-not (sym q ∙ f)))
+      go true o (Good j a) q = rw (o, q, lineStep) (ends (eqb (getD t j 0) 10) refl)
         where
-          f : Found depth-limit L t i j a p
-          f = sound depth-limit t L i j a p q
+          f : Found depth-limit L t i j a
+          f = sound depth-limit t L i j a q
 
           here : getD t j 0 ≡ 10 → Wrote t i j (f .tree)
           here z = record { span = f .span ∙ ap (λ (y : Bytes). show-line (f .tree) ++ y) (at-cons t j 10 z (λ u. omega arith)); feed = z; deep = f .deep }
 
-          ends : (y : Bool) → eqb (getD t j 0) 10 ≡ y → Right t i b (parsedStep (Good j a p) t i (b .modules) (b .has-item) seen)
-          ends false z = rw (z, parsedStep) (unread s (eqb-true (getD t i 0) 40 o) (λ k c d g u. eqb-false (getD t j 0) 10 z (ap (λ (m : ℕ). getD t m 0) (good-inj (sym q ∙ g) .0) ∙ u)))
+          ends : (y : Bool) → eqb (getD t j 0) 10 ≡ y → Right t i b (parsedStep (Good j a) t i (b .modules) (b .has-item) seen)
+          ends false z = rw (z, parsedStep) (unread s (eqb-true (getD t i 0) 40 o) (λ k c g u. eqb-false (getD t j 0) 10 z (ap (λ (m : ℕ). getD t m 0) (good-inj (sym q ∙ g) .0) ∙ u)))
           ends true z = in-range a (f .ranged)
             where
               w : Wrote t i j (f .tree)
               w = here (eqb-true (getD t j 0) 10 z)
 
-              in-range : (c : Bool) → line-in-range (f .tree) ≡ c → Right t i b (elim (eqb (getD t j 0) 10) as (λ _. Step) [ true ↦ elim c as (λ _. Step) [ true ↦ headStep t (i + 1) j p (b .modules) (b .has-item) seen | false ↦ Fault 5 ] | false ↦ Fault (notWritten t (i + 1)) ])
+              in-range : (c : Bool) → line-in-range (f .tree) ≡ c → Right t i b (elim (eqb (getD t j 0) 10) as (λ _. Step) [ true ↦ elim c as (λ _. Step) [ true ↦ headStep t (i + 1) j (b .modules) (b .has-item) seen | false ↦ Fault 5 ] | false ↦ Fault (notWritten t (i + 1)) ])
               in-range false g = rw z (wrote-fails t i j (f .tree) b 5 w (fault-range b (f .tree) g) (omega arith))
-              in-range true g = rw (z, ← f .placed) (head-right j (f .tree) g w)
+              in-range true g = rw z (head-right j (f .tree) g w)

@@ -10,10 +10,8 @@ use Rattle.spec.specs.Bytes.{Bytes, bytes, show-number, show-int, show-form}
 use Rattle.spec.specs.Syntax.{name-bound, module-bound, number-bound, Expr, name, index, Stmts, Stmt, Items, Item, Width, LValue, Place, Conn, Line}
 use Rattle.spec.specs.Syntax as Syntax
 use Rattle.spec.specs.Show.{show-kind, show-expr, show-width, show-lvalue, show-stmt, show-stmts, show-dir, show-place, show-item, show-items, show-bound, show-line}
-use Rattle.spec.specs.Refusal.{expr-in-range, width-in-range, index-in-range, stmt-in-range, stmts-in-range, place-in-range, item-in-range, items-in-range, in-int, line-in-range, constant, field-place, read-places, width-places, index-places, place-places, item-places, items-places, line-places, expr-depth, width-depth, index-depth, stmt-depth, stmts-depth, place-depth, item-depth, items-depth, line-depth}
+use Rattle.spec.specs.Refusal.{expr-in-range, width-in-range, index-in-range, stmt-in-range, stmts-in-range, place-in-range, item-in-range, items-in-range, in-int, line-in-range, expr-depth, width-depth, index-depth, stmt-depth, stmts-depth, place-depth, item-depth, items-depth, line-depth}
 use Rattle.lines.specs.Parse.{shift}
-use Rattle.lines.specs.declared.parse.Mode.{Mode}
-use Rattle.lines.specs.declared.parse.Mode.the-variants.{Read, Field, Constant}
 use Rattle.lines.specs.declared.parse.Cat.{Cat}
 use Rattle.lines.specs.declared.parse.Cat.the-variants.{Name, Start, Mod, Count, Int, Kind, Dir, Bound, E, X, T, Lv, C, S, I, ThenS, ElseS, ThenI, ElseI, L, Nothing}
 use Rattle.lines.specs.declared.parse.Shape.{Shape}
@@ -27,7 +25,7 @@ Tree Int = ℤ
 Tree Kind = Syntax.Kind
 Tree Dir = Syntax.Dir
 Tree Bound = Bool
-Tree (E m) = Expr
+Tree E = Expr
 Tree X = Place
 Tree T = Width
 Tree Lv = LValue
@@ -50,7 +48,7 @@ show Int i = show-int i
 show Kind k = show-kind k
 show Dir d = show-dir d
 show Bound b = show-bound b
-show (E m) e = show-expr e
+show E e = show-expr e
 show X p = show-place p
 show T w = show-width w
 show Lv lv = show-lvalue lv
@@ -73,7 +71,7 @@ range Int i = in-int i
 range Kind k = true
 range Dir d = true
 range Bound b = true
-range (E m) e = expr-in-range e
+range E e = expr-in-range e
 range X p = place-in-range p
 range T w = width-in-range w
 range Lv lv = ltb (lv .name) name-bound && ltb (lv .start) number-bound && index-in-range (lv .index)
@@ -87,34 +85,6 @@ range ElseI is = items-in-range is
 range L l = line-in-range l
 range Nothing x = absurd x
 
-abbrev pub mode-places : Mode → Expr → Bool
-mode-places Read e = read-places e
-mode-places Field e = field-place e && read-places e
-mode-places Constant e = constant e
-
-abbrev pub places : (c : Cat) → Tree c → Bool
-places Name n = true
-places Start n = true
-places Mod n = true
-places Count n = true
-places Int i = true
-places Kind k = true
-places Dir d = true
-places Bound b = true
-places (E m) e = mode-places m e
-places X p = place-places p
-places T w = width-places w
-places Lv lv = index-places (lv .index)
-places C c = read-places (c .signal)
-places S s = true
-places I i = item-places i
-places ThenS ss = true
-places ElseS ss = true
-places ThenI is = items-places is
-places ElseI is = items-places is
-places L l = line-places l
-places Nothing x = absurd x
-
 abbrev pub depth : (c : Cat) → Tree c → ℕ
 depth Name n = 0
 depth Start n = 0
@@ -124,7 +94,7 @@ depth Int i = 0
 depth Kind k = 0
 depth Dir d = 0
 depth Bound b = 0
-depth (E m) e = expr-depth e
+depth E e = expr-depth e
 depth X p = place-depth p
 depth T w = width-depth w
 depth Lv lv = suc (index-depth (lv .index))
@@ -156,10 +126,6 @@ abbrev pub all-range : (n : ℕ) (q : Shape) → Walk n q → Bool
 all-range zero q w = true
 all-range (suc n) q w = range (q .a) (w .0) && all-range n (shift q) (w .1)
 
-abbrev pub all-places : (n : ℕ) (q : Shape) → Walk n q → Bool
-all-places zero q w = true
-all-places (suc n) q w = places (q .a) (w .0) && all-places n (shift q) (w .1)
-
 abbrev pub all-depth : (n : ℕ) (q : Shape) → Walk n q → ℕ
 all-depth zero q w = 0
 all-depth (suc n) q w = max (depth (q .a) (w .0)) (all-depth n (shift q) (w .1))
@@ -168,5 +134,4 @@ all-depth (suc n) q w = max (depth (q .a) (w .0)) (all-depth n (shift q) (w .1))
 pub record Made (c : Cat) (w : Bytes) (n : ℕ) (q : Shape) (wk : Walk n q) (t : Tree c) : Type 0 where
   pub shown : show c t ≡ show-form w (shows n q wk)
   pub ranged : range c t ≡ all-range n q wk
-  pub placed : places c t ≡ q .fine && all-places n q wk
   pub deep : depth c t ≡ suc (all-depth n q wk)

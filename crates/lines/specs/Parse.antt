@@ -9,8 +9,6 @@ use lib.ListN.{length, getD, drop}
 use Rattle.spec.specs.Bytes.{Bytes, bytes}
 use Rattle.spec.specs.Syntax.{name-bound, module-bound, number-bound}
 use Rattle.lines.specs.Bytes.{classOf, isDigit, isWordly}
-use Rattle.lines.specs.declared.parse.Mode.{Mode}
-use Rattle.lines.specs.declared.parse.Mode.the-variants.{Read, Field, Constant}
 use Rattle.lines.specs.declared.parse.Cat.{Cat}
 use Rattle.lines.specs.declared.parse.Cat.the-variants.{Name, Start, Mod, Count, Int, Kind, Dir, Bound, E, X, T, Lv, C, S, I, ThenS, ElseS, ThenI, ElseI, L, Nothing}
 use Rattle.lines.specs.declared.parse.Shape.{Shape}
@@ -47,17 +45,6 @@ wordFrom (suc f) t i code k =
 unfoldable pub wordAt : Bytes → ℕ → Word
 wordAt t at = wordFrom 8 t at 0 0
 
--- 01, The line: ` (n ` stands here: by this a first part `(n NAME)` is known
-unfoldable pub peekAt : Bytes → ℕ → Bool
-peekAt t at =
-    elim (eqb (getD t at 0) 32) [
-      | true ↦ elim (eqb (getD t (at + 1) 0) 40) [
-        | true ↦ elim (eqb (getD t (at + 2) 0) 110) [ true ↦ eqb (getD t (at + 3) 0) 32 | false ↦ false ]
-        | false ↦ false
-      ]
-      | false ↦ false
-    ]
-
 -- 01, The line: one digit more behind a number below 2^32; from there on the number stays
 unfoldable pub moreDigit : ℕ → ℕ → ℕ
 moreDigit a d = elim (ltb a 4294967296) [ true ↦ a * 10 + d | false ↦ a ]
@@ -79,12 +66,12 @@ numberAt t at =
 -- 01, Refused because of the text: a number as a part: bad where there is none; in range (5) where it is below the limit
 abbrev pub numbered : Number → ℕ → Parsed
 numbered None limit = Bad
-numbered (Is v next) limit = Good next (ltb v limit) true
+numbered (Is v next) limit = Good next (ltb v limit)
 
 -- 01, Refused because of the text: M of `module` as a part: bad where there is none; it has no range (5)
 abbrev pub counted : Number → Parsed
 counted None = Bad
-counted (Is v next) = Good next true true
+counted (Is v next) = Good next true
 
 -- 01, The line: the INT of `val` as a part: a number, or a minus and a number that is not 0; from −2,147,483,648 to 2,147,483,647 it is in range
 unfoldable pub intAt : Bytes → ℕ → Parsed
@@ -101,16 +88,16 @@ unfoldable pub lookup-key : {A : Type 0} → List (ℕ × A) → A → ℕ → A
 lookup-key [] other k = other
 lookup-key (e ∷ table) other k = elim (eqb k (e .0)) [ true ↦ e .1 | false ↦ lookup-key table other k ]
 
--- 01, The line: the heads of E by their keys, told apart by their parts; `Bitwise` are the five of refusal 8
+-- 01, The line: the heads of E by their keys; an operator is told apart by how many parts it has
 unfoldable pub ops : List (ℕ × Op)
 ops =
     (key (bytes "n"), Op.Name) ∷ (key (bytes "f"), Op.Field) ∷ (key (bytes "ix"), Op.Index) ∷ (key (bytes "if"), Op.If)
     ∷ (key (bytes "all"), Op.All) ∷ (key (bytes "neg"), Op.Unary) ∷ (key (bytes "not"), Op.Unary) ∷ (key (bytes "clog2"), Op.Unary)
     ∷ (key (bytes "add"), Op.Binary) ∷ (key (bytes "sub"), Op.Binary) ∷ (key (bytes "mul"), Op.Binary) ∷ (key (bytes "eq"), Op.Binary)
     ∷ (key (bytes "ne"), Op.Binary) ∷ (key (bytes "lt"), Op.Binary) ∷ (key (bytes "le"), Op.Binary) ∷ (key (bytes "gt"), Op.Binary)
-    ∷ (key (bytes "ge"), Op.Binary) ∷ (key (bytes "and"), Op.Binary) ∷ (key (bytes "or"), Op.Binary) ∷ (key (bytes "shl"), Op.Bitwise)
-    ∷ (key (bytes "shr"), Op.Bitwise) ∷ (key (bytes "band"), Op.Bitwise) ∷ (key (bytes "bor"), Op.Bitwise)
-    ∷ (key (bytes "bxor"), Op.Bitwise) ∷ []
+    ∷ (key (bytes "ge"), Op.Binary) ∷ (key (bytes "and"), Op.Binary) ∷ (key (bytes "or"), Op.Binary) ∷ (key (bytes "shl"), Op.Binary)
+    ∷ (key (bytes "shr"), Op.Binary) ∷ (key (bytes "band"), Op.Binary) ∷ (key (bytes "bor"), Op.Binary)
+    ∷ (key (bytes "bxor"), Op.Binary) ∷ []
 
 -- 01, The line: which head of E has that key; `Other` for none
 unfoldable pub opOf : ℕ → Op
@@ -132,14 +119,14 @@ either k a b = elim (eqb k a) [ true ↦ true | false ↦ eqb k b ]
 
 -- 01, Refused because of the text: a word as a part that ends at `next`: bad where it is none that may stand here
 abbrev pub worded : Bool → ℕ → Parsed
-worded true next = Good next true true
+worded true next = Good next true
 worded false next = Bad
 
 -- ---- shapes
 
 -- 01, The line: the shape of a form: at least n parts, the next four of the categories a to d, all behind them of l
 abbrev pub behind : ℕ → Cat → Cat → Cat → Cat → Cat → Shape
-behind n a b c d l = record { need = n; a = a; b = b; c = c; d = d; last = l; fine = true }
+behind n a b c d l = record { need = n; a = a; b = b; c = c; d = d; last = l }
 
 -- 01, The line: the shape of a form with at least n parts and at most four, of the categories a to d; `Nothing` is the category of a part that may
 -- not stand
@@ -150,57 +137,25 @@ fixed n a b c d = behind n a b c d Nothing
 abbrev pub no-shape : Shape
 no-shape = fixed 1 Nothing Nothing Nothing Nothing
 
--- 01, Refused because of the text: the shape of `shl`, `shr`, `band`, `bor` and `bxor`: two parts of category e; `fine` says whether it may stand
--- here (8)
-abbrev pub bitwise : Cat → Bool → Shape
-bitwise e fine = record { need = 2; a = e; b = e; c = Nothing; d = Nothing; last = Nothing; fine = fine }
-
--- 01, The line: how a part of an expression stands: in a constant place where the whole does, read otherwise
-abbrev pub inner : Mode → Mode
-inner Read = Read
-inner Field = Read
-inner Constant = Constant
-
--- 01, The line: how the first part of `f` stands: in a constant place where the whole does, directly under `f` otherwise
-abbrev pub under-field : Mode → Mode
-under-field Read = Field
-under-field Field = Field
-under-field Constant = Constant
-
--- 01, The line: how the second part of `ix` stands: in a constant place where the whole does, or where the whole is directly under `f` and its first
--- part is `(n NAME)`; read otherwise
-abbrev pub index-mode : Mode → Bool → Mode
-index-mode Read named = Read
-index-mode Field true = Constant
-index-mode Field false = Read
-index-mode Constant named = Constant
-
--- 01, Refused because of the text: whether `shl`, `shr`, `band`, `bor` and `bxor` may stand here: not in a constant place (8)
-abbrev pub free : Mode → Bool
-free Read = true
-free Field = true
-free Constant = false
-
--- 01, The line: the parts of E by its head; m says how it stands, and `named` whether its first part is `(n NAME)`
-abbrev pub expr-shape : Mode → Op → Bool → Shape
-expr-shape m Op.Name named = fixed 1 Name Nothing Nothing Nothing
-expr-shape m Op.Field named = fixed 2 (E (under-field m)) Name Nothing Nothing
-expr-shape m Op.Index named = fixed 2 (E (inner m)) (E (index-mode m named)) Nothing Nothing
-expr-shape m Op.If named = fixed 3 (E (inner m)) (E (inner m)) (E (inner m)) Nothing
-expr-shape m Op.All named = behind 0 (E (inner m)) (E (inner m)) (E (inner m)) (E (inner m)) (E (inner m))
-expr-shape m Op.Unary named = fixed 1 (E (inner m)) Nothing Nothing Nothing
-expr-shape m Op.Binary named = fixed 2 (E (inner m)) (E (inner m)) Nothing Nothing
-expr-shape m Op.Bitwise named = bitwise (E (inner m)) (free m)
-expr-shape m Op.Other named = no-shape
+-- 01, The line: the parts of E by its head
+abbrev pub expr-shape : Op → Shape
+expr-shape Op.Name = fixed 1 Name Nothing Nothing Nothing
+expr-shape Op.Field = fixed 2 E Name Nothing Nothing
+expr-shape Op.Index = fixed 2 E E Nothing Nothing
+expr-shape Op.If = fixed 3 E E E Nothing
+expr-shape Op.All = behind 0 E E E E E
+expr-shape Op.Unary = fixed 1 E Nothing Nothing Nothing
+expr-shape Op.Binary = fixed 2 E E Nothing Nothing
+expr-shape Op.Other = no-shape
 
 -- 01, The line: one head only: `q` for its key, and no shape for any other
 unfoldable pub lone : ℕ → ℕ → Shape → Shape
 lone k head q = elim (eqb k head) [ true ↦ q | false ↦ no-shape ]
 
--- 01, The line: T with brackets: `(bits E)` and `(signed E)`, E in a constant place
+-- 01, The line: T with brackets: `(bits E)` and `(signed E)`
 unfoldable pub widths : List (ℕ × Shape)
 widths =
-    (key (bytes "bits"), fixed 1 (E Constant) Nothing Nothing Nothing) ∷ (key (bytes "signed"), fixed 1 (E Constant) Nothing Nothing Nothing) ∷ []
+    (key (bytes "bits"), fixed 1 E Nothing Nothing Nothing) ∷ (key (bytes "signed"), fixed 1 E Nothing Nothing Nothing) ∷ []
 
 -- 01, The line: the parts behind a head of T with that key; no shape for any other
 unfoldable pub width-shape : ℕ → Shape
@@ -216,14 +171,14 @@ stmts =
 unfoldable pub stmt-shape : ℕ → Shape
 stmt-shape k = lookup-key stmts no-shape k
 
--- 01, The line: items: each head and its parts, with E in a constant place in `const`, the bounds of `repeat` and the condition of `constif`
+-- 01, The line: items: each head and its parts
 unfoldable pub items : List (ℕ × Shape)
 items =
-    (key (bytes "port"), fixed 4 Dir Name T Start) ∷ (key (bytes "wire"), fixed 3 Name (E Read) Start Nothing)
+    (key (bytes "port"), fixed 4 Dir Name T Start) ∷ (key (bytes "wire"), fixed 3 Name E Start Nothing)
     ∷ (key (bytes "reg"), fixed 2 Name Start Nothing Nothing) ∷ (key (bytes "mem"), fixed 2 Name Start Nothing Nothing)
-    ∷ (key (bytes "const"), fixed 2 Name (E Constant) Nothing Nothing) ∷ (key (bytes "drive"), fixed 2 Lv (E Read) Nothing Nothing)
+    ∷ (key (bytes "const"), fixed 2 Name E Nothing Nothing) ∷ (key (bytes "drive"), fixed 2 Lv E Nothing Nothing)
     ∷ (key (bytes "on"), behind 1 Start S S S S) ∷ (key (bytes "inst"), behind 4 Name X Mod Start C)
-    ∷ (key (bytes "repeat"), behind 3 Name (E Constant) (E Constant) I I) ∷ (key (bytes "constif"), fixed 3 (E Constant) ThenI ElseI Nothing) ∷ []
+    ∷ (key (bytes "repeat"), behind 3 Name E E I I) ∷ (key (bytes "constif"), fixed 3 E ThenI ElseI Nothing) ∷ []
 
 -- 01, The line: the parts behind a head of an item with that key; no shape for any other
 unfoldable pub item-shape : ℕ → Shape
@@ -239,34 +194,33 @@ headers =
 unfoldable pub line-shape : ℕ → Shape
 line-shape k = lookup-key headers (item-shape k) k
 
--- 01, The line: the parts behind a head with that key of a form of a category; `named`: the first is `(n NAME)`. X, and E in LV, stand in a constant
--- place; a number or a word is no form
-abbrev pub shape : Cat → ℕ → Bool → Shape
-shape Name k named = no-shape
-shape Start k named = no-shape
-shape Mod k named = no-shape
-shape Count k named = no-shape
-shape Int k named = no-shape
-shape Kind k named = no-shape
-shape Dir k named = no-shape
-shape Bound k named = no-shape
-shape (E m) k named = expr-shape m (opOf k) named
-shape X k named = expr-shape Constant (opOf k) named
-shape T k named = width-shape k
-shape Lv k named = lone k (key (bytes "lv")) (fixed 2 Name Start (E Constant) (E Constant))
-shape C k named = lone k (key (bytes "conn")) (fixed 2 Name (E Read) Nothing Nothing)
-shape S k named = stmt-shape k
-shape I k named = item-shape k
-shape ThenS k named = lone k (key (bytes "then")) (behind 0 S S S S S)
-shape ElseS k named = lone k (key (bytes "else")) (behind 0 S S S S S)
-shape ThenI k named = lone k (key (bytes "then")) (behind 0 I I I I I)
-shape ElseI k named = lone k (key (bytes "else")) (behind 0 I I I I I)
-shape L k named = line-shape k
-shape Nothing k named = no-shape
+-- 01, The line: the parts behind a head with that key of a form of a category; a number or a word is no form
+abbrev pub shape : Cat → ℕ → Shape
+shape Name k = no-shape
+shape Start k = no-shape
+shape Mod k = no-shape
+shape Count k = no-shape
+shape Int k = no-shape
+shape Kind k = no-shape
+shape Dir k = no-shape
+shape Bound k = no-shape
+shape E k = expr-shape (opOf k)
+shape X k = expr-shape (opOf k)
+shape T k = width-shape k
+shape Lv k = lone k (key (bytes "lv")) (fixed 2 Name Start E E)
+shape C k = lone k (key (bytes "conn")) (fixed 2 Name E Nothing Nothing)
+shape S k = stmt-shape k
+shape I k = item-shape k
+shape ThenS k = lone k (key (bytes "then")) (behind 0 S S S S S)
+shape ElseS k = lone k (key (bytes "else")) (behind 0 S S S S S)
+shape ThenI k = lone k (key (bytes "then")) (behind 0 I I I I I)
+shape ElseI k = lone k (key (bytes "else")) (behind 0 I I I I I)
+shape L k = line-shape k
+shape Nothing k = no-shape
 
 -- 01, The line: what is left of a shape behind one part
 abbrev pub shift : Shape → Shape
-shift q = record { need = q .need - 1; a = q .b; b = q .c; c = q .d; d = q .last; last = q .last; fine = q .fine }
+shift q = record { need = q .need - 1; a = q .b; b = q .c; c = q .d; d = q .last; last = q .last }
 
 -- ---- parts
 
@@ -289,8 +243,8 @@ atom Int t at = intAt t at
 atom Kind t at = worded (not (eqb (kindOf (wordAt t at .key)) 0)) (wordAt t at .next)
 atom Dir t at = worded (either (wordAt t at .key) (key (bytes "in")) (key (bytes "out"))) (wordAt t at .next)
 atom Bound t at = worded (either (wordAt t at .key) (key (bytes "bound")) (key (bytes "unbound"))) (wordAt t at .next)
-atom (E m) t at = literal t at
-atom X t at = elim (eqb (getD t at 0) 45) [ true ↦ Good (at + 1) true true | false ↦ literal t at ]
+atom E t at = literal t at
+atom X t at = elim (eqb (getD t at 0) 45) [ true ↦ Good (at + 1) true | false ↦ literal t at ]
 atom T t at = worded (either (wordAt t at .key) (key (bytes "bit")) (key (bytes "opaque"))) (wordAt t at .next)
 atom Lv t at = Bad
 atom C t at = Bad
@@ -304,14 +258,14 @@ atom L t at = Bad
 atom Nothing t at = Bad
 
 -- 01, The line; Refused because of the text: the parts of a form from i on, of which q is left, each behind one space, and then its last bracket,
--- with `f` for a part; fewer than `left` of them. `range` (5) and `places` (8) are whether all was fine so far
-unfoldable pub parts-at : (Cat → ℕ → Parsed) → ℕ → Bytes → Shape → ℕ → Bool → Bool → Parsed
-parts-at f zero t q i range places = Bad
-parts-at f (suc left) t q i range places =
+-- with `f` for a part; fewer than `left` of them. `range` (5) is whether all was in range so far
+unfoldable pub parts-at : (Cat → ℕ → Parsed) → ℕ → Bytes → Shape → ℕ → Bool → Parsed
+parts-at f zero t q i range = Bad
+parts-at f (suc left) t q i range =
     elim (eqb (getD t i 0) 41) [
-      | true ↦ elim (eqb (q .need) 0) [ true ↦ Good (i + 1) range places | false ↦ Bad ]
+      | true ↦ elim (eqb (q .need) 0) [ true ↦ Good (i + 1) range | false ↦ Bad ]
       | false ↦ elim (eqb (getD t i 0) 32) [
-        | true ↦ elim (f (q .a) (i + 1)) [ Bad ↦ Bad | Good j r p ↦ parts-at f left t (shift q) j (range && r) (places && p) ]
+        | true ↦ elim (f (q .a) (i + 1)) [ Bad ↦ Bad | Good j r ↦ parts-at f left t (shift q) j (range && r) ]
         | false ↦ Bad
       ]
     ]
@@ -320,8 +274,7 @@ parts-at f (suc left) t q i range places =
 unfoldable pub form-at : (Cat → ℕ → Parsed) → Cat → Bytes → ℕ → Parsed
 form-at f c t at =
     let w = wordAt t (at + 1) in
-    let q = shape c (w .key) (peekAt t (w .next)) in
-    parts-at f (length t) t q (w .next) true (q .fine)
+    parts-at f (length t) t (shape c (w .key)) (w .next) true
 
 -- 01, The line: the part of a category at a position, at most d brackets deep
 unfoldable pub scan : ℕ → Cat → Bytes → ℕ → Parsed

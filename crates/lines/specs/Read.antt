@@ -65,9 +65,9 @@ kindStep None seen feed = Fault 4
 kindStep (Is v j) seen feed = elim (leb name-bound v) [ true ↦ Fault 5 | false ↦ elim (eqb (getD seen v 0) 0) [ true ↦ Kind feed v | false ↦ Fault 7 ] ]
 
 -- 01, Refused because of the text: a line that is well written and in range, by its head word at `at`: `module`; 6 before any module; `kind` and
--- `val`, 6 after an item; else an item, 8 where its constant places are not fine
-unfoldable pub headStep : Bytes → ℕ → ℕ → Bool → ℕ → Bool → List ℕ → Step
-headStep t at feed places modules items seen =
+-- `val`, 6 after an item; else an item
+unfoldable pub headStep : Bytes → ℕ → ℕ → ℕ → Bool → List ℕ → Step
+headStep t at feed modules items seen =
     elim (eqb (wordAt t at .key) (key (bytes "module"))) [
       | true ↦ moduleStep (numberAfter t (wordAt t at .next)) modules feed
       | false ↦ elim (eqb modules 0) [
@@ -76,7 +76,7 @@ headStep t at feed places modules items seen =
           | true ↦ elim items [ true ↦ Fault 6 | false ↦ kindStep (numberAfter t (wordAt t at .next)) seen feed ]
           | false ↦ elim (eqb (wordAt t at .key) (key (bytes "val"))) [
             | true ↦ elim items [ true ↦ Fault 6 | false ↦ Val feed ]
-            | false ↦ elim places [ true ↦ Item feed | false ↦ Fault 8 ]
+            | false ↦ Item feed
           ]
         ]
       ]
@@ -86,13 +86,13 @@ headStep t at feed places modules items seen =
 -- number is out of range, else by its head
 abbrev pub parsedStep : Parsed → Bytes → ℕ → ℕ → Bool → List ℕ → Step
 parsedStep Bad t at modules items seen = Fault (notWritten t (at + 1))
-parsedStep (Good j range places) t at modules items seen =
+parsedStep (Good j range) t at modules items seen =
     elim (eqb (getD t j 0) 10) [
-      | true ↦ elim range [ true ↦ headStep t (at + 1) j places modules items seen | false ↦ Fault 5 ]
+      | true ↦ elim range [ true ↦ headStep t (at + 1) j modules items seen | false ↦ Fault 5 ]
       | false ↦ Fault (notWritten t (at + 1))
     ]
 
 -- 01, Refused because of the text: the line that starts at a position, so many modules having been read, of which the last has an item or not and
--- gives these kinds: its fault, 3 to 8, or what it adds
+-- gives these kinds: its fault, 3 to 7, or what it adds
 unfoldable pub lineStep : Bytes → ℕ → ℕ → Bool → List ℕ → Step
 lineStep t at modules items seen = elim (eqb (getD t at 0) 40) [ true ↦ parsedStep (scan depth-limit L t at) t at modules items seen | false ↦ Fault 3 ]

@@ -4,7 +4,7 @@ ghost use mathlib.Core.Path.{_≡_};
 ghost use mathlib.Core.Bool.{_&&_};
 ghost use lib.ListN.{drop};
 ghost use Prim.Native.Nat.{_-_};
-ghost use Rattle.lines.specs.Parse.{wordAt, peekAt, moreDigit, digitsFrom, numberAt, numbered, counted, intAt, opOf, kindOf, either, worded, no-shape, fixed, behind, inner, under-field, index-mode, free, bitwise, expr-shape, lone, width-shape, stmt-shape, item-shape, line-shape, shape, shift, literal, atom, scan};
+ghost use Rattle.lines.specs.Parse.{wordAt, moreDigit, digitsFrom, numberAt, numbered, counted, intAt, opOf, kindOf, either, worded, no-shape, fixed, behind, expr-shape, lone, width-shape, stmt-shape, item-shape, line-shape, shape, shift, literal, atom, scan};
 use crate::bytes::at8;
 use crate::bytes::digit;
 use crate::bytes::wordly;
@@ -19,13 +19,6 @@ pub const MODS: u64 = 256;
 
 pub const NUMBERS: u64 = 2147483648;
 
-// How an expression stands: read, read directly under `f`, or in a constant place.
-pub enum Mode {
-    Read,
-    Field,
-    Constant,
-}
-
 // What a part is: a number or a word of a kind, an expression, X, T, LV, C, S, I, `(then ..)` and `(else ..)`, a line, or none.
 pub enum Cat {
     Name,
@@ -36,7 +29,7 @@ pub enum Cat {
     Kind,
     Dir,
     Bound,
-    E(Mode),
+    E,
     X,
     T,
     Lv,
@@ -51,7 +44,7 @@ pub enum Cat {
     Nothing,
 }
 
-// The categories of the next four parts and of all behind them, how many parts are still needed, and whether 8 is avoided so far.
+// The categories of the next four parts and of all behind them, and how many parts are still needed.
 pub struct Shape {
     pub need: u8,
     pub a: Cat,
@@ -59,17 +52,12 @@ pub struct Shape {
     pub c: Cat,
     pub d: Cat,
     pub last: Cat,
-    pub fine: bool,
 }
 
-// A part that was read: where it ends, whether its numbers are in range (5), whether its constant places are fine (8).
+// A part that was read: where it ends, whether its numbers are in range (5).
 pub enum Parsed {
     Bad,
-    Good {
-        next: usize,
-        range: bool,
-        places: bool,
-    },
+    Good { next: usize, range: bool },
 }
 
 pub struct Word {
@@ -92,7 +80,6 @@ pub enum Op {
     All,
     Unary,
     Binary,
-    Bitwise,
     Other,
 }
 
@@ -122,22 +109,6 @@ pub fn word_at(s: &[u8], at: usize) -> Word
         k += 1;
     }
     Word { key: 0, next: i }
-}
-
-// Whether a space and a form of head `n` follow.
-fn peek(s: &[u8], at: usize) -> bool
-    ensures { λ r. ⌜ r ≡ peekAt (now (s .entry)) at ⌝ }
-{
-    if at8(s, at) != b' ' {
-        return false;
-    }
-    if at8(s, at + 1) != b'(' {
-        return false;
-    }
-    if at8(s, at + 2) != b'n' {
-        return false;
-    }
-    at8(s, at + 3) == b' '
 }
 
 // One digit more, while the number is below 2^32.
@@ -189,7 +160,6 @@ fn numbered(n: Number, limit: u64) -> Parsed
         Number::Is { value, next } => Parsed::Good {
             next,
             range: value < limit,
-            places: true,
         },
     }
 }
@@ -199,11 +169,7 @@ fn counted(n: Number) -> Parsed
 {
     match n {
         Number::None => Parsed::Bad,
-        Number::Is { value: _, next } => Parsed::Good {
-            next,
-            range: true,
-            places: true,
-        },
+        Number::Is { value: _, next } => Parsed::Good { next, range: true },
     }
 }
 
@@ -245,11 +211,11 @@ pub fn op_of(key: u64) -> Op
         keys::GE => Op::Binary,
         keys::AND => Op::Binary,
         keys::OR => Op::Binary,
-        keys::SHL => Op::Bitwise,
-        keys::SHR => Op::Bitwise,
-        keys::BAND => Op::Bitwise,
-        keys::BOR => Op::Bitwise,
-        keys::BXOR => Op::Bitwise,
+        keys::SHL => Op::Binary,
+        keys::SHR => Op::Binary,
+        keys::BAND => Op::Binary,
+        keys::BOR => Op::Binary,
+        keys::BXOR => Op::Binary,
         _ => Op::Other,
     }
 }
@@ -282,11 +248,7 @@ fn worded(ok: bool, next: usize) -> Parsed
     ensures { λ r. ⌜ r ≡ worded ok next ⌝ }
 {
     if ok {
-        Parsed::Good {
-            next,
-            range: true,
-            places: true,
-        }
+        Parsed::Good { next, range: true }
     } else {
         Parsed::Bad
     }
@@ -304,7 +266,6 @@ fn no_shape() -> Shape
         c: Cat::Nothing,
         d: Cat::Nothing,
         last: Cat::Nothing,
-        fine: true,
     }
 }
 
@@ -318,7 +279,6 @@ fn fixed(need: u8, a: Cat, b: Cat, c: Cat, d: Cat) -> Shape
         c,
         d,
         last: Cat::Nothing,
-        fine: true,
     }
 }
 
@@ -332,80 +292,23 @@ fn behind(need: u8, a: Cat, b: Cat, c: Cat, d: Cat, last: Cat) -> Shape
         c,
         d,
         last,
-        fine: true,
     }
 }
 
-// The mode of a part, of the first part of `f`, of the second of `ix`, and whether a bitwise operator may stand here.
-fn inner(m: Mode) -> Mode
-    ensures { λ r. ⌜ r ≡ inner m ⌝ }
-{
-    match m {
-        Mode::Read => Mode::Read,
-        Mode::Field => Mode::Read,
-        Mode::Constant => Mode::Constant,
-    }
-}
-
-fn under_field(m: Mode) -> Mode
-    ensures { λ r. ⌜ r ≡ under-field m ⌝ }
-{
-    match m {
-        Mode::Read => Mode::Field,
-        Mode::Field => Mode::Field,
-        Mode::Constant => Mode::Constant,
-    }
-}
-
-fn index_mode(m: Mode, named: bool) -> Mode
-    ensures { λ r. ⌜ r ≡ index-mode m named ⌝ }
-{
-    match m {
-        Mode::Read => Mode::Read,
-        Mode::Field => { if named { Mode::Constant } else { Mode::Read } }
-        Mode::Constant => Mode::Constant,
-    }
-}
-
-fn free(m: Mode) -> bool
-    ensures { λ r. ⌜ r ≡ free m ⌝ }
-{
-    match m {
-        Mode::Read => true,
-        Mode::Field => true,
-        Mode::Constant => false,
-    }
-}
-
-fn bitwise(e: Cat, fine: bool) -> Shape
-    ensures { λ r. ⌜ r ≡ bitwise e fine ⌝ }
-{
-    Shape {
-        need: 2,
-        a: e,
-        b: e,
-        c: Cat::Nothing,
-        d: Cat::Nothing,
-        last: Cat::Nothing,
-        fine,
-    }
-}
-
-// The parts of E; `named`: the first is `(n NAME)`.
-fn expr_shape(m: Mode, op: Op, named: bool) -> Shape
-    ensures { λ r. ⌜ r ≡ expr-shape m op named ⌝ }
+// The parts of E.
+fn expr_shape(op: Op) -> Shape
+    ensures { λ r. ⌜ r ≡ expr-shape op ⌝ }
 {
     let no = Cat::Nothing;
-    let e = Cat::E(inner(m));
+    let e = Cat::E;
     match op {
         Op::Name => fixed(1, Cat::Name, no, no, no),
-        Op::Field => fixed(2, Cat::E(under_field(m)), Cat::Name, no, no),
-        Op::Index => fixed(2, e, Cat::E(index_mode(m, named)), no, no),
+        Op::Field => fixed(2, e, Cat::Name, no, no),
+        Op::Index => fixed(2, e, e, no, no),
         Op::If => fixed(3, e, e, e, no),
         Op::All => behind(0, e, e, e, e, e),
         Op::Unary => fixed(1, e, no, no, no),
         Op::Binary => fixed(2, e, e, no, no),
-        Op::Bitwise => bitwise(e, free(m)),
         Op::Other => no_shape(),
     }
 }
@@ -421,7 +324,7 @@ fn width_shape(key: u64) -> Shape
     ensures { λ r. ⌜ r ≡ width-shape key ⌝ }
 {
     let no = Cat::Nothing;
-    let e = Cat::E(Mode::Constant);
+    let e = Cat::E;
     match key {
         keys::BITS => fixed(1, e, no, no, no),
         keys::SIGNED => fixed(1, e, no, no, no),
@@ -447,19 +350,18 @@ fn item_shape(key: u64) -> Shape
     ensures { λ r. ⌜ r ≡ item-shape key ⌝ }
 {
     let no = Cat::Nothing;
-    let e = Cat::E(Mode::Read);
-    let k = Cat::E(Mode::Constant);
+    let e = Cat::E;
     match key {
         keys::PORT => fixed(4, Cat::Dir, Cat::Name, Cat::T, Cat::Start),
         keys::WIRE => fixed(3, Cat::Name, e, Cat::Start, no),
         keys::REG => fixed(2, Cat::Name, Cat::Start, no, no),
         keys::MEM => fixed(2, Cat::Name, Cat::Start, no, no),
-        keys::CONST => fixed(2, Cat::Name, k, no, no),
+        keys::CONST => fixed(2, Cat::Name, e, no, no),
         keys::DRIVE => fixed(2, Cat::Lv, e, no, no),
         keys::ON => behind(1, Cat::Start, Cat::S, Cat::S, Cat::S, Cat::S),
         keys::INST => behind(4, Cat::Name, Cat::X, Cat::Mod, Cat::Start, Cat::C),
-        keys::REPEAT => behind(3, Cat::Name, k, k, Cat::I, Cat::I),
-        keys::CONSTIF => fixed(3, k, Cat::ThenI, Cat::ElseI, no),
+        keys::REPEAT => behind(3, Cat::Name, e, e, Cat::I, Cat::I),
+        keys::CONSTIF => fixed(3, e, Cat::ThenI, Cat::ElseI, no),
         _ => no_shape(),
     }
 }
@@ -477,11 +379,11 @@ fn line_shape(key: u64) -> Shape
 }
 
 // The parts behind a head word of a form of a category.
-pub fn shape_of(cat: Cat, key: u64, named: bool) -> Shape
-    ensures { λ r. ⌜ r ≡ shape cat key named ⌝ }
+pub fn shape_of(cat: Cat, key: u64) -> Shape
+    ensures { λ r. ⌜ r ≡ shape cat key ⌝ }
 {
     let no = Cat::Nothing;
-    let k = Cat::E(Mode::Constant);
+    let e = Cat::E;
     match cat {
         Cat::Name => no_shape(),
         Cat::Start => no_shape(),
@@ -491,15 +393,11 @@ pub fn shape_of(cat: Cat, key: u64, named: bool) -> Shape
         Cat::Kind => no_shape(),
         Cat::Dir => no_shape(),
         Cat::Bound => no_shape(),
-        Cat::E(m) => expr_shape(m, op_of(key), named),
-        Cat::X => expr_shape(Mode::Constant, op_of(key), named),
+        Cat::E => expr_shape(op_of(key)),
+        Cat::X => expr_shape(op_of(key)),
         Cat::T => width_shape(key),
-        Cat::Lv => lone(key, keys::LV, fixed(2, Cat::Name, Cat::Start, k, k)),
-        Cat::C => lone(
-            key,
-            keys::CONN,
-            fixed(2, Cat::Name, Cat::E(Mode::Read), no, no),
-        ),
+        Cat::Lv => lone(key, keys::LV, fixed(2, Cat::Name, Cat::Start, e, e)),
+        Cat::C => lone(key, keys::CONN, fixed(2, Cat::Name, e, no, no)),
         Cat::S => stmt_shape(key),
         Cat::I => item_shape(key),
         Cat::ThenS => lone(
@@ -549,7 +447,6 @@ fn shift(q: Shape) -> Shape
         c,
         d,
         last: d,
-        fine: q.fine,
     }
 }
 
@@ -587,7 +484,7 @@ fn atom(s: &[u8], at: usize, cat: Cat) -> Parsed
             let w = word_at(s, at);
             worded(either(w.key, keys::BOUND, keys::UNBOUND), w.next)
         }
-        Cat::E(_) => literal(s, at),
+        Cat::E => literal(s, at),
         Cat::X => {
             if at8(s, at) == b'-' {
                 worded(true, at + 1)
@@ -624,20 +521,15 @@ pub fn part(s: &[u8], at: usize, cat: Cat, depth: u32) -> Parsed
     }
     let w = word_at(s, at + 1);
     let mut i = w.next;
-    let mut q = shape_of(cat, w.key, peek(s, i));
+    let mut q = shape_of(cat, w.key);
     let mut range = true;
-    let mut places = q.fine;
     let mut left = s.len();
     while 0 < left {
         left -= 1;
         let c = at8(s, i);
         if c == b')' {
             if q.need == 0 {
-                return Parsed::Good {
-                    next: i + 1,
-                    range,
-                    places,
-                };
+                return Parsed::Good { next: i + 1, range };
             }
             return Parsed::Bad;
         }
@@ -647,14 +539,9 @@ pub fn part(s: &[u8], at: usize, cat: Cat, depth: u32) -> Parsed
         let a = q.a;
         match part(s, i + 1, a, depth - 1) {
             Parsed::Bad => return Parsed::Bad,
-            Parsed::Good {
-                next,
-                range: r,
-                places: p,
-            } => {
+            Parsed::Good { next, range: r } => {
                 i = next;
                 range = both(range, r);
-                places = both(places, p);
                 q = shift(q);
             }
         }

@@ -1,4 +1,4 @@
-// The reader: a text's lowest fault, 1 to 8, on its first faulty line.
+// The reader: a text's lowest fault, 1 to 7, on its first faulty line.
 ghost use mathlib.Core.Path.{_≡_};
 ghost use Prim.Native.Nat.{_≤_};
 ghost use lib.ListN.{length, drop};
@@ -148,12 +148,11 @@ fn head_step(
     s: &[u8],
     at: usize,
     feed: usize,
-    places: bool,
     modules: u32,
     items: bool,
     seen: &[u8; EACH_NAME],
 ) -> Step
-    ensures { λ r. ⌜ r ≡ headStep (now (s .entry)) at feed places modules items (now (seen .entry)) ⌝ }
+    ensures { λ r. ⌜ r ≡ headStep (now (s .entry)) at feed modules items (now (seen .entry)) ⌝ }
 {
     let w = word_at(s, at);
     let key = w.key;
@@ -175,11 +174,7 @@ fn head_step(
         }
         return Step::Val(feed);
     }
-    if places {
-        Step::Item(feed)
-    } else {
-        Step::Fault(8)
-    }
+    Step::Item(feed)
 }
 
 // The line that starts at a position.
@@ -191,18 +186,14 @@ pub fn line_step(s: &[u8], at: usize, modules: u32, items: bool, seen: &[u8; EAC
     }
     match part(s, at, Cat::L, DEPTH) {
         Parsed::Bad => Step::Fault(not_written(s, at + 1)),
-        Parsed::Good {
-            next,
-            range,
-            places,
-        } => {
+        Parsed::Good { next, range } => {
             if at8(s, next) != b'\n' {
                 return Step::Fault(not_written(s, at + 1));
             }
             if !range {
                 return Step::Fault(5);
             }
-            head_step(s, at + 1, next, places, modules, items, seen)
+            head_step(s, at + 1, next, modules, items, seen)
         }
     }
 }
@@ -213,7 +204,7 @@ pub enum Verdict {
     Formed(u32),
 }
 
-// 3 to 8, line by line.
+// 3 to 7, line by line.
 fn by_line(s: &[u8]) -> Verdict
     requires { ⌜ Ended (now s) ⌝ }
     ensures { λ r. ⌜ r ≡ told (lines-fault at-start 1 (lines (now (s .entry)))) (modules-in (lines (now (s .entry)))) ⌝ }

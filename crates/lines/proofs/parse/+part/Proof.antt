@@ -14,7 +14,6 @@ use Rattle.lines.proofs.parse.+part.Lts-part as part-lts
 use Rattle.lines.proofs.bytes.at8.Reads as at8-reads
 use Rattle.lines.proofs.parse.atom.Reads as atom-reads
 use Rattle.lines.proofs.parse.both.Reads as both-reads
-use Rattle.lines.proofs.parse.peek.Reads as peek-reads
 use Rattle.lines.proofs.parse.shape_of.Reads as shape-of-reads
 use Rattle.lines.proofs.parse.shift.Reads as shift-reads
 use Rattle.lines.proofs.parse.word_at.Reads as word-at-reads
@@ -31,20 +30,20 @@ abbrev part-below : ℕ → In 1 part-kinds.ps
 part-below t = and 1 part-kinds.ps (falls 1 part-kinds.ps _<_ μ-part t) part.Pre
 
 abbrev part-Inv-loop : part-lts.InvT-loop
-part-Inv-loop s at depth i₀ q₀ range₀ places₀ left₀ i q range places left = parts-at (λ k j. scan (depth - 1) k s j) left₀ s q₀ i₀ range₀ places₀ ≡ parts-at (λ k j. scan (depth - 1) k s j) left s q i range places
+part-Inv-loop s at depth i₀ q₀ range₀ left₀ i q range left = parts-at (λ k j. scan (depth - 1) k s j) left₀ s q₀ i₀ range₀ ≡ parts-at (λ k j. scan (depth - 1) k s j) left s q i range
 
 abbrev part-μ-loop : part-lts.MeasureT-loop
-part-μ-loop s at depth i₀ q₀ range₀ places₀ left₀ i q range places left = left
+part-μ-loop s at depth i₀ q₀ range₀ left₀ i q range left = left
 
 -- what the functions that it calls ask and say
 abbrev claims : ℕ → part-lts.Claims
-claims t = (at8-reads.Asked, at8-reads.Learnt, atom-reads.Asked, atom-reads.Learnt, word-at-reads.Asked, word-at-reads.Learnt, peek-reads.Asked, peek-reads.Learnt, shape-of-reads.Asked, shape-of-reads.Learnt, part-below t, part.Post, both-reads.Asked, both-reads.Learnt, shift-reads.Asked, shift-reads.Learnt)
+claims t = (at8-reads.Asked, at8-reads.Learnt, atom-reads.Asked, atom-reads.Learnt, word-at-reads.Asked, word-at-reads.Learnt, shape-of-reads.Asked, shape-of-reads.Learnt, part-below t, part.Post, both-reads.Asked, both-reads.Learnt, shift-reads.Asked, shift-reads.Learnt)
 
 -- what is left at the loop's head gives what the whole part gives
 whole : (t : ℕ) (c : part-lts.At-loop (claims t) (part-at t) part.Post part-Inv-loop part-μ-loop)
-    → parts-at (λ k j. scan (c .before .before .before .before .before .before .before .before .args .depth - 1) k (c .before .before .before .before .before .before .before .before .args .s .now) j) (c .loop .left) (c .before .before .before .before .before .before .before .before .args .s .now) (c .loop .q) (c .loop .i) (c .loop .range) (c .loop .places)
-    ≡ scan (c .before .before .before .before .before .before .before .before .args .depth) (c .before .before .before .before .before .before .before .before .args .cat) (c .before .before .before .before .before .before .before .before .args .s .now) (c .before .before .before .before .before .before .before .before .args .at)
-whole t c = sym (c .loop .inv) ∙ form-start (c .before .before .before .before .before .before .before .before .args .depth) (c .before .before .before .before .before .before .before .before .args .cat) (c .before .before .before .before .before .before .before .before .args .s .now) (c .before .before .before .before .before .before .before .before .args .at) (c .before .before .before .word-at .result) (c .before .before .peek .result) (c .before .shape-of .result) (sym (c .before .before .before .before .before .before .at8 .ensures) ∙ c .before .before .before .before .before .if1 .left) (c .before .before .before .before .if2 .left) (c .before .before .before .word-at .ensures) (c .before .before .peek .ensures) (c .before .shape-of .ensures)
+    → parts-at (λ k j. scan (c .before .before .before .before .before .before .before .args .depth - 1) k (c .before .before .before .before .before .before .before .args .s .now) j) (c .loop .left) (c .before .before .before .before .before .before .before .args .s .now) (c .loop .q) (c .loop .i) (c .loop .range)
+    ≡ scan (c .before .before .before .before .before .before .before .args .depth) (c .before .before .before .before .before .before .before .args .cat) (c .before .before .before .before .before .before .before .args .s .now) (c .before .before .before .before .before .before .before .args .at)
+whole t c = sym (c .loop .inv) ∙ form-start (c .before .before .before .before .before .before .before .args .depth) (c .before .before .before .before .before .before .before .args .cat) (c .before .before .before .before .before .before .before .args .s .now) (c .before .before .before .before .before .before .before .args .at) (c .before .before .word-at .result) (c .before .shape-of .result) (sym (c .before .before .before .before .before .at8 .ensures) ∙ c .before .before .before .before .if1 .left) (c .before .before .before .if2 .left) (c .before .before .word-at .ensures) (c .before .shape-of .ensures)
 
 part-at8-requires : (t : ℕ) → part-lts.Need-at8-requires (claims t) (part-at t) part.Post part-Inv-loop part-μ-loop
 part-at8-requires t c κs = tt
@@ -64,9 +63,6 @@ part-add-word-at t c = let h = inside (c .before .before .before .before .args .
 part-word-at-requires : (t : ℕ) → part-lts.Need-word-at-requires (claims t) (part-at t) part.Post part-Inv-loop part-μ-loop
 part-word-at-requires t c κs = tt
 
-part-peek-requires : (t : ℕ) → part-lts.Need-peek-requires (claims t) (part-at t) part.Post part-Inv-loop part-μ-loop
-part-peek-requires t c κs = tt
-
 part-shape-of-requires : (t : ℕ) → part-lts.Need-shape-of-requires (claims t) (part-at t) part.Post part-Inv-loop part-μ-loop
 part-shape-of-requires t c κs = tt
 
@@ -79,20 +75,20 @@ part-sub-left t c = omega arith
 part-at8-requires-2 : (t : ℕ) → part-lts.Need-at8-requires-2 (claims t) (part-at t) part.Post part-Inv-loop part-μ-loop
 part-at8-requires-2 t c κs = tt
 
-part-add-t21 : (t : ℕ) → part-lts.Need-add-t21 (claims t) (part-at t) part.Post part-Inv-loop part-μ-loop
-part-add-t21 t c = let h = inside (c .before .before .before .before .before .before .before .before .before .before .before .before .before .args .s .now) (c .before .before .before .before .before .loop .i) (λ e. omega (arith, c .before .before .before .at82 .ensures, c .before .before .if3 .taken)) in omega arith
+part-add-t19 : (t : ℕ) → part-lts.Need-add-t19 (claims t) (part-at t) part.Post part-Inv-loop part-μ-loop
+part-add-t19 t c = let h = inside (c .before .before .before .before .before .before .before .before .before .before .before .before .args .s .now) (c .before .before .before .before .before .loop .i) (λ e. omega (arith, c .before .before .before .at82 .ensures, c .before .before .if3 .taken)) in omega arith
 
 part-returns-3 : (t : ℕ) → part-lts.Need-returns-3 (claims t) (part-at t) part.Post part-Inv-loop part-μ-loop
-part-returns-3 t c = parts-close (λ k j. scan (c .before .before .before .before .before .before .before .before .before .before .before .before .before .args .depth - 1) k (c .before .before .before .before .before .before .before .before .before .before .before .before .before .args .s .now) j) (c .before .before .before .before .before .before .before .before .before .before .before .before .before .args .s .now) (c .before .before .before .before .before .loop .q) (c .before .before .before .before .before .loop .i) (c .before .before .before .before .before .loop .range) (c .before .before .before .before .before .loop .places) (c .before .before .before .before .before .loop .left) (c .before .before .before .before .loop-test .taken) (sym (c .before .before .before .at82 .ensures) ∙ c .before .before .if3 .taken) (c .if4 .taken) ∙ whole t (c .before .before .before .before .before)
+part-returns-3 t c = parts-close (λ k j. scan (c .before .before .before .before .before .before .before .before .before .before .before .before .args .depth - 1) k (c .before .before .before .before .before .before .before .before .before .before .before .before .args .s .now) j) (c .before .before .before .before .before .before .before .before .before .before .before .before .args .s .now) (c .before .before .before .before .before .loop .q) (c .before .before .before .before .before .loop .i) (c .before .before .before .before .before .loop .range) (c .before .before .before .before .before .loop .left) (c .before .before .before .before .loop-test .taken) (sym (c .before .before .before .at82 .ensures) ∙ c .before .before .if3 .taken) (c .if4 .taken) ∙ whole t (c .before .before .before .before .before)
 
 part-returns-4 : (t : ℕ) → part-lts.Need-returns-4 (claims t) (part-at t) part.Post part-Inv-loop part-μ-loop
-part-returns-4 t c = parts-early (λ k j. scan (c .before .before .before .before .before .before .before .before .before .before .before .before .before .args .depth - 1) k (c .before .before .before .before .before .before .before .before .before .before .before .before .before .args .s .now) j) (c .before .before .before .before .before .before .before .before .before .before .before .before .before .args .s .now) (c .before .before .before .before .before .loop .q) (c .before .before .before .before .before .loop .i) (c .before .before .before .before .before .loop .range) (c .before .before .before .before .before .loop .places) (c .before .before .before .before .before .loop .left) (c .before .before .before .before .loop-test .taken) (sym (c .before .before .before .at82 .ensures) ∙ c .before .before .if3 .taken) (c .if4 .left) ∙ whole t (c .before .before .before .before .before)
+part-returns-4 t c = parts-early (λ k j. scan (c .before .before .before .before .before .before .before .before .before .before .before .before .args .depth - 1) k (c .before .before .before .before .before .before .before .before .before .before .before .before .args .s .now) j) (c .before .before .before .before .before .before .before .before .before .before .before .before .args .s .now) (c .before .before .before .before .before .loop .q) (c .before .before .before .before .before .loop .i) (c .before .before .before .before .before .loop .range) (c .before .before .before .before .before .loop .left) (c .before .before .before .before .loop-test .taken) (sym (c .before .before .before .at82 .ensures) ∙ c .before .before .if3 .taken) (c .if4 .left) ∙ whole t (c .before .before .before .before .before)
 
 part-returns-5 : (t : ℕ) → part-lts.Need-returns-5 (claims t) (part-at t) part.Post part-Inv-loop part-μ-loop
-part-returns-5 t c = parts-junk (λ k j. scan (c .before .before .before .before .before .before .before .before .before .before .before .before .args .depth - 1) k (c .before .before .before .before .before .before .before .before .before .before .before .before .args .s .now) j) (c .before .before .before .before .before .before .before .before .before .before .before .before .args .s .now) (c .before .before .before .before .loop .q) (c .before .before .before .before .loop .i) (c .before .before .before .before .loop .range) (c .before .before .before .before .loop .places) (c .before .before .before .before .loop .left) (c .before .before .before .loop-test .taken) (λ e. c .before .if3 .left (c .before .before .at82 .ensures ∙ e)) (λ e. c .if5 .taken (c .before .before .at82 .ensures ∙ e)) ∙ whole t (c .before .before .before .before)
+part-returns-5 t c = parts-junk (λ k j. scan (c .before .before .before .before .before .before .before .before .before .before .before .args .depth - 1) k (c .before .before .before .before .before .before .before .before .before .before .before .args .s .now) j) (c .before .before .before .before .before .before .before .before .before .before .before .args .s .now) (c .before .before .before .before .loop .q) (c .before .before .before .before .loop .i) (c .before .before .before .before .loop .range) (c .before .before .before .before .loop .left) (c .before .before .before .loop-test .taken) (λ e. c .before .if3 .left (c .before .before .at82 .ensures ∙ e)) (λ e. c .if5 .taken (c .before .before .at82 .ensures ∙ e)) ∙ whole t (c .before .before .before .before)
 
 part-add-part : (t : ℕ) → part-lts.Need-add-part (claims t) (part-at t) part.Post part-Inv-loop part-μ-loop
-part-add-part t c = let h = inside (c .before .before .before .before .before .before .before .before .before .before .before .before .args .s .now) (c .before .before .before .before .loop .i) (λ e. omega (arith, c .before .before .at82 .ensures, c .if5 .left)) in omega arith
+part-add-part t c = let h = inside (c .before .before .before .before .before .before .before .before .before .before .before .args .s .now) (c .before .before .before .before .loop .i) (λ e. omega (arith, c .before .before .at82 .ensures, c .if5 .left)) in omega arith
 
 part-sub-part : (t : ℕ) → part-lts.Need-sub-part (claims t) (part-at t) part.Post part-Inv-loop part-μ-loop
 part-sub-part t c = omega arith
@@ -104,16 +100,13 @@ part-enum-told : (t : ℕ) → part-lts.Need-enum-told (claims t) (part-at t) pa
 part-enum-told t c = search needs
 
 part-returns-6 : (t : ℕ) → part-lts.Need-returns-6 (claims t) (part-at t) part.Post part-Inv-loop part-μ-loop
-part-returns-6 t c = parts-bad (λ k j. scan (c .before .before .before .before .before .before .before .before .before .before .before .before .before .before .before .args .depth - 1) k (c .before .before .before .before .before .before .before .before .before .before .before .before .before .before .before .args .s .now) j) (c .before .before .before .before .before .before .before .before .before .before .before .before .before .before .before .args .s .now) (c .before .before .before .before .before .before .before .loop .q) (c .before .before .before .before .before .before .before .loop .i) (c .before .before .before .before .before .before .before .loop .range) (c .before .before .before .before .before .before .before .loop .places) (c .before .before .before .before .before .before .before .loop .left) (c .before .before .before .before .before .before .loop-test .taken) (λ e. c .before .before .before .before .if3 .left (c .before .before .before .before .before .at82 .ensures ∙ e)) (sym (c .before .before .before .before .before .at82 .ensures) ∙ c .before .before .before .if5 .left) (sym (c .before .before .part .ensures) ∙ c .enum-told .given .1) ∙ whole t (c .before .before .before .before .before .before .before)
+part-returns-6 t c = parts-bad (λ k j. scan (c .before .before .before .before .before .before .before .before .before .before .before .before .before .before .args .depth - 1) k (c .before .before .before .before .before .before .before .before .before .before .before .before .before .before .args .s .now) j) (c .before .before .before .before .before .before .before .before .before .before .before .before .before .before .args .s .now) (c .before .before .before .before .before .before .before .loop .q) (c .before .before .before .before .before .before .before .loop .i) (c .before .before .before .before .before .before .before .loop .range) (c .before .before .before .before .before .before .before .loop .left) (c .before .before .before .before .before .before .loop-test .taken) (λ e. c .before .before .before .before .if3 .left (c .before .before .before .before .before .at82 .ensures ∙ e)) (sym (c .before .before .before .before .before .at82 .ensures) ∙ c .before .before .before .if5 .left) (sym (c .before .before .part .ensures) ∙ c .enum-told .given .1) ∙ whole t (c .before .before .before .before .before .before .before)
 
 part-enum-known-next : (t : ℕ) → part-lts.Need-enum-known-next (claims t) (part-at t) part.Post part-Inv-loop part-μ-loop
 part-enum-known-next t c = search needs
 
 part-both-requires : (t : ℕ) → part-lts.Need-both-requires (claims t) (part-at t) part.Post part-Inv-loop part-μ-loop
 part-both-requires t c κs = tt
-
-part-both-requires-2 : (t : ℕ) → part-lts.Need-both-requires-2 (claims t) (part-at t) part.Post part-Inv-loop part-μ-loop
-part-both-requires-2 t c κs = tt
 
 part-shift-requires : (t : ℕ) → part-lts.Need-shift-requires (claims t) (part-at t) part.Post part-Inv-loop part-μ-loop
 part-shift-requires t c κs = tt
@@ -122,10 +115,10 @@ part-loop-less : (t : ℕ) → part-lts.Need-loop-less (claims t) (part-at t) pa
 part-loop-less t c = omega arith
 
 part-loop-again : (t : ℕ) → part-lts.Need-loop-again (claims t) (part-at t) part.Post part-Inv-loop part-μ-loop
-part-loop-again t c = c .before .before .before .before .before .before .before .before .before .before .before .loop .inv ∙ parts-more (λ k j. scan (c .before .before .before .before .before .before .before .before .before .before .before .before .before .before .before .before .before .before .before .args .depth - 1) k (c .before .before .before .before .before .before .before .before .before .before .before .before .before .before .before .before .before .before .before .args .s .now) j) (c .before .before .before .before .before .before .before .before .before .before .before .before .before .before .before .before .before .before .before .args .s .now) (c .before .before .before .before .before .before .before .before .before .before .before .loop .q) (c .before .before .before .before .before .before .before .before .before .before .before .loop .i) (c .before .before .before .before .before .before .before .before .before .before .before .loop .range) (c .before .before .before .before .before .before .before .before .before .before .before .loop .places) (c .before .before .before .before .before .before .before .before .before .before .before .loop .left) (c .before .before .before .before .before .before .before .before .before .before .loop-test .taken) (λ e. c .before .before .before .before .before .before .before .before .if3 .left (c .before .before .before .before .before .before .before .before .before .at82 .ensures ∙ e)) (sym (c .before .before .before .before .before .before .before .before .before .at82 .ensures) ∙ c .before .before .before .before .before .before .before .if5 .left) (c .before .before .before .before .next .given .0 .0) _ _ (sym (c .before .before .before .before .before .before .part .ensures) ∙ c .before .before .before .before .next .given .1) ∙ rw (c .shift .ensures, c .before .both2 .ensures, c .before .before .both .ensures)
+part-loop-again t c = c .before .before .before .before .before .before .before .before .before .before .loop .inv ∙ parts-more (λ k j. scan (c .before .before .before .before .before .before .before .before .before .before .before .before .before .before .before .before .before .args .depth - 1) k (c .before .before .before .before .before .before .before .before .before .before .before .before .before .before .before .before .before .args .s .now) j) (c .before .before .before .before .before .before .before .before .before .before .before .before .before .before .before .before .before .args .s .now) (c .before .before .before .before .before .before .before .before .before .before .loop .q) (c .before .before .before .before .before .before .before .before .before .before .loop .i) (c .before .before .before .before .before .before .before .before .before .before .loop .range) (c .before .before .before .before .before .before .before .before .before .before .loop .left) (c .before .before .before .before .before .before .before .before .before .loop-test .taken) (λ e. c .before .before .before .before .before .before .before .if3 .left (c .before .before .before .before .before .before .before .before .at82 .ensures ∙ e)) (sym (c .before .before .before .before .before .before .before .before .at82 .ensures) ∙ c .before .before .before .before .before .before .if5 .left) (c .before .before .before .next .given .0 .0) _ (sym (c .before .before .before .before .before .part .ensures) ∙ c .before .before .before .next .given .1) ∙ rw (c .shift .ensures, c .before .both .ensures)
 
 part-returns-7 : (t : ℕ) → part-lts.Need-returns-7 (claims t) (part-at t) part.Post part-Inv-loop part-μ-loop
-part-returns-7 t c = parts-none (λ k j. scan (c .before .before .before .before .before .before .before .before .before .args .depth - 1) k (c .before .before .before .before .before .before .before .before .before .args .s .now) j) (c .before .before .before .before .before .before .before .before .before .args .s .now) (c .before .loop .q) (c .before .loop .i) (c .before .loop .range) (c .before .loop .places) (c .before .loop .left) (c .loop-test .left) ∙ whole t (c .before)
+part-returns-7 t c = parts-none (λ k j. scan (c .before .before .before .before .before .before .before .before .args .depth - 1) k (c .before .before .before .before .before .before .before .before .args .s .now) j) (c .before .before .before .before .before .before .before .before .args .s .now) (c .before .loop .q) (c .before .loop .i) (c .before .loop .range) (c .before .loop .left) (c .loop-test .left) ∙ whole t (c .before)
 
 pub +part-spec : {M : Type 1} → statement M
 +part-spec = close μ-part λ t. part-lts.spec (claims t)
@@ -139,12 +132,11 @@ pub +part-spec : {M : Type 1} → statement M
     (part-returns-2 t)
     (part-add-word-at t)
     (part-word-at-requires t)
-    (part-peek-requires t)
     (part-shape-of-requires t)
     (part-loop-holds t)
     (part-sub-left t)
     (part-at8-requires-2 t)
-    (part-add-t21 t)
+    (part-add-t19 t)
     (part-returns-3 t)
     (part-returns-4 t)
     (part-returns-5 t)
@@ -155,7 +147,6 @@ pub +part-spec : {M : Type 1} → statement M
     (part-returns-6 t)
     (part-enum-known-next t)
     (part-both-requires t)
-    (part-both-requires-2 t)
     (part-shift-requires t)
     (part-loop-less t)
     (part-loop-again t)

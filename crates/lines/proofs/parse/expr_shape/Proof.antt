@@ -2,9 +2,6 @@ use borrow.Author.Needs.{needs}
 use Rattle.lines.proofs.parse.expr_shape.Statement.{statement}
 use Rattle.lines.proofs.parse.expr_shape.Tie as tie
 
-inner-requires : tie.Need-inner-requires
-inner-requires c κs = search needs
-
 enum-told : tie.Need-enum-told
 enum-told c = search needs
 
@@ -14,17 +11,11 @@ fixed-requires c κs = search needs
 enum-told-2 : tie.Need-enum-told-2
 enum-told-2 c = search needs
 
-under-field-requires : tie.Need-under-field-requires
-under-field-requires c κs = search needs
-
 fixed-requires-2 : tie.Need-fixed-requires-2
 fixed-requires-2 c κs = search needs
 
 enum-told-3 : tie.Need-enum-told-3
 enum-told-3 c = search needs
-
-index-mode-requires : tie.Need-index-mode-requires
-index-mode-requires c κs = search needs
 
 fixed-requires-3 : tie.Need-fixed-requires-3
 fixed-requires-3 c κs = search needs
@@ -56,15 +47,6 @@ fixed-requires-6 c κs = search needs
 enum-told-8 : tie.Need-enum-told-8
 enum-told-8 c = search needs
 
-free-requires : tie.Need-free-requires
-free-requires c κs = search needs
-
-bitwise-requires : tie.Need-bitwise-requires
-bitwise-requires c κs = search needs
-
-enum-told-9 : tie.Need-enum-told-9
-enum-told-9 c = search needs
-
 no-shape-requires : tie.Need-no-shape-requires
 no-shape-requires c κs = search needs
 
@@ -72,41 +54,35 @@ returns : tie.Need-returns
 returns c = rw (c .before .enum-told .given .1) (c .fixed .ensures)
 
 returns-2 : tie.Need-returns-2
-returns-2 c = rw (c .before .before .enum-told2 .given .1, ← c .before .under-field .ensures) (c .fixed2 .ensures)
+returns-2 c = rw (c .before .enum-told2 .given .1) (c .fixed2 .ensures)
 
 returns-3 : tie.Need-returns-3
-returns-3 c = rw (c .before .before .enum-told3 .given .1, ← c .before .before .before .before .inner .ensures, ← c .before .index-mode .ensures) (c .fixed3 .ensures)
+returns-3 c = rw (c .before .enum-told3 .given .1) (c .fixed3 .ensures)
 
 returns-4 : tie.Need-returns-4
-returns-4 c = rw (c .before .enum-told4 .given .1, ← c .before .before .before .inner .ensures) (c .fixed4 .ensures)
+returns-4 c = rw (c .before .enum-told4 .given .1) (c .fixed4 .ensures)
 
 returns-5 : tie.Need-returns-5
-returns-5 c = rw (c .before .enum-told5 .given .1, ← c .before .before .before .inner .ensures) (c .behind .ensures)
+returns-5 c = rw (c .before .enum-told5 .given .1) (c .behind .ensures)
 
 returns-6 : tie.Need-returns-6
-returns-6 c = rw (c .before .enum-told6 .given .1, ← c .before .before .before .inner .ensures) (c .fixed5 .ensures)
+returns-6 c = rw (c .before .enum-told6 .given .1) (c .fixed5 .ensures)
 
 returns-7 : tie.Need-returns-7
-returns-7 c = rw (c .before .enum-told7 .given .1, ← c .before .before .before .inner .ensures) (c .fixed6 .ensures)
+returns-7 c = rw (c .before .enum-told7 .given .1) (c .fixed6 .ensures)
 
 returns-8 : tie.Need-returns-8
-returns-8 c = rw (c .before .before .enum-told8 .given .1, ← c .before .before .before .before .inner .ensures, ← c .before .free .ensures) (c .bitwise .ensures)
-
-returns-9 : tie.Need-returns-9
-returns-9 c = rw (c .before .enum-told9 .given .1) (c .no-shape .ensures)
+returns-8 c = rw (c .before .enum-told8 .given .1) (c .no-shape .ensures)
 
 pub expr-shape-spec : {M : Type 1} → statement M
 expr-shape-spec =
     tie.close
     (tie.spec
-    inner-requires
     enum-told
     fixed-requires
     enum-told-2
-    under-field-requires
     fixed-requires-2
     enum-told-3
-    index-mode-requires
     fixed-requires-3
     enum-told-4
     fixed-requires-4
@@ -117,9 +93,6 @@ expr-shape-spec =
     enum-told-7
     fixed-requires-6
     enum-told-8
-    free-requires
-    bitwise-requires
-    enum-told-9
     no-shape-requires
     returns
     returns-2
@@ -128,5 +101,4 @@ expr-shape-spec =
     returns-5
     returns-6
     returns-7
-    returns-8
-    returns-9)
+    returns-8)

@@ -51,8 +51,8 @@ enum-told-8 c = search needs
 no-shape-requires-8 : tie.Need-no-shape-requires-8
 no-shape-requires-8 c κs = search needs
 
-enum-known-cat : tie.Need-enum-known-cat
-enum-known-cat c = search needs
+enum-told-9 : tie.Need-enum-told-9
+enum-told-9 c = search needs
 
 op-of-requires : tie.Need-op-of-requires
 op-of-requires c κs = search needs
@@ -60,8 +60,8 @@ op-of-requires c κs = search needs
 expr-shape-requires : tie.Need-expr-shape-requires
 expr-shape-requires c κs = search needs
 
-enum-told-9 : tie.Need-enum-told-9
-enum-told-9 c = search needs
+enum-told-10 : tie.Need-enum-told-10
+enum-told-10 c = search needs
 
 op-of-requires-2 : tie.Need-op-of-requires-2
 op-of-requires-2 c κs = search needs
@@ -69,14 +69,14 @@ op-of-requires-2 c κs = search needs
 expr-shape-requires-2 : tie.Need-expr-shape-requires-2
 expr-shape-requires-2 c κs = search needs
 
-enum-told-10 : tie.Need-enum-told-10
-enum-told-10 c = search needs
+enum-told-11 : tie.Need-enum-told-11
+enum-told-11 c = search needs
 
 width-shape-requires : tie.Need-width-shape-requires
 width-shape-requires c κs = search needs
 
-enum-told-11 : tie.Need-enum-told-11
-enum-told-11 c = search needs
+enum-told-12 : tie.Need-enum-told-12
+enum-told-12 c = search needs
 
 fixed-requires : tie.Need-fixed-requires
 fixed-requires c κs = search needs
@@ -84,8 +84,8 @@ fixed-requires c κs = search needs
 lone-requires : tie.Need-lone-requires
 lone-requires c κs = search needs
 
-enum-told-12 : tie.Need-enum-told-12
-enum-told-12 c = search needs
+enum-told-13 : tie.Need-enum-told-13
+enum-told-13 c = search needs
 
 fixed-requires-2 : tie.Need-fixed-requires-2
 fixed-requires-2 c κs = search needs
@@ -93,20 +93,20 @@ fixed-requires-2 c κs = search needs
 lone-requires-2 : tie.Need-lone-requires-2
 lone-requires-2 c κs = search needs
 
-enum-told-13 : tie.Need-enum-told-13
-enum-told-13 c = search needs
+enum-told-14 : tie.Need-enum-told-14
+enum-told-14 c = search needs
 
 stmt-shape-requires : tie.Need-stmt-shape-requires
 stmt-shape-requires c κs = search needs
 
-enum-told-14 : tie.Need-enum-told-14
-enum-told-14 c = search needs
+enum-told-15 : tie.Need-enum-told-15
+enum-told-15 c = search needs
 
 item-shape-requires : tie.Need-item-shape-requires
 item-shape-requires c κs = search needs
 
-enum-told-15 : tie.Need-enum-told-15
-enum-told-15 c = search needs
+enum-told-16 : tie.Need-enum-told-16
+enum-told-16 c = search needs
 
 behind-requires : tie.Need-behind-requires
 behind-requires c κs = search needs
@@ -114,8 +114,8 @@ behind-requires c κs = search needs
 lone-requires-3 : tie.Need-lone-requires-3
 lone-requires-3 c κs = search needs
 
-enum-told-16 : tie.Need-enum-told-16
-enum-told-16 c = search needs
+enum-told-17 : tie.Need-enum-told-17
+enum-told-17 c = search needs
 
 behind-requires-2 : tie.Need-behind-requires-2
 behind-requires-2 c κs = search needs
@@ -123,8 +123,8 @@ behind-requires-2 c κs = search needs
 lone-requires-4 : tie.Need-lone-requires-4
 lone-requires-4 c κs = search needs
 
-enum-told-17 : tie.Need-enum-told-17
-enum-told-17 c = search needs
+enum-told-18 : tie.Need-enum-told-18
+enum-told-18 c = search needs
 
 behind-requires-3 : tie.Need-behind-requires-3
 behind-requires-3 c κs = search needs
@@ -132,8 +132,8 @@ behind-requires-3 c κs = search needs
 lone-requires-5 : tie.Need-lone-requires-5
 lone-requires-5 c κs = search needs
 
-enum-told-18 : tie.Need-enum-told-18
-enum-told-18 c = search needs
+enum-told-19 : tie.Need-enum-told-19
+enum-told-19 c = search needs
 
 behind-requires-4 : tie.Need-behind-requires-4
 behind-requires-4 c κs = search needs
@@ -141,14 +141,14 @@ behind-requires-4 c κs = search needs
 lone-requires-6 : tie.Need-lone-requires-6
 lone-requires-6 c κs = search needs
 
-enum-told-19 : tie.Need-enum-told-19
-enum-told-19 c = search needs
+enum-told-20 : tie.Need-enum-told-20
+enum-told-20 c = search needs
 
 line-shape-requires : tie.Need-line-shape-requires
 line-shape-requires c κs = search needs
 
-enum-told-20 : tie.Need-enum-told-20
-enum-told-20 c = search needs
+enum-told-21 : tie.Need-enum-told-21
+enum-told-21 c = search needs
 
 no-shape-requires-9 : tie.Need-no-shape-requires-9
 no-shape-requires-9 c κs = search needs
@@ -187,55 +187,55 @@ returns-8 c = rw (c .before .enum-told8 .given .1) (c .no-shape8 .ensures)
 
 returns-9 : tie.Need-returns-9
 unfolding key code-after
-returns-9 c = rw (c .before .before .before .cat .given .1, ← c .before .op-of .ensures) (c .expr-shape .ensures)
+returns-9 c = rw (c .before .before .enum-told9 .given .1, ← c .before .op-of .ensures) (c .expr-shape .ensures)
 
 returns-10 : tie.Need-returns-10
 unfolding key code-after
-returns-10 c = rw (c .before .before .enum-told9 .given .1, ← c .before .op-of2 .ensures) (c .expr-shape2 .ensures)
+returns-10 c = rw (c .before .before .enum-told10 .given .1, ← c .before .op-of2 .ensures) (c .expr-shape2 .ensures)
 
 returns-11 : tie.Need-returns-11
 unfolding key code-after
-returns-11 c = rw (c .before .enum-told10 .given .1) (c .width-shape .ensures)
+returns-11 c = rw (c .before .enum-told11 .given .1) (c .width-shape .ensures)
 
 returns-12 : tie.Need-returns-12
 unfolding key code-after
-returns-12 c = rw (c .before .before .enum-told11 .given .1, ← c .before .fixed .ensures) (c .lone .ensures)
+returns-12 c = rw (c .before .before .enum-told12 .given .1, ← c .before .fixed .ensures) (c .lone .ensures)
 
 returns-13 : tie.Need-returns-13
 unfolding key code-after
-returns-13 c = rw (c .before .before .enum-told12 .given .1, ← c .before .fixed2 .ensures) (c .lone2 .ensures)
+returns-13 c = rw (c .before .before .enum-told13 .given .1, ← c .before .fixed2 .ensures) (c .lone2 .ensures)
 
 returns-14 : tie.Need-returns-14
 unfolding key code-after
-returns-14 c = rw (c .before .enum-told13 .given .1) (c .stmt-shape .ensures)
+returns-14 c = rw (c .before .enum-told14 .given .1) (c .stmt-shape .ensures)
 
 returns-15 : tie.Need-returns-15
 unfolding key code-after
-returns-15 c = rw (c .before .enum-told14 .given .1) (c .item-shape .ensures)
+returns-15 c = rw (c .before .enum-told15 .given .1) (c .item-shape .ensures)
 
 returns-16 : tie.Need-returns-16
 unfolding key code-after
-returns-16 c = rw (c .before .before .enum-told15 .given .1, ← c .before .behind .ensures) (c .lone3 .ensures)
+returns-16 c = rw (c .before .before .enum-told16 .given .1, ← c .before .behind .ensures) (c .lone3 .ensures)
 
 returns-17 : tie.Need-returns-17
 unfolding key code-after
-returns-17 c = rw (c .before .before .enum-told16 .given .1, ← c .before .behind2 .ensures) (c .lone4 .ensures)
+returns-17 c = rw (c .before .before .enum-told17 .given .1, ← c .before .behind2 .ensures) (c .lone4 .ensures)
 
 returns-18 : tie.Need-returns-18
 unfolding key code-after
-returns-18 c = rw (c .before .before .enum-told17 .given .1, ← c .before .behind3 .ensures) (c .lone5 .ensures)
+returns-18 c = rw (c .before .before .enum-told18 .given .1, ← c .before .behind3 .ensures) (c .lone5 .ensures)
 
 returns-19 : tie.Need-returns-19
 unfolding key code-after
-returns-19 c = rw (c .before .before .enum-told18 .given .1, ← c .before .behind4 .ensures) (c .lone6 .ensures)
+returns-19 c = rw (c .before .before .enum-told19 .given .1, ← c .before .behind4 .ensures) (c .lone6 .ensures)
 
 returns-20 : tie.Need-returns-20
 unfolding key code-after
-returns-20 c = rw (c .before .enum-told19 .given .1) (c .line-shape .ensures)
+returns-20 c = rw (c .before .enum-told20 .given .1) (c .line-shape .ensures)
 
 returns-21 : tie.Need-returns-21
 unfolding key code-after
-returns-21 c = rw (c .before .enum-told20 .given .1) (c .no-shape9 .ensures)
+returns-21 c = rw (c .before .enum-told21 .given .1) (c .no-shape9 .ensures)
 
 pub shape-of-spec : {M : Type 1} → statement M
 shape-of-spec =
@@ -257,39 +257,39 @@ shape-of-spec =
     no-shape-requires-7
     enum-told-8
     no-shape-requires-8
-    enum-known-cat
+    enum-told-9
     op-of-requires
     expr-shape-requires
-    enum-told-9
+    enum-told-10
     op-of-requires-2
     expr-shape-requires-2
-    enum-told-10
-    width-shape-requires
     enum-told-11
+    width-shape-requires
+    enum-told-12
     fixed-requires
     lone-requires
-    enum-told-12
+    enum-told-13
     fixed-requires-2
     lone-requires-2
-    enum-told-13
-    stmt-shape-requires
     enum-told-14
-    item-shape-requires
+    stmt-shape-requires
     enum-told-15
+    item-shape-requires
+    enum-told-16
     behind-requires
     lone-requires-3
-    enum-told-16
+    enum-told-17
     behind-requires-2
     lone-requires-4
-    enum-told-17
+    enum-told-18
     behind-requires-3
     lone-requires-5
-    enum-told-18
+    enum-told-19
     behind-requires-4
     lone-requires-6
-    enum-told-19
-    line-shape-requires
     enum-told-20
+    line-shape-requires
+    enum-told-21
     no-shape-requires-9
     returns
     returns-2

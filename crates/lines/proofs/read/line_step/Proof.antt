@@ -40,10 +40,10 @@ not-written-requires-2 : tie.Need-not-written-requires-2
 not-written-requires-2 c κs = search needs
 
 returns-2 : tie.Need-returns-2
-returns-2 c = ap Fault (c .not-written2 .ensures) ∙ line-junk (c .before .before .before .before .before .before .before .before .before .before .args .s .now) (c .before .before .before .before .before .before .before .before .before .before .args .at) (c .before .before .before .before .before .before .before .before .before .before .args .modules) (c .before .before .before .before .before .before .before .before .before .before .args .items) (c .before .before .before .before .before .before .before .before .before .before .args .seen .now) (sym (c .before .before .before .before .before .before .before .before .at8 .ensures) ∙ c .before .before .before .before .before .before .before .if1 .left) (c .before .before .before .before .next .given .0 .0) _ _ (sym (c .before .before .before .before .before .before .part .ensures) ∙ c .before .before .before .before .next .given .1) (λ e. c .before .if2 .taken (c .before .before .at82 .ensures ∙ e))
+returns-2 c = ap Fault (c .not-written2 .ensures) ∙ line-junk (c .before .before .before .before .before .before .before .before .before .before .args .s .now) (c .before .before .before .before .before .before .before .before .before .before .args .at) (c .before .before .before .before .before .before .before .before .before .before .args .modules) (c .before .before .before .before .before .before .before .before .before .before .args .items) (c .before .before .before .before .before .before .before .before .before .before .args .seen .now) (sym (c .before .before .before .before .before .before .before .before .at8 .ensures) ∙ c .before .before .before .before .before .before .before .if1 .left) (c .before .before .before .before .next .given .0 .0) _ (sym (c .before .before .before .before .before .before .part .ensures) ∙ c .before .before .before .before .next .given .1) (λ e. c .before .if2 .taken (c .before .before .at82 .ensures ∙ e))
 
 returns-3 : tie.Need-returns-3
-returns-3 c = line-large (c .before .before .before .before .before .before .before .before .before .before .args .s .now) (c .before .before .before .before .before .before .before .before .before .before .args .at) (c .before .before .before .before .before .before .before .before .before .before .args .modules) (c .before .before .before .before .before .before .before .before .before .before .args .items) (c .before .before .before .before .before .before .before .before .before .before .args .seen .now) (sym (c .before .before .before .before .before .before .before .before .at8 .ensures) ∙ c .before .before .before .before .before .before .before .if1 .left) (c .before .before .before .before .next .given .0 .0) _ _ (sym (c .before .before .before .before .before .before .part .ensures) ∙ c .before .before .before .before .next .given .1) (sym (c .before .before .at82 .ensures) ∙ c .before .if2 .left) (not-true _ (c .if3 .taken))
+returns-3 c = line-large (c .before .before .before .before .before .before .before .before .before .before .args .s .now) (c .before .before .before .before .before .before .before .before .before .before .args .at) (c .before .before .before .before .before .before .before .before .before .before .args .modules) (c .before .before .before .before .before .before .before .before .before .before .args .items) (c .before .before .before .before .before .before .before .before .before .before .args .seen .now) (sym (c .before .before .before .before .before .before .before .before .at8 .ensures) ∙ c .before .before .before .before .before .before .before .if1 .left) (c .before .before .before .before .next .given .0 .0) _ (sym (c .before .before .before .before .before .before .part .ensures) ∙ c .before .before .before .before .next .given .1) (sym (c .before .before .at82 .ensures) ∙ c .before .if2 .left) (not-true _ (c .if3 .taken))
 
 add-head-step : tie.Need-add-head-step
 add-head-step c = let h = inside (c .before .before .before .before .before .before .before .before .before .before .args .s .now) (c .before .before .before .before .before .before .before .before .before .before .args .at) (λ e. omega (arith, c .before .before .before .before .before .before .before .before .at8 .ensures, c .before .before .before .before .before .before .before .if1 .left)) in omega arith
@@ -55,7 +55,7 @@ returns-4 : tie.Need-returns-4
 returns-4 c = ap Fault (c .not-written .ensures) ∙ line-bad (c .before .before .before .before .before .before .before .args .s .now) (c .before .before .before .before .before .before .before .args .at) (c .before .before .before .before .before .before .before .args .modules) (c .before .before .before .before .before .before .before .args .items) (c .before .before .before .before .before .before .before .args .seen .now) (sym (c .before .before .before .before .before .at8 .ensures) ∙ c .before .before .before .before .if1 .left) (sym (c .before .before .before .part .ensures) ∙ c .before .enum-told .given .1)
 
 returns-5 : tie.Need-returns-5
-returns-5 c = c .head-step .ensures ∙ line-head (c .before .before .before .before .before .before .before .before .before .before .before .args .s .now) (c .before .before .before .before .before .before .before .before .before .before .before .args .at) (c .before .before .before .before .before .before .before .before .before .before .before .args .modules) (c .before .before .before .before .before .before .before .before .before .before .before .args .items) (c .before .before .before .before .before .before .before .before .before .before .before .args .seen .now) (sym (c .before .before .before .before .before .before .before .before .before .at8 .ensures) ∙ c .before .before .before .before .before .before .before .before .if1 .left) (c .before .before .before .before .before .next .given .0 .0) _ _ (sym (c .before .before .before .before .before .before .before .part .ensures) ∙ c .before .before .before .before .before .next .given .1) (sym (c .before .before .before .at82 .ensures) ∙ c .before .before .if2 .left) (not-false _ (c .before .if3 .left))
+returns-5 c = c .head-step .ensures ∙ line-head (c .before .before .before .before .before .before .before .before .before .before .before .args .s .now) (c .before .before .before .before .before .before .before .before .before .before .before .args .at) (c .before .before .before .before .before .before .before .before .before .before .before .args .modules) (c .before .before .before .before .before .before .before .before .before .before .before .args .items) (c .before .before .before .before .before .before .before .before .before .before .before .args .seen .now) (sym (c .before .before .before .before .before .before .before .before .before .at8 .ensures) ∙ c .before .before .before .before .before .before .before .before .if1 .left) (c .before .before .before .before .before .next .given .0 .0) _ (sym (c .before .before .before .before .before .before .before .part .ensures) ∙ c .before .before .before .before .before .next .given .1) (sym (c .before .before .before .at82 .ensures) ∙ c .before .before .if2 .left) (not-false _ (c .before .if3 .left))
 
 pub line-step-spec : {M : Type 1} → statement M
 line-step-spec =
