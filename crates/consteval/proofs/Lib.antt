@@ -1,4 +1,5 @@
 pub mod ArithLaws
+pub mod BitLaws
 pub mod EvalLaws
 pub mod FillLaws
 pub mod TableLaws

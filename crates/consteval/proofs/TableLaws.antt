@@ -1,21 +1,22 @@
 -- What the filled table is: the specification's name table of the module, where its lines are in range.
 -- Assumes nothing.
 use mathlib.Core.Path.{_≡_, refl, sym, ap, ap₂, subst, _∙_}
-use mathlib.Core.Bool.{Bool, true, false, _&&_, _||_, not as opposite}
+use mathlib.Core.Bool.{Bool, true, false, _&&_}
 use mathlib.Core.List.{List, [], _∷_}
 use Prim.Native.Nat.{ℕ, zero, suc, _+_, _-_, _/_, _≤_, _<_, min}
 use native.Mathlib.Omega.{arith}
-use lib.IntN.{ℤ, pos, negsuc, negℤ, _+ℤ_, _-ℤ_, _*ℤ_}
+use lib.IntN.{ℤ, pos, negsuc}
 use lib.ListN.{length, set, length-set}
 use lib.Seq.{getD-set-same, getD-set-other}
-use lib.Dec.{eqb, ltb}
+use lib.Dec.{ltb}
 use borrow.Author.Tests.{lt-ltb, ltb-true, ltb-false}
 use Rattle.spec.specs.Bytes.{Bytes}
-use Rattle.spec.specs.Syntax.{Unary, neg, not, clog2, Binary, add, sub, mul, eq, ne, lt, le, gt, ge, and, or, shl, shr, band, bor, bxor, Expr, lit, truth, name, field, index, if-else, unary, binary, all, Item, Items, port, wire, reg, mem, const, drive, on, inst, repeat, const-if, Header, kind, val, Line, module-line, header-line, item-line}
+use Rattle.spec.specs.Syntax.{eq, Item, Items, port, wire, reg, mem, const, drive, on, inst, repeat, const-if, Header, kind, val, Line, module-line, header-line, item-line}
 use Rattle.spec.specs.Decode.{decode-line}
 use Rattle.spec.specs.Refusal.{lines, decode-lines, in-int, line-in-range, item-in-range, expr-in-range}
-use Rattle.spec.specs.Value.{Value, known, missing, outside, Names, value-of-name, within, is-zero, int-eq, int-lt, truth-value, clog2-bits, clog2-value, unary-value, binary-value, and-then, value, Table, val-names, with-value, const-names, name-table, own-vals}
-use Rattle.spec.proofs.Numbers.{if-case}
+use Rattle.spec.specs.Value.{Value, known, missing, outside, Names, within, value, Table, val-names, with-value, const-names, name-table, own-vals}
+use Rattle.spec.specs.Constants.{InInt, AllInInt}
+use Rattle.spec.proofs.Constants.{constants}
 use Rattle.lines.specs.Numbers.{biased}
 use Rattle.consteval.specs.Worth.{signed, pairs, names-of, room, pushed}
 use Rattle.consteval.specs.Fill.{held, val-of-line, const-of-item, const-of-line, Filling, by-entry, vals-of, consts-of, then-consts, fill-of, headers-of, items-of, all-in-range, Right, Fills}
@@ -69,84 +70,7 @@ names-length : (t : List ℕ) (used : ℕ) → length (names-of t used) ≡ min 
 unfolding names-of
 names-length t used = pairs-length t (min used (length t / 2))
 
--- ---- a known value is in INT
-abbrev InInt : Value → Type 0
-InInt (known z) = in-int z ≡ true
-InInt missing = Unit {0}
-InInt outside = Unit {0}
-
-abbrev AllIn : Names → Type 0
-AllIn [] = Unit {0}
-AllIn (e ∷ names) = (in-int (e .1) ≡ true) × AllIn names
-
-within-in : (z : ℤ) → InInt (within z)
-unfolding within
-within-in z = if-case InInt (in-int z) (known z) outside (λ e. e) (λ e. tt)
-
-truth-in : (b : Bool) → InInt (truth-value b)
-unfolding in-int
-truth-in true = refl
-truth-in false = refl
-
-then-in : (v : Value) (f : ℤ → Value) → ((x : ℤ) → InInt (f x)) → InInt (and-then v f)
-then-in (known x) f g = g x
-then-in missing f g = tt
-then-in outside f g = tt
-
-name-in : (names : Names) → AllIn names → (n : ℕ) → InInt (value-of-name names n)
-unfolding value-of-name
-name-in [] a n = tt
-name-in (e ∷ names) a n = if-case InInt (eqb (e .0) n) (known (e .1)) (value-of-name names n) (λ _. a .0) (λ _. name-in names (a .1) n)
-
-clog2-in : (z : ℤ) → InInt (clog2-value z)
-unfolding clog2-value
-clog2-in (pos zero) = tt
-clog2-in (pos (suc n)) = within-in (pos (clog2-bits (suc n)))
-clog2-in (negsuc n) = tt
-
-unary-in : (o : Unary) (x : ℤ) → InInt (unary-value o x)
-unfolding unary-value
-unary-in neg x = within-in (negℤ x)
-unary-in not x = truth-in (is-zero x)
-unary-in clog2 x = clog2-in x
-
-binary-in : (o : Binary) (x y : ℤ) → InInt (binary-value o x y)
-unfolding binary-value
-binary-in add x y = within-in (x +ℤ y)
-binary-in sub x y = within-in (x -ℤ y)
-binary-in mul x y = within-in (x *ℤ y)
-binary-in eq x y = truth-in (int-eq x y)
-binary-in ne x y = truth-in (opposite (int-eq x y))
-binary-in lt x y = truth-in (int-lt x y)
-binary-in le x y = truth-in (opposite (int-lt y x))
-binary-in gt x y = truth-in (int-lt y x)
-binary-in ge x y = truth-in (opposite (int-lt x y))
-binary-in and x y = truth-in (opposite (is-zero x) && opposite (is-zero y))
-binary-in or x y = truth-in (opposite (is-zero x) || opposite (is-zero y))
-binary-in shl x y = tt
-binary-in shr x y = tt
-binary-in band x y = tt
-binary-in bor x y = tt
-binary-in bxor x y = tt
-
-pub value-in : (names : Names) → AllIn names → (e : Expr) → InInt (value names e)
-unfolding value
-value-in names a (lit n) = within-in (pos n)
-value-in names a (truth b) = truth-in b
-value-in names a (name n) = name-in names a n
-value-in names a (field e n) = tt
-value-in names a (index e i) = tt
-value-in names a (if-else c x y) =
-    then-in (value names c) (λ z. elim (is-zero z) [ true ↦ value names y | false ↦ value names x ])
-    (branch (value-in names a x) (value-in names a y))
-  where
-    branch : InInt (value names x) → InInt (value names y) → (z : ℤ) → InInt (elim (is-zero z) as (λ _. Value) [ true ↦ value names y | false ↦ value names x ])
-    branch p q z = if-case InInt (is-zero z) (value names y) (value names x) (λ _. q) (λ _. p)
-value-in names a (unary o x) = then-in (value names x) (unary-value o) (unary-in o)
-value-in names a (binary o x y) =
-    then-in (value names x) (λ u. and-then (value names y) (binary-value o u)) (λ u. then-in (value names y) (binary-value o u) (binary-in o u))
-value-in names a (all es) = tt
-
+-- ---- a value in INT is held
 sign-bias : (z : ℤ) → in-int z ≡ true → signed (biased z) ≡ z
 unfolding in-int
 sign-bias (pos n) e = let h = ltb-true n 2147483648 e in signed-high (n + 2147483648) (omega arith) ∙ ap pos (let k : n + 2147483648 - 2147483648 ≡ n = omega arith in k)
@@ -208,12 +132,12 @@ RightOf f T = Right (f .answer) (f .table) T
 
 -- what the lines behind give, on any table so far
 abbrev Goes : List Bytes → Type 0
-Goes ls = (t : List ℕ) (used : ℕ) → used ≤ length t / 2 → AllIn (names-of t used) → RightOf (consts-of ls t used) (const-names (so-far t used) (items-of (decode-lines ls)))
+Goes ls = (t : List ℕ) (used : ℕ) → used ≤ length t / 2 → AllInInt (names-of t used) → RightOf (consts-of ls t used) (const-names (so-far t used) (items-of (decode-lines ls)))
 
 pushed-fits : (t : List ℕ) (used n v : ℕ) → room t used ≡ true → used + 1 ≤ length (pushed t used n v) / 2
 pushed-fits t used n v r = omega (arith, ltb-true used (length t / 2) r, pushed-length t used n v (pushed t used n v) refl)
 
-module _ (ls : List Bytes) (go-on : Goes ls) (t : List ℕ) (used : ℕ) (fits : used ≤ length t / 2) (ints : AllIn (names-of t used)) where
+module _ (ls : List Bytes) (go-on : Goes ls) (t : List ℕ) (used : ℕ) (fits : used ≤ length t / 2) (ints : AllInInt (names-of t used)) where
   abbrev rest : Items
   rest = items-of (decode-lines ls)
 
@@ -232,7 +156,7 @@ module _ (ls : List Bytes) (go-on : Goes ls) (t : List ℕ) (used : ℕ) (fits :
       put false e b r = absurd (let y : _≡_ {A = ℕ} 0 1 = cc in omega arith)
       put true e true r =
           let eq = names-pushed t used n (biased z) r ∙ here in
-          let next = go-on (pushed t used n (biased z)) (used + 1) (pushed-fits t used n (biased z) r) (subst (λ (x : Names). AllIn x) (sym eq) (i, ints)) in
+          let next = go-on (pushed t used n (biased z)) (used + 1) (pushed-fits t used n (biased z) r) (subst (λ (x : Names). AllInInt x) (sym eq) (i, ints)) in
           subst (λ (f : Filling). RightOf f (const-names (record { names = (n, z) ∷ names-of t used; out = false }) rest)) (sym (put-in n (biased z) (consts-of ls) t used r))
           (subst (λ (x : Names). RightOf (consts-of ls (pushed t used n (biased z)) (used + 1)) (const-names (record { names = x; out = false }) rest)) eq next)
       put true e false r =
@@ -246,7 +170,7 @@ module _ (ls : List Bytes) (go-on : Goes ls) (t : List ℕ) (used : ℕ) (fits :
   item-right (wire n x s) e = go-on t used fits ints
   item-right (reg n s) e = go-on t used fits ints
   item-right (mem n s) e = go-on t used fits ints
-  item-right (const n x) e = const-right n (omega (arith, ltb-true n 256 (both (ltb n 256) (expr-in-range x) e .0))) (value (names-of t used) x) (value-in (names-of t used) ints x)
+  item-right (const n x) e = const-right n (omega (arith, ltb-true n 256 (both (ltb n 256) (expr-in-range x) e .0))) (value (names-of t used) x) (constants .in-range (names-of t used) ints x)
   item-right (drive lv x) e = go-on t used fits ints
   item-right (on s ss) e = go-on t used fits ints
   item-right (inst i) e = go-on t used fits ints
@@ -268,7 +192,7 @@ consts-right (s ∷ ls) a t used f i =
 
 -- ---- the header's lines
 abbrev RightVals : Filled → List ℕ → Names → Type 0
-RightVals (Used n) t vs = (names-of t n ≡ vs) × (n ≤ length t / 2) × AllIn (names-of t n)
+RightVals (Used n) t vs = (names-of t n ≡ vs) × (n ≤ length t / 2) × AllInInt (names-of t n)
 RightVals Left t vs = ⊥
 RightVals Short t vs = length t / 2 < length vs
 RightVals Wrong t vs = ⊥
@@ -277,7 +201,7 @@ abbrev ValsOf : Filling → Names → Type 0
 ValsOf f vs = RightVals (f .answer) (f .table) vs
 
 abbrev GoesVals : List Bytes → Type 0
-GoesVals ls = (t : List ℕ) (used : ℕ) → used ≤ length t / 2 → AllIn (names-of t used) → ValsOf (vals-of ls t used) (val-names (names-of t used) (headers-of (decode-lines ls)))
+GoesVals ls = (t : List ℕ) (used : ℕ) → used ≤ length t / 2 → AllInInt (names-of t used) → ValsOf (vals-of ls t used) (val-names (names-of t used) (headers-of (decode-lines ls)))
 
 vals-grow : (names : Names) (hs : List Header) → length names ≤ length (val-names names hs)
 unfolding val-names
@@ -289,14 +213,14 @@ within-known : (z : ℤ) → in-int z ≡ true → within z ≡ known z
 unfolding within
 within-known z e = rw (e, within)
 
-module _ (ls : List Bytes) (go-on : GoesVals ls) (t : List ℕ) (used : ℕ) (fits : used ≤ length t / 2) (ints : AllIn (names-of t used)) where
+module _ (ls : List Bytes) (go-on : GoesVals ls) (t : List ℕ) (used : ℕ) (fits : used ≤ length t / 2) (ints : AllInInt (names-of t used)) where
   abbrev after : Names → Names
   after names = val-names names (headers-of (decode-lines ls))
 
   val-put : (n : ℕ) (z : ℤ) → in-int z ≡ true → (b : Bool) → room t used ≡ b → ValsOf (by-entry (Put n (biased z)) (vals-of ls) t used) (after ((n, z) ∷ names-of t used))
   val-put n z i true r =
       let eq = names-pushed t used n (biased z) r ∙ ap (λ (y : ℤ). (n, y) ∷ names-of t used) (sign-bias z i) in
-      let next = go-on (pushed t used n (biased z)) (used + 1) (pushed-fits t used n (biased z) r) (subst (λ (x : Names). AllIn x) (sym eq) (i, ints)) in
+      let next = go-on (pushed t used n (biased z)) (used + 1) (pushed-fits t used n (biased z) r) (subst (λ (x : Names). AllInInt x) (sym eq) (i, ints)) in
       subst (λ (f : Filling). ValsOf f (after ((n, z) ∷ names-of t used))) (sym (put-in n (biased z) (vals-of ls) t used r))
       (subst (λ (x : Names). ValsOf (vals-of ls (pushed t used n (biased z)) (used + 1)) (after x)) eq next)
   val-put n z i false r =
@@ -345,5 +269,5 @@ unfolding fill-of name-table own-vals
 fills = record {
   right = λ bound header items t h i. both-right items i (val-names [] (headers-of (decode-lines (lines header)))) (vals-of (lines header) t 0 .answer) (vals-of (lines header) t 0 .table)
       (subst (λ (y : Names). ValsOf (vals-of (lines header) t 0) (val-names y (headers-of (decode-lines (lines header))))) (names-none t)
-      (vals-right (lines header) h t 0 (omega arith) (subst (λ (y : Names). AllIn y) (sym (names-none t)) tt)));
+      (vals-right (lines header) h t 0 (omega arith) (subst (λ (y : Names). AllInInt y) (sym (names-none t)) tt)));
 }

@@ -7,7 +7,7 @@ use Prim.Native.Nat.{ℕ, zero, suc, _+_, _/_, min}
 use lib.IntN.{ℤ, subℕ}
 use lib.ListN.{length, getD, set}
 use lib.Dec.{ltb}
-use Rattle.spec.specs.Syntax.{Unary, neg, not, clog2, Binary, add, sub, mul, eq, ne, lt, le, gt, ge, and, or, shl}
+use Rattle.spec.specs.Syntax.{Unary, neg, not, clog2, Binary, add, sub, mul, eq, ne, lt, le, gt, ge, and, or, shl, shr, band, bor, bxor}
 use Rattle.spec.specs.Value.{Value, known, missing, outside, Names}
 use Rattle.lines.specs.declared.words.Word.{Word}
 use Rattle.lines.specs.declared.words.Word.the-variants.{N as N-word, F as F-word, Ix as Ix-word, If as If-word, All as All-word, Neg as Neg-word, Not as Not-word, Clog2 as Clog2-word, Add as Add-word, Sub as Sub-word, Mul as Mul-word, Eq as Eq-word, Ne as Ne-word, Lt as Lt-word, Le as Le-word, Gt as Gt-word, Ge as Ge-word, And as And-word, Or as Or-word, Shl as Shl-word, Shr as Shr-word, Band as Band-word, Bor as Bor-word, Bxor as Bxor-word, True as True-word, False as False-word, Bit as Bit-word, Opaque as Opaque-word, Bits as Bits-word, Signed as Signed-word, Lv as Lv-word, Set as Set-word, Default as Default-word, Loop as Loop-word, When as When-word, Then as Then-word, Else as Else-word, Conn as Conn-word, Dash as Dash-word, Port as Port-word, Wire as Wire-word, Reg as Reg-word, Mem as Mem-word, Const as Const-word, Drive as Drive-word, On as On-word, Inst as Inst-word, Repeat as Repeat-word, ConstIf as ConstIf-word, In as In-word, Out as Out-word, Module as Module-word, Kind as Kind-word, Val as Val-word, Bound as Bound-word, Unbound as Unbound-word, Other as Other-word}
@@ -16,7 +16,7 @@ use Rattle.consteval.specs.declared.Value.the-variants.{Known, Missing, 
 use Rattle.consteval.specs.declared.shape.Unary.{Unary as One-word}
 use Rattle.consteval.specs.declared.shape.Unary.the-variants.{Neg, Not, Clog2}
 use Rattle.consteval.specs.declared.shape.Binary.{Binary as Two-word}
-use Rattle.consteval.specs.declared.shape.Binary.the-variants.{Add, Sub, Mul, Eq, Ne, Lt, Le, Gt, Ge, And, Or, Bits}
+use Rattle.consteval.specs.declared.shape.Binary.the-variants.{Add, Sub, Mul, Eq, Ne, Lt, Le, Gt, Ge, And, Or, Shl, Shr, Band, Bor, Bxor}
 use Rattle.consteval.specs.declared.shape.Shape.{Shape}
 use Rattle.consteval.specs.declared.shape.Shape.the-variants.{Name, If, One, Two, True, False, None}
 
@@ -46,7 +46,7 @@ unary-of Neg = neg
 unary-of Not = not
 unary-of Clog2 = clog2
 
--- 01, The value: what the code's operators with two parts are; `Bits` is any of the five of refusal 8: none has a value
+-- 01, The value; 02, U1: what the code's operators with two parts are
 abbrev pub binary-of : Two-word → Binary
 binary-of Add = add
 binary-of Sub = sub
@@ -59,7 +59,11 @@ binary-of Gt = gt
 binary-of Ge = ge
 binary-of And = and
 binary-of Or = or
-binary-of Bits = shl
+binary-of Shl = shl
+binary-of Shr = shr
+binary-of Band = band
+binary-of Bor = bor
+binary-of Bxor = bxor
 
 -- 01, The value: what a word makes of an expression that it heads, or that it is
 abbrev pub shape : Word → Shape
@@ -82,11 +86,11 @@ shape Gt-word = Two Gt
 shape Ge-word = Two Ge
 shape And-word = Two And
 shape Or-word = Two Or
-shape Shl-word = Two Bits
-shape Shr-word = Two Bits
-shape Band-word = Two Bits
-shape Bor-word = Two Bits
-shape Bxor-word = Two Bits
+shape Shl-word = Two Shl
+shape Shr-word = Two Shr
+shape Band-word = Two Band
+shape Bor-word = Two Bor
+shape Bxor-word = Two Bxor
 shape True-word = True
 shape False-word = False
 shape Bit-word = None

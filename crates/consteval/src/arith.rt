@@ -3,8 +3,10 @@ use crate::Value;
 use crate::shape::Binary;
 use crate::shape::Unary;
 ghost use mathlib.Core.Path.{_≡_};
+ghost use Prim.Native.Nat.{_/_, _^_};
 ghost use lib.IntN.{pos, negℤ, subℕ, _+ℤ_, _-ℤ_, _*ℤ_};
-ghost use Rattle.spec.specs.Value.{within, truth-value, clog2-bits, clog2-value, unary-value, binary-value};
+ghost use Rattle.spec.specs.Bits.{bits-and, bits-or, bits-xor, shift-down};
+ghost use Rattle.spec.specs.Value.{within, truth-value, clog2-bits, clog2-value, unary-value, shl-value, shr-value, binary-value};
 ghost use Rattle.spec.specs.Syntax.{and, or};
 ghost use Rattle.consteval.specs.Worth.{signed, worth, unary-of, binary-of};
 
@@ -129,6 +131,80 @@ fn either(x: u32, y: u32) -> Value
     truth(true)
 }
 
+// No value by a negative amount, nor of 0 by 999,999 or more, which is the original's limit on widths.
+fn shl(x: u32, y: u32) -> Value
+    ensures { λ r. ⌜ worth r ≡ shl-value (signed x) (signed y) ⌝ }
+{
+    if y < 2147483648 {
+        return Value::Missing;
+    }
+    let n = y - 2147483648;
+    if x == 2147483648 {
+        if n < 999999 {
+            return Value::Known(x);
+        }
+        return Value::Missing;
+    }
+    if n >= 32 {
+        return Value::Outside;
+    }
+    if x < 2147483648 {
+        return negative(((2147483648 - x) as u64) << n);
+    }
+    positive(((x - 2147483648) as u64) << n)
+}
+
+// n divided by 2 to the k, rounded down.
+fn halved(n: u32, k: u32) -> u32
+    ensures { λ r. ⌜ r ≡ n / 2 ^ k ⌝ }
+{
+    if k < 32 {
+        return n >> k;
+    }
+    0
+}
+
+// Below 0 a value is -(n + 1) with n from 0 up, and n is what is shifted: the quotient is rounded down.
+fn shift_down(x: u32, k: u32) -> u32
+    ensures { λ r. ⌜ signed r ≡ shift-down (signed x) k ⌝ }
+{
+    if x < 2147483648 {
+        let n = halved(2147483647 - x, k);
+        return 2147483647 - n;
+    }
+    let n = halved(x - 2147483648, k);
+    n + 2147483648
+}
+
+// No value by a negative amount.
+fn shr(x: u32, y: u32) -> Value
+    ensures { λ r. ⌜ worth r ≡ shr-value (signed x) (signed y) ⌝ }
+{
+    if y >= 2147483648 {
+        return Value::Known(shift_down(x, y - 2147483648));
+    }
+    Value::Missing
+}
+
+// A word with its top bit inverted is the two's complement of the value that it holds. These three invert it, and invert it back.
+fn band(x: u32, y: u32) -> u32
+    ensures { λ r. ⌜ signed r ≡ bits-and (signed x) (signed y) ⌝ }
+{
+    ((x ^ 2147483648) & (y ^ 2147483648)) ^ 2147483648
+}
+
+fn bor(x: u32, y: u32) -> u32
+    ensures { λ r. ⌜ signed r ≡ bits-or (signed x) (signed y) ⌝ }
+{
+    ((x ^ 2147483648) | (y ^ 2147483648)) ^ 2147483648
+}
+
+fn bxor(x: u32, y: u32) -> u32
+    ensures { λ r. ⌜ signed r ≡ bits-xor (signed x) (signed y) ⌝ }
+{
+    ((x ^ 2147483648) ^ (y ^ 2147483648)) ^ 2147483648
+}
+
 pub fn binary(o: Binary, x: u32, y: u32) -> Value
     ensures { λ r. ⌜ worth r ≡ binary-value (binary-of o) (signed x) (signed y) ⌝ }
 {
@@ -144,6 +220,10 @@ pub fn binary(o: Binary, x: u32, y: u32) -> Value
         Binary::Ge => truth(y <= x),
         Binary::And => both(x, y),
         Binary::Or => either(x, y),
-        Binary::Bits => Value::Missing,
+        Binary::Shl => shl(x, y),
+        Binary::Shr => shr(x, y),
+        Binary::Band => Value::Known(band(x, y)),
+        Binary::Bor => Value::Known(bor(x, y)),
+        Binary::Bxor => Value::Known(bxor(x, y)),
     }
 }

@@ -9,7 +9,6 @@ pub enum Unary {
     Clog2,
 }
 
-// `Bits` stands for the five operators that have no value.
 pub enum Binary {
     Add,
     Sub,
@@ -22,7 +21,11 @@ pub enum Binary {
     Ge,
     And,
     Or,
-    Bits,
+    Shl,
+    Shr,
+    Band,
+    Bor,
+    Bxor,
 }
 
 pub enum Shape {
@@ -58,11 +61,11 @@ pub fn shape_of(w: Word) -> Shape
         Word::Ge => Shape::Two(Binary::Ge),
         Word::And => Shape::Two(Binary::And),
         Word::Or => Shape::Two(Binary::Or),
-        Word::Shl => Shape::Two(Binary::Bits),
-        Word::Shr => Shape::Two(Binary::Bits),
-        Word::Band => Shape::Two(Binary::Bits),
-        Word::Bor => Shape::Two(Binary::Bits),
-        Word::Bxor => Shape::Two(Binary::Bits),
+        Word::Shl => Shape::Two(Binary::Shl),
+        Word::Shr => Shape::Two(Binary::Shr),
+        Word::Band => Shape::Two(Binary::Band),
+        Word::Bor => Shape::Two(Binary::Bor),
+        Word::Bxor => Shape::Two(Binary::Bxor),
         Word::True => Shape::True,
         Word::False => Shape::False,
         Word::Bit => Shape::None,

@@ -1,6 +1,7 @@
 -- `consteval::arith::binary` meets its contract, by the operator. Assumes nothing.
 use Rattle.consteval.proofs.ArithLaws.{eq-test, lt-test, le-test}
-use Rattle.spec.specs.Value.{binary-value}
+use Rattle.spec.specs.Value.{known, binary-value}
+use mathlib.Core.Path.{ap}
 use borrow.Author.Needs.{needs}
 use Rattle.consteval.proofs.arith.binary.Statement.{statement}
 use Rattle.consteval.proofs.arith.binary.Tie as tie
@@ -74,6 +75,33 @@ either-requires c κs = search needs
 enum-told-12 : tie.Need-enum-told-12
 enum-told-12 c = search needs
 
+shl-requires : tie.Need-shl-requires
+shl-requires c κs = search needs
+
+enum-told-13 : tie.Need-enum-told-13
+enum-told-13 c = search needs
+
+shr-requires : tie.Need-shr-requires
+shr-requires c κs = search needs
+
+enum-told-14 : tie.Need-enum-told-14
+enum-told-14 c = search needs
+
+band-requires : tie.Need-band-requires
+band-requires c κs = search needs
+
+enum-told-15 : tie.Need-enum-told-15
+enum-told-15 c = search needs
+
+bor-requires : tie.Need-bor-requires
+bor-requires c κs = search needs
+
+enum-told-16 : tie.Need-enum-told-16
+enum-told-16 c = search needs
+
+bxor-requires : tie.Need-bxor-requires
+bxor-requires c κs = search needs
+
 returns : tie.Need-returns
 unfolding binary-value
 returns c = rw (c .before .enum-told .given .1) (c .add .ensures)
@@ -118,7 +146,23 @@ returns-11 c = rw (c .before .enum-told11 .given .1) (c .either .ensures)
 
 returns-12 : tie.Need-returns-12
 unfolding binary-value
-returns-12 c = rw (c .enum-told12 .given .1)
+returns-12 c = rw (c .before .enum-told12 .given .1) (c .shl .ensures)
+
+returns-13 : tie.Need-returns-13
+unfolding binary-value
+returns-13 c = rw (c .before .enum-told13 .given .1) (c .shr .ensures)
+
+returns-14 : tie.Need-returns-14
+unfolding binary-value
+returns-14 c = rw (c .before .enum-told14 .given .1) (ap known (c .band .ensures))
+
+returns-15 : tie.Need-returns-15
+unfolding binary-value
+returns-15 c = rw (c .before .enum-told15 .given .1) (ap known (c .bor .ensures))
+
+returns-16 : tie.Need-returns-16
+unfolding binary-value
+returns-16 c = rw (c .before .enum-told16 .given .1) (ap known (c .bxor .ensures))
 
 pub binary-spec : {M : Type 1} → statement M
 binary-spec =
@@ -147,6 +191,15 @@ binary-spec =
     enum-told-11
     either-requires
     enum-told-12
+    shl-requires
+    enum-told-13
+    shr-requires
+    enum-told-14
+    band-requires
+    enum-told-15
+    bor-requires
+    enum-told-16
+    bxor-requires
     returns
     returns-2
     returns-3
@@ -158,4 +211,8 @@ binary-spec =
     returns-9
     returns-10
     returns-11
-    returns-12)
+    returns-12
+    returns-13
+    returns-14
+    returns-15
+    returns-16)
