@@ -2,6 +2,7 @@
 //!
 //! A checker is anything that prints reports, or `(refused NUMBER LINE)`, for a text.
 
+pub mod before;
 pub mod command;
 pub mod options;
 pub mod rules;
@@ -16,7 +17,8 @@ pub type Checker<'a> = dyn FnMut(&[u8]) -> Result<Vec<u8>, String> + 'a;
 /// What the checker is held against.
 #[derive(Clone, Copy, Debug, PartialEq, Eq)]
 pub enum Against {
-    /// The original. Refused texts are counted, not compared.
+    /// The original. Refused texts are counted, not compared, and so are texts in which a positive
+    /// number is shifted right by 0: the original has another value there.
     Oracle,
     /// The model's refusals: number and line, and which texts are accepted.
     Refusals,
@@ -28,6 +30,8 @@ pub enum Against {
 pub enum Verdict {
     /// Refused with this number, and not compared or rightly so.
     Refused(u32),
+    /// Not compared, since the other is known to answer something else.
+    LeftOut,
     Exact,
     /// In some module only loop or no loop was compared.
     Tied,
@@ -95,6 +99,9 @@ fn by_oracle(lines: Vec<String>, text: &[u8]) -> Verdict {
             lines,
             model_lines(text),
         );
+    }
+    if model::shifted_by_zero(text) {
+        return Verdict::LeftOut;
     }
     let tied = ties.contains(&true);
     for _ in 0..if tied { TIED_RUNS } else { 1 } {

@@ -2,6 +2,7 @@
 //!
 //! Text `i` of a profile depends on the profile, the seed and `i` alone.
 
+mod bits;
 mod damaged;
 mod dense;
 mod expr;
@@ -30,8 +31,9 @@ use rng::Rng;
 /// - `limits`: each limit and one past it
 /// - `damaged`: texts of the others with something wrong in them
 /// - `dense`: a few names that everything shares; repeats around the rounds that are left
+/// - `bits`: shifts and bit operators, in two texts of three in constant places too
 pub const PROFILES: &[&str] = &[
-    "small", "sites", "blocks", "loops", "ties", "values", "limits", "damaged", "dense",
+    "small", "sites", "blocks", "loops", "ties", "values", "limits", "damaged", "dense", "bits",
 ];
 
 /// Text `i` of a profile under a seed; none where there is no such profile.
@@ -46,6 +48,7 @@ pub fn text(profile: &str, seed: u64, i: u64) -> Option<Vec<u8>> {
         "values" => values::values(r),
         "limits" => limits::limits(r, i),
         "dense" => dense::dense(r),
+        "bits" => bits::bits(r, i),
         "damaged" => return Some(damage_one(r, seed, i)),
         _ => return None,
     };

@@ -11,7 +11,7 @@ mod tree;
 mod value;
 mod walk;
 
-use std::collections::BTreeSet;
+use std::collections::{BTreeMap, BTreeSet};
 
 /// What one call gives back (01, "Refused because of the state"). On a refusal all but `number`
 /// and `line` are zero or empty; on acceptance `line` is 0.
@@ -72,7 +72,7 @@ pub fn printed(text: &[u8]) -> Vec<u8> {
 }
 
 /// For each module, whether the Rust's hash order can change its loop reports, so that only loop
-/// or no loop is compared. Empty for a text that is refused with 1 to 8 or 20.
+/// or no loop is compared. Empty for a text that is refused with 1 to 7 or 20.
 ///
 /// Where the Rust's order is open: it sorts roots (the keys of `edges`) and next nodes by START
 /// with a stable sort over a hash order, so nodes of equal START come in any order. Nothing else
@@ -101,6 +101,37 @@ pub fn ties(text: &[u8]) -> Vec<bool> {
         return Vec::new();
     };
     checked.graphs.iter().map(walk::tied).collect()
+}
+
+/// Whether a positive number was shifted right by 0 while the text was checked. The Rust has
+/// another value there (`(shr 5 0)` is -3), so the text is not compared with it. False for a text
+/// that is refused with 1 to 7 or 20.
+pub fn shifted_by_zero(text: &[u8]) -> bool {
+    let Ok(design) = read::read(text) else {
+        return false;
+    };
+    collect::check_drivers(&design).is_ok_and(|checked| checked.shifted_by_zero)
+}
+
+/// The three answers for a constant.
+#[derive(Clone, Copy, Debug, PartialEq, Eq)]
+pub enum Constant {
+    Value(i128),
+    Missing,
+    /// It, or a part of it, is outside INT: 20.
+    Outside,
+}
+
+/// One expression in a constant place under these values of names, and whether a positive number
+/// was shifted right by 0 for it. None where the expression is badly written.
+pub fn constant(expression: &str, values: &BTreeMap<u32, i128>) -> Option<(Constant, bool)> {
+    let table = value::Table::new(values.clone());
+    let constant = match value::eval(&read::expression(expression)?, &table) {
+        Ok(Some(v)) => Constant::Value(v),
+        Ok(None) => Constant::Missing,
+        Err(value::Full) => Constant::Outside,
+    };
+    Some((constant, table.shifted_by_zero()))
 }
 
 /// For each module of an accepted text the edges that its search for loops walks; none where the

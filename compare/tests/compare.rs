@@ -2,7 +2,7 @@
 
 use compare::compare::command::CheckerCommand;
 use compare::compare::run::{compare_all, smallest, Counts};
-use compare::compare::{judge, options, rules, shrink, Against, Checker, Verdict};
+use compare::compare::{before, judge, options, rules, shrink, Against, Checker, Verdict};
 use compare::{gen, model};
 use std::process::Command;
 
@@ -35,7 +35,7 @@ fn the_model_is_the_same() {
         assert_eq!(counts.differences, 0, "{profile}");
         let refused: u64 = counts.refused.values().sum();
         assert_eq!(counts.texts, 100);
-        assert_eq!(refused + counts.exact + counts.tied, 100);
+        assert_eq!(refused + counts.left_out + counts.exact + counts.tied, 100);
     }
 }
 
@@ -144,6 +144,69 @@ fn refusals_are_compared_by_number_and_line() {
     ));
 }
 
+/// A positive number shifted right by 0 has another value in the original.
+#[test]
+fn a_positive_number_shifted_right_by_0_is_left_out() {
+    let verdict = |text: &'static [u8], printed: &'static [u8]| {
+        let mut checker = |_: &[u8]| Ok(printed.to_vec());
+        judge(&mut checker, Against::Oracle, text)
+    };
+    let kept = b"(module 0 bound)\n(constif (lt (shr 5 0) 0) (then (reg 1 2)) (else))\n";
+    assert_eq!(verdict(kept, b""), Verdict::LeftOut);
+    assert_eq!(verdict(kept, b"(E0503 0 2 1 none)\n"), Verdict::LeftOut);
+    assert_eq!(verdict(kept, b"(refused 20 0)\n"), Verdict::Refused(20));
+    // shifted by 1, or beside a constant that is 20, it is compared
+    let shifted = b"(module 0 bound)\n(constif (lt (shr 5 1) 0) (then (reg 1 2)) (else))\n";
+    assert_eq!(verdict(shifted, b""), Verdict::Exact);
+    let other = verdict(shifted, b"(E0503 0 2 1 none)\n");
+    assert!(matches!(other, Verdict::Different(_)));
+    let full = b"(module 0 bound)\n(const 1 (shr 5 0))\n(const 1 (shl 1 31))\n";
+    assert!(matches!(verdict(full, b""), Verdict::Different(_)));
+    // against the model there is nothing to leave out
+    let mut wrong = |_: &[u8]| Ok(b"(E0503 0 2 1 none)\n".to_vec());
+    let other = judge(&mut wrong, Against::Model, kept);
+    assert!(matches!(other, Verdict::Different(_)));
+}
+
+#[test]
+fn before_and_now_are_compared_byte_for_byte() {
+    let verdict = |was: &'static [u8], is: &'static [u8]| {
+        let mut before = |_: &[u8]| Ok(was.to_vec());
+        let mut now = |_: &[u8]| Ok(is.to_vec());
+        before::judge(&mut before, &mut now, b"(module 0 bound)\n")
+    };
+    let report = b"(E0503 0 1 4 none)\n";
+    assert_eq!(verdict(report, report), Verdict::Exact);
+    assert_eq!(verdict(b"", b""), Verdict::Exact);
+    let refused = b"(refused 5 2)\n";
+    assert_eq!(verdict(refused, refused), Verdict::Refused(5));
+    // only 8, and only of the one before, is passed over
+    let eight = b"(refused 8 2)\n";
+    for is in [&b""[..], report, refused, eight] {
+        assert_eq!(verdict(eight, is), Verdict::LeftOut);
+    }
+    for (was, is) in [
+        (&report[..], &b""[..]),
+        (b"", report),
+        (report, &report[..report.len() - 1]),
+        (report, eight),
+        (refused, b"(refused 5 3)\n"),
+        (refused, report),
+        (report, refused),
+        (b"\xff\n", b"\xfe\n"),
+    ] {
+        assert!(matches!(verdict(was, is), Verdict::Different(_)), "{is:?}");
+    }
+    let mut fails = |_: &[u8]| Err("no answer".to_string());
+    let mut works = |_: &[u8]| Ok(Vec::new());
+    let one = before::judge(&mut fails, &mut works, b"");
+    let two = before::judge(&mut works, &mut fails, b"");
+    assert!(matches!(
+        (one, two),
+        (Verdict::Different(_), Verdict::Different(_))
+    ));
+}
+
 const TIED: &[u8] = b"(module 0 bound)\n(kind 1 wire)\n(kind 2 wire)\n(kind 4 out)\n(kind 5 out)\n\
     (wire 1 (n 2) 5)\n(wire 2 (n 1) 5)\n\
     (drive (lv 4 1) 0)\n(drive (lv 5 1) 0)\n(drive (lv 4 2) 0)\n(drive (lv 5 2) 0)\n";
@@ -221,7 +284,8 @@ fn differences_are_shown_and_counted() {
     );
     let expected = format!(
         "difference in one: {what} 20 4 none)\n{small}difference in three: {what} 0 4 none)\n\
-         {small}these: texts 3, refused 0, compared exactly 1, with ties 0, differences 2\n"
+         {small}these: texts 3, refused 0, left out 0, compared exactly 1, with ties 0, \
+         differences 2\n"
     );
     assert_eq!(String::from_utf8(out).unwrap(), expected);
 }
@@ -243,7 +307,8 @@ fn a_difference_is_made_small() {
         let Verdict::Different(found) = judge(&mut no_regs, Against::Oracle, &text) else {
             continue;
         };
-        let (small, found) = smallest(&mut no_regs, Against::Oracle, &text, &found);
+        let mut again = |text: &[u8]| judge(&mut no_regs, Against::Oracle, text);
+        let (small, found) = smallest(&mut again, &text, &found);
         assert!(matches!(
             judge(&mut no_regs, Against::Oracle, &small),
             Verdict::Different(_)
@@ -314,6 +379,11 @@ fn arguments() {
     };
     assert_eq!(options.checker, Some(checker));
     assert_eq!(options.against, Against::Oracle);
+    assert_eq!(options.before, None);
+    let options = parse(&["--before", "old", "new", "old"]).unwrap();
+    let named = |c: Option<CheckerCommand>| c.map(|c| (c.program, c.args.len()));
+    assert_eq!(named(options.before), Some(("old".to_string(), 0)));
+    assert_eq!(named(options.checker), Some(("new".to_string(), 1)));
     let options = parse(&["--model", "--refusals", "--profile", gen::PROFILES[0]]).unwrap();
     assert_eq!((options.profiles.len(), options.checker), (1, None));
     for bad in [
@@ -326,6 +396,10 @@ fn arguments() {
         &["--profile", "none", "check"],
         &["--cases", "x", "--profile", gen::PROFILES[0], "check"],
         &["--refusals", "--against-model", "check"],
+        &["--before", "check"],
+        &["--before"],
+        &["--before", "old", "--refusals", "check"],
+        &["--against-model", "--before", "old", "check"],
     ] {
         let error = parse(bad).unwrap_err();
         assert_eq!(error.lines().count(), 1, "{error}");
@@ -349,12 +423,32 @@ fn the_program_and_its_exit_status() {
     assert_eq!(out.lines().count(), gen::PROFILES.len());
     let (status, _, _) = program(&["--refusals", "--profile", "damaged", "--count", "20", model]);
     assert_eq!(status, Some(0));
+    // the same program before and now; then one that fails on every text
+    let (status, out, _) = program(&["--profile", "damaged", "--before", model, model]);
+    assert_eq!(status, Some(0));
+    assert!(out.starts_with("damaged: texts 1000, accepted "));
+    assert!(out.ends_with("refused with 8 before 0, different 0\n"));
+    let failing = env!("CARGO_BIN_EXE_compare");
+    for (before, now) in [(failing, model), (model, failing)] {
+        let (status, out, _) = program(&[
+            "--profile",
+            "sites",
+            "--count",
+            "3",
+            "--before",
+            before,
+            now,
+        ]);
+        assert_eq!(status, Some(1));
+        assert!(out.ends_with("accepted 0, refused 0, refused with 8 before 0, different 3\n"));
+    }
     // `compare` without arguments is a checker that fails on every text
     let (status, out, _) = program(&["--count", "3", env!("CARGO_BIN_EXE_compare")]);
     assert_eq!(status, Some(1));
     assert!(out.contains("differences 3"));
     for bad in [
         &["no such checker"][..],
+        &["--before", "no such checker", "--model"],
         &["--cases", "no such file", "--model"],
         &["--bad"],
     ] {

@@ -71,7 +71,7 @@ fn what_was_made_before_changes_nothing() {
 
 #[test]
 fn the_profiles_are_these() {
-    let names = "small sites blocks loops ties values limits damaged dense";
+    let names = "small sites blocks loops ties values limits damaged dense bits";
     assert_eq!(PROFILES.join(" "), names);
     let different: HashSet<Option<Vec<u8>>> = PROFILES.iter().map(|p| text(p, 5, 3)).collect();
     assert_eq!(different.len(), PROFILES.len());
@@ -141,6 +141,172 @@ fn dense_texts_have_what_is_seldom_elsewhere() {
     count("many rounds", &|t| {
         model::answer(t.as_bytes(), model::PROGRAM_BUFFER).rounds > 4000
     });
+}
+
+const BIT_OPS: [&str; 5] = ["(shl ", "(shr ", "(band ", "(bor ", "(bxor "];
+
+fn has_bit_op(text: &str) -> bool {
+    BIT_OPS.iter().any(|op| text.contains(op))
+}
+
+/// The parts of a form, its head first.
+fn parts(form: &str) -> Vec<&str> {
+    let inner = &form[1..form.len() - 1];
+    let (mut found, mut depth, mut from) = (Vec::new(), 0, 0);
+    for (k, b) in inner.bytes().enumerate() {
+        match b {
+            b'(' => depth += 1,
+            b')' => depth -= 1,
+            b' ' if depth == 0 => {
+                found.push(&inner[from..k]);
+                from = k + 1;
+            }
+            _ => {}
+        }
+    }
+    found.push(&inner[from..]);
+    found
+}
+
+/// Whether a constant place in this part of a line has one of the five operators.
+fn in_constant_place(part: &str) -> bool {
+    if !part.starts_with('(') {
+        return false;
+    }
+    let parts = parts(part);
+    let constants: &[&str] = match parts[0] {
+        "bits" | "signed" => &parts[1..],
+        "const" | "inst" => &parts[2..3],
+        "lv" => &parts[3..],
+        "repeat" => &parts[2..4],
+        "constif" => &parts[1..2],
+        "ix" if parts[1].starts_with("(n ") => &parts[2..],
+        _ => &[],
+    };
+    constants.iter().any(|e| has_bit_op(e)) || parts.iter().any(|p| in_constant_place(p))
+}
+
+/// A third of the texts were accepted before the five operators had a place in constants.
+#[test]
+fn bits_texts_have_them_in_constant_places_or_outside_only() {
+    let (mut inside, mut outside) = (0, 0);
+    for i in 0..3000 {
+        let text = String::from_utf8(text("bits", 4, i).unwrap()).unwrap();
+        assert!(has_bit_op(&text), "bits 4 {i}");
+        match text.lines().any(in_constant_place) {
+            true => inside += 1,
+            false => outside += 1,
+        }
+    }
+    assert!(inside > 1900 && outside >= 1000, "{inside} and {outside}");
+}
+
+#[test]
+fn bits_texts_are_mostly_accepted_and_comparable() {
+    let (mut refused, mut left_out, mut quiet) = (0, 0, 0);
+    for i in 0..3000 {
+        let text = text("bits", 4, i).unwrap();
+        let answer = model::answer(&text, model::PROGRAM_BUFFER);
+        refused += usize::from(answer.number != 0);
+        left_out += usize::from(model::shifted_by_zero(&text));
+        quiet += usize::from(answer.number == 0 && answer.reports == 0);
+    }
+    assert!((100..1000).contains(&refused), "{refused} refused");
+    assert!((50..400).contains(&left_out), "{left_out} left out");
+    assert!(quiet < 1000, "{quiet} without a report");
+}
+
+/// With one operator for another, many accepted texts have other reports. None becomes `shl`, with
+/// which most would leave INT.
+#[test]
+fn bits_texts_go_by_the_values() {
+    let printed = |text: &str| model::printed(text.as_bytes());
+    for op in BIT_OPS {
+        for other in BIT_OPS.into_iter().filter(|o| *o != op && *o != "(shl ") {
+            let (mut seen, mut changed) = (0, 0);
+            for i in 0..500 {
+                let text = String::from_utf8(text("bits", 4, i).unwrap()).unwrap();
+                let (one, two) = (printed(&text), printed(&text.replace(op, other)));
+                if !is_refusal(&one) && !is_refusal(&two) {
+                    seen += 1;
+                    changed += usize::from(one != two);
+                }
+            }
+            assert!(6 * changed > seen, "{op}{other}: {changed} of {seen}");
+            assert!(seen > 250, "{op}{other}: {seen}");
+        }
+    }
+}
+
+/// The second part of each `shl` and `shr`, as it is written.
+fn shift_amounts(all: &str) -> Vec<String> {
+    let part_end = |s: &str| {
+        let mut open = 0;
+        s.find(|c| match c {
+            '(' => {
+                open += 1;
+                false
+            }
+            ')' if open == 0 => true,
+            ')' => {
+                open -= 1;
+                false
+            }
+            ' ' => open == 0,
+            _ => false,
+        })
+    };
+    let heads = all
+        .match_indices("(sh")
+        .map(|(at, _)| &all[at + "(shl ".len()..]);
+    heads
+        .filter_map(|parts| {
+            let second = &parts[part_end(parts)? + 1..];
+            Some(second[..part_end(second)?].to_string())
+        })
+        .collect()
+}
+
+/// What the profile is for: each place with each operator, and the amounts that matter.
+#[test]
+fn bits_texts_have_every_place_and_amount() {
+    let texts: Vec<String> = (0..3000)
+        .map(|i| String::from_utf8(text("bits", 4, i).unwrap()).unwrap())
+        .collect();
+    let all = texts.concat();
+    for op in BIT_OPS {
+        for place in [
+            "(bits ",
+            "(signed ",
+            "(constif ",
+            "(repeat 36 ",
+            "(const 30 ",
+            "(inst 8 ",
+            "(ix (n 8) ",
+        ] {
+            let found = all.matches(&format!("{place}{op}")).count();
+            assert!(found >= 20, "{place}{op}: {found}");
+        }
+    }
+    let amounts = shift_amounts(&all);
+    for amount in [
+        "(neg 1)",
+        "0",
+        "1",
+        "30",
+        "31",
+        "32",
+        "33",
+        "999967",
+        "999998",
+        "999999",
+        "1000000",
+        "1000001",
+        "2147483647",
+    ] {
+        let found = amounts.iter().filter(|a| *a == amount).count();
+        assert!(found >= 3, "{amount}: {found}");
+    }
 }
 
 #[test]
@@ -214,7 +380,7 @@ fn the_model_gives_the_stored_answers() {
 #[test]
 fn every_refusal_number_is_there() {
     let refusals = stored("refusals.cases");
-    for number in [1, 2, 3, 4, 5, 6, 7, 8, 20, 21] {
+    for number in [1, 2, 3, 4, 5, 6, 7, 20, 21] {
         let head = format!("(refused {number} ");
         let count = refusals
             .iter()
@@ -222,6 +388,9 @@ fn every_refusal_number_is_there() {
             .count();
         assert!(count >= 2, "refusal {number}: {count}");
     }
+    assert!(refusals
+        .iter()
+        .all(|c| !c.answer.starts_with(b"(refused 8 ")));
     for file in ["cases.cases", "generated.cases"] {
         assert!(
             stored(file).iter().all(|c| !is_refusal(&c.answer)),

@@ -2,7 +2,7 @@
 //! blocks, edges, summaries, the walk, limits. Each accepted text is held against the original too.
 
 use compare::compare::{judge, Against, Verdict};
-use compare::model::{answer, printed, ties, Answer, PROGRAM_BUFFER};
+use compare::model::{answer, printed, shifted_by_zero, ties, Answer, PROGRAM_BUFFER};
 
 fn text_of(lines: &[&str]) -> Vec<u8> {
     lines
@@ -540,14 +540,15 @@ mod text {
         refuses(&[&modules[..32], &modules[33..]].concat(), 6, 33);
     }
 
+    /// What had number 8 has no fault.
     #[test]
-    fn eight_constant_places() {
+    fn eight_is_no_longer_given() {
         for op in ["shl", "shr", "band", "bor", "bxor"] {
             let e = format!("({op} 1 2)");
-            item_accepted(&format!("(wire 3 {e} 5)"));
-            item_accepted(&format!("(drive (lv 2 5) {e})"));
-            item_accepted(&format!("(inst 6 - 0 5 (conn 1 {e}))"));
             for place in [
+                format!("(wire 3 {e} 5)"),
+                format!("(drive (lv 2 5) {e})"),
+                format!("(inst 6 - 0 5 (conn 1 {e}))"),
                 format!("(drive (lv 2 5 {e}) 0)"),
                 format!("(drive (lv 2 5 0 {e}) 0)"),
                 format!("(port out 2 (bits {e}) 5)"),
@@ -566,14 +567,13 @@ mod text {
                 format!("(const 7 (ix {e} 0))"),
                 format!("(const 7 (f (ix (ix (n 6) {e}) 0) 1))"),
                 format!("(wire 3 (f (ix (n 6) (all (neg {e}))) 1) 5)"),
+                format!("(wire 3 (ix (n 6) {e}) 5)"),
+                format!("(wire 3 (f (ix (ix (n 6) 0) {e}) 1) 5)"),
+                format!("(wire 3 (f {e} 1) 5)"),
+                format!("(wire 3 (f (all (ix (n 6) {e})) 1) 5)"),
             ] {
-                item_refused(&place, 8);
+                item_accepted(&place);
             }
-            item_accepted(&format!("(wire 3 (ix (n 6) {e}) 5)"));
-            item_accepted(&format!("(wire 3 (f (ix (ix (n 6) 0) {e}) 1) 5)"));
-            item_accepted(&format!("(wire 3 (f (ix (ix (n 6) {e}) 0) 1) 5)"));
-            item_accepted(&format!("(wire 3 (f {e} 1) 5)"));
-            item_accepted(&format!("(wire 3 (f (all (ix (n 6) {e})) 1) 5)"));
         }
     }
 
@@ -595,7 +595,9 @@ mod text {
             6,
             4,
         );
-        refuses(&["(module 0 bound)", "(const 1 (shl 1 1))", "x"], 8, 2);
+        // the line with the operator is in order, and the next is looked at
+        refuses(&["(module 0 bound)", "(const 1 (shl 1 1))", "x"], 3, 3);
+        refuses(&["(module 0 bound)", "(const 0 (shl 0 0))", ""], 3, 3);
         refuses(&["(module 0 bound)", "(kind 256 in)", "(", "()"], 5, 2);
     }
 
@@ -760,6 +762,196 @@ mod values {
         outside("(sub (neg 2147483647) 2)");
         outside("(neg (sub (neg 2147483647) 1))");
         value("(add (add (sub (neg 2147483647) 1) 2147483647) 4)", 3);
+    }
+
+    /// A module whose output 3 follows its input 2.
+    const CHILD: [&str; 5] = [
+        "(module 1 bound)",
+        "(kind 2 in)",
+        "(kind 3 out)",
+        "(port out 3 bit 1)",
+        "(drive (lv 3 2) (n 2))",
+    ];
+    const LOWEST: &str = "(sub (neg 2147483647) 1)";
+
+    /// A text in which an instance with this index reads its own output.
+    fn looped(e: &str) -> Vec<u8> {
+        let inst = format!("(inst 6 {e} 1 5 (conn 2 (f (ix (n 6) {e}) 3)))");
+        text_of(&[&bound(&[&inst])[..], &CHILD].concat())
+    }
+
+    fn loop_at(v: i64) -> String {
+        format!("(E0504 0 5 (walk (u 6 {v} 3) (u 6 {v} 3)))\n")
+    }
+
+    /// The value of `e`, also a negative one, seen through the index of an instance.
+    #[track_caller]
+    fn index(e: &str, v: i64) {
+        let e = e.replace("LOWEST", LOWEST);
+        let text = looped(&e);
+        assert_eq!(String::from_utf8_lossy(&printed(&text)), loop_at(v), "{e}");
+        as_the_original(&text);
+    }
+
+    #[test]
+    fn shl() {
+        index("(shl 3 4)", 48);
+        index("(shl (neg 3) 4)", -48);
+        index("(shl 5 0)", 5);
+        index("(shl (neg 5) 0)", -5);
+        index("(shl 1 30)", 1_073_741_824);
+        index("(shl (neg 1) 31)", -2_147_483_648);
+        index("(shl 1073741823 1)", 2_147_483_646);
+        for e in [
+            "(shl 1 31)",
+            "(shl (neg 1) 32)",
+            "(shl 1073741824 1)",
+            "(shl (neg 1073741825) 1)",
+            "(shl 1 999998)",
+            "(shl 1 999999)",
+            "(shl (neg 1) 2147483647)",
+        ] {
+            outside(e);
+        }
+    }
+
+    #[test]
+    fn shl_of_0_has_a_width_limit() {
+        for n in [0, 31, 32, 128, 999_997, 999_998] {
+            index(&format!("(shl 0 {n})"), 0);
+        }
+        for n in [999_999, 1_000_000, 2_147_483_647] {
+            no_value(&format!("(shl 0 {n})"));
+        }
+    }
+
+    #[test]
+    fn shr_rounds_towards_minus_infinity() {
+        index("(shr 7 1)", 3);
+        index("(shr (neg 7) 1)", -4);
+        index("(shr (neg 1) 1)", -1);
+        index("(shr (neg 3) 1)", -2);
+        index("(shr (neg 4) 1)", -2);
+        index("(shr LOWEST 1)", -1_073_741_824);
+        index("(shr LOWEST 30)", -2);
+        index("(shr 2147483647 30)", 1);
+        for n in [31, 32, 33, 128, 999_998, 999_999, 2_147_483_647] {
+            index(&format!("(shr 2147483647 {n})"), 0);
+            index(&format!("(shr 0 {n})"), 0);
+            index(&format!("(shr (neg 1) {n})"), -1);
+            index(&format!("(shr LOWEST {n})"), -1);
+        }
+    }
+
+    #[test]
+    fn a_negative_amount_is_rejected() {
+        for op in ["shl", "shr"] {
+            for z in ["0", "1", "(neg 1)", "2147483647", LOWEST] {
+                no_value(&format!("({op} {z} (neg 1))"));
+                no_value(&format!("({op} {z} {LOWEST})"));
+            }
+        }
+    }
+
+    #[test]
+    fn bit_operators_have_no_width() {
+        for (a, b, and, or, xor) in [
+            ("12", "10", 8, 14, 6),
+            ("(neg 4)", "7", 4, -1, -5),
+            ("(neg 4)", "(neg 6)", -8, -2, 6),
+            ("(neg 1)", "0", 0, -1, -1),
+            ("5", "5", 5, 5, 0),
+            ("LOWEST", "2147483647", 0, -1, -1),
+            ("LOWEST", "(neg 1)", -2_147_483_648, -1, 2_147_483_647),
+            ("2147483647", "(neg 1)", 2_147_483_647, -1, -2_147_483_648),
+        ] {
+            for (op, v) in [("band", and), ("bor", or), ("bxor", xor)] {
+                index(&format!("({op} {a} {b})"), v);
+                index(&format!("({op} {b} {a})"), v);
+            }
+        }
+    }
+
+    /// Both operands come before an amount is rejected; a missing one ends it.
+    #[test]
+    fn operands_of_shifts_and_bit_operators() {
+        for op in ["shl", "shr", "band", "bor", "bxor"] {
+            no_value(&format!("({op} (n 7) {OUTSIDE})"));
+            no_value(&format!("({op} (n 7) 0)"));
+            no_value(&format!("({op} 0 (n 7))"));
+            outside(&format!("({op} {OUTSIDE} (n 7))"));
+            outside(&format!("({op} {OUTSIDE} (neg 1))"));
+            outside(&format!("({op} 0 {OUTSIDE})"));
+            outside(&format!("({op} 0 (mul 65536 65536))"));
+            index(&format!("(if 0 ({op} {OUTSIDE} 1) 6)"), 6);
+        }
+    }
+
+    #[test]
+    fn shr_by_0_keeps_a_positive_number() {
+        for (e, v) in [
+            ("(shr 1 0)", 1),
+            ("(shr 5 0)", 5),
+            ("(shr 2147483647 0)", 2_147_483_647),
+            ("(shr 5 (shr 0 0))", 5),
+            ("(neg (shr 5 0))", -5),
+        ] {
+            let text = looped(e);
+            assert_eq!(String::from_utf8_lossy(&printed(&text)), loop_at(v), "{e}");
+            left_out(&text);
+        }
+        index("(shr 0 0)", 0);
+        index("(shr (neg 5) 0)", -5);
+        index("(shr LOWEST 0)", -2_147_483_648);
+    }
+
+    /// The model says so, and `compare` leaves the text out.
+    #[track_caller]
+    fn left_out(text: &[u8]) {
+        assert!(shifted_by_zero(text));
+        let mut model = |text: &[u8]| Ok(printed(text));
+        assert_eq!(judge(&mut model, Against::Oracle, text), Verdict::LeftOut);
+    }
+
+    #[test]
+    fn shr_by_0_counts_where_it_is_evaluated() {
+        for item in [
+            "(const 7 (shr 5 0))",
+            "(const 7 (add (n 7) 0))\n(const 7 (and 0 (shr 5 0)))",
+            "(port out 2 (bits (shr 5 0)) 5)\n(drive (lv 2 6 0) 0)",
+            "(drive (lv 2 5 (shr 5 0)) 0)",
+            "(drive (lv 2 5 (n 7) (shr 5 0)) 0)",
+            "(inst 6 (shr 5 0) 9 5)",
+            "(repeat 9 (n 7) (shr 5 0))",
+            "(repeat 9 (shr 5 0) 0)",
+            "(constif (shr 5 0) (then) (else))",
+            "(wire 3 (f (ix (n 6) (shr 5 0)) 1) 5)",
+            "(repeat 9 0 2 (constif (shr (n 9) 0) (then) (else)))",
+        ] {
+            let items: Vec<&str> = item.split('\n').collect();
+            left_out(&text_of(&bound(&items)));
+        }
+        for item in [
+            "(port in 1 (bits (shr 5 0)) 5)",
+            "(port out 2 (bits (shr 5 0)) 5)",
+            "(const 7 (if 1 2 (shr 5 0)))",
+            "(const 7 (all (shr 5 0)))",
+            "(const 7 (and (n 7) (shr 5 0)))",
+            "(constif 0 (then (const 7 (shr 5 0))) (else))",
+            "(wire 3 (shr 5 0) 5)",
+            "(drive (lv 2 5) (shr 5 0))",
+            "(drive (lv 3 5 (shr 5 0)) 0)",
+            "(repeat 9 0 1 (constif (shr (n 9) 0) (then) (else)))",
+            "(const 7 (shl 5 0))",
+            "(const 7 (shr 5 1))",
+        ] {
+            let text = text_of(&bound(&[item]));
+            assert!(!shifted_by_zero(&text), "{item}");
+            item_accepted(item);
+        }
+        // a text that is refused is not compared in any case
+        let refused = ["(const 7 (shr 5 0))", "(const 7 (shl 1 31))"];
+        assert!(!shifted_by_zero(&text_of(&bound(&refused))));
     }
 
     #[test]

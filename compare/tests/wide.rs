@@ -4,8 +4,14 @@
 //! Three answers of consteval.rs are not those of exact arithmetic. They are the source's own and
 //! are expected here: `shr` of a positive number by 0 takes its top bit for a sign; `clog2` and
 //! shift amounts look at the lowest 128 bits only.
+//!
+//! Then holds the model's constants against consteval.rs: the same, but for the differences that
+//! are listed, and those exactly where they are listed.
 
 use std::cmp::Ordering;
+use std::collections::BTreeMap;
+
+use compare::model::{self, Constant};
 
 use mimz::ast::{BinOp, Builtin, Expr, ExprKind, Ident, UnOp};
 use mimz::bits::Bits;
@@ -596,4 +602,313 @@ fn the_source_takes_the_top_bit_for_a_sign_where_nothing_is_shifted() {
         [shr(5, 0), shr(1, 0), shr(0, 0), shr(5, 1)],
         ["-3", "-1", "0", "2"]
     );
+}
+
+const INT_MIN: i128 = -2_147_483_648;
+const INT_MAX: i128 = 2_147_483_647;
+/// The source does not shift left where width, amount and one more are above this.
+const WIDTH_LIMIT: i128 = 1_000_000;
+/// So many of the names have values in INT.
+const INT_NAMES: usize = 5;
+
+/// How many of each class there were.
+type Seen = BTreeMap<&'static str, usize>;
+
+fn in_int(value: i128) -> bool {
+    (INT_MIN..=INT_MAX).contains(&value)
+}
+
+/// A number of INT, from literals that may be written.
+fn int(value: i128) -> Tree {
+    let literal = |n: i128| Box::new(Tree::Literal(vec![n as u32]));
+    match value {
+        0.. => *literal(value),
+        INT_MIN => Tree::Binary(
+            BinOp::Sub,
+            Box::new(Tree::Neg(literal(INT_MAX))),
+            literal(1),
+        ),
+        _ => Tree::Neg(literal(-value)),
+    }
+}
+
+/// The expression in the line format.
+fn written(tree: &Tree) -> String {
+    match tree {
+        Tree::Literal(digits) => digits[0].to_string(),
+        Tree::Bool(value) => value.to_string(),
+        Tree::Name(name) => format!("(n {name})"),
+        Tree::Neg(a) => format!("(neg {})", written(a)),
+        Tree::Not(a) => format!("(not {})", written(a)),
+        Tree::Clog2(a) => format!("(clog2 {})", written(a)),
+        Tree::Binary(op, a, b) => format!("({} {} {})", head(*op), written(a), written(b)),
+        Tree::If(c, a, b) => format!("(if {} {} {})", written(c), written(a), written(b)),
+        Tree::All(parts) => {
+            let parts: Vec<String> = parts.iter().map(|p| format!(" {}", written(p))).collect();
+            format!("(all{})", parts.concat())
+        }
+        Tree::Field(a) => format!("(f {} 0)", written(a)),
+        Tree::Index(a, b) => format!("(ix {} {})", written(a), written(b)),
+    }
+}
+
+fn head(op: BinOp) -> &'static str {
+    let heads = "add sub mul eq ne lt le gt ge and or shl shr band bor bxor";
+    let at = OPERATORS.iter().position(|&o| o == op).unwrap();
+    heads.split(' ').nth(at).unwrap()
+}
+
+/// The model's constant, and whether it shifted a positive number right by 0.
+fn by_model(tree: &Tree) -> (Constant, bool) {
+    let known = NAMES.into_iter().take(INT_NAMES).enumerate();
+    let values = known.map(|(name, value)| (name as u32, value)).collect();
+    model::constant(&written(tree), &values).expect("a well-written expression")
+}
+
+/// The original's value, at the ends of the type where it is past them.
+fn by_original(tree: &Tree, env: &Env) -> Option<i128> {
+    let value = consteval::eval(&syntax(tree), env).ok()?;
+    Some(value.to_i128_saturating())
+}
+
+fn power_of_two(n: i128) -> i128 {
+    (0..n).fold(1, |power, _| power + power)
+}
+
+/// 0, numbers around each power of two, and the ends of INT.
+fn operands() -> Vec<i128> {
+    let mut found = vec![0, INT_MAX - 1, INT_MAX, INT_MIN, INT_MIN + 1];
+    let near = |k: i128| (-1..=1).map(move |step| power_of_two(k) + step);
+    for n in (0..=30).flat_map(near) {
+        found.extend([n, -n]);
+    }
+    found.sort();
+    found.dedup();
+    found
+}
+
+/// What a shift is to be: its class, the model's constant, and the original's value, where that is
+/// not the same.
+fn shift(op: BinOp, z: i128, n: i128) -> (&'static str, Constant, Option<Option<i128>>) {
+    let width = i128::from(least_width(&from_i128(z)));
+    let outside = z != 0 && (n > 32 || (n >= 0 && !in_int(z * power_of_two(n))));
+    match (op, z, n) {
+        (_, _, ..=-1) => ("negative amount", Constant::Missing, None),
+        (BinOp::Shl, 0, 999_999..) => ("0 past the width limit", Constant::Missing, None),
+        (BinOp::Shl, 0, _) => ("0 shifted left", Constant::Value(0), None),
+        (BinOp::Shl, ..) if outside && width + n + 1 > WIDTH_LIMIT => {
+            ("past the width limit", Constant::Outside, Some(None))
+        }
+        (BinOp::Shl, ..) if outside => {
+            let ends = if z < 0 { i128::MIN } else { i128::MAX };
+            let value = if n > 64 { ends } else { z * power_of_two(n) };
+            (
+                "shifted left out of INT",
+                Constant::Outside,
+                Some(Some(value)),
+            )
+        }
+        (BinOp::Shl, ..) => ("shifted left", Constant::Value(z * power_of_two(n)), None),
+        (_, 1.., 0) => {
+            let wrong = z - power_of_two(width);
+            ("positive by 0", Constant::Value(z), Some(Some(wrong)))
+        }
+        _ => {
+            let value = z.div_euclid(power_of_two(n.min(33)));
+            ("shifted right", Constant::Value(value), None)
+        }
+    }
+}
+
+#[test]
+fn shifts_of_the_model_and_of_the_source() {
+    let far = 999_967..=1_000_001;
+    let amounts = [INT_MIN, -1, 0, 1, 2, 30, 31, 32, 33, INT_MAX];
+    let amounts: Vec<i128> = amounts.into_iter().chain(far).collect();
+    let (env, mut seen) = (names(), Seen::new());
+    for (z, &n) in operands()
+        .into_iter()
+        .flat_map(|z| amounts.iter().map(move |n| (z, n)))
+    {
+        for op in [BinOp::Shl, BinOp::Shr] {
+            let tree = Tree::Binary(op, Box::new(int(z)), Box::new(int(n)));
+            let (class, wanted, unlike) = shift(op, z, n);
+            *seen.entry(class).or_default() += 1;
+            assert_eq!(
+                by_model(&tree),
+                (wanted, class == "positive by 0"),
+                "{tree:?}"
+            );
+            let same = match wanted {
+                Constant::Value(value) => Some(value),
+                _ => None,
+            };
+            let original = unlike.unwrap_or(same);
+            assert_eq!(by_original(&tree, &env), original, "{class}: {tree:?}");
+            let differ = wanted == Constant::Outside || original != same;
+            assert_eq!(differ, unlike.is_some(), "{class}: {tree:?}");
+        }
+    }
+    println!("{seen:?}");
+    assert_eq!(seen.len(), 8, "{seen:?}");
+}
+
+#[test]
+fn bit_operators_of_the_model_and_of_the_source() {
+    let (env, mut seen) = (names(), Seen::new());
+    let operands = operands();
+    for (a, &b) in operands
+        .iter()
+        .flat_map(|&a| operands.iter().map(move |b| (a, b)))
+    {
+        for op in [BinOp::BitAnd, BinOp::BitOr, BinOp::BitXor] {
+            let tree = Tree::Binary(op, Box::new(int(a)), Box::new(int(b)));
+            let wanted = saturated(&binary(op, &from_i128(a), &from_i128(b)).unwrap());
+            assert!(in_int(wanted), "{tree:?}");
+            assert_eq!(
+                by_model(&tree),
+                (Constant::Value(wanted), false),
+                "{tree:?}"
+            );
+            assert_eq!(by_original(&tree, &env), Some(wanted), "{tree:?}");
+            let class = match (a < 0, b < 0) {
+                (true, true) => "both negative",
+                (false, false) => "none negative",
+                _ => "one negative",
+            };
+            *seen.entry(class).or_default() += 1;
+        }
+    }
+    println!("{seen:?}");
+    assert_eq!(seen.len(), 3, "{seen:?}");
+}
+
+impl Random {
+    /// An expression that may stand in a text, with many shifts and bit operators.
+    fn constant(&mut self, depth: usize) -> Tree {
+        if depth == 0 {
+            return self.constant_leaf();
+        }
+        let mut part = || Box::new(self.constant(depth - 1));
+        let (a, b, c) = (part(), part(), part());
+        match self.below(32) {
+            0 => Tree::Neg(a),
+            1 => Tree::Not(a),
+            2 => Tree::Clog2(a),
+            3 => Tree::If(a, b, c),
+            4 => Tree::All(vec![*a]),
+            5..=8 => self.constant_leaf(),
+            9..=16 => {
+                let op = [BinOp::Shl, BinOp::Shr][self.below(2)];
+                let by = if self.below(4) == 0 {
+                    b
+                } else {
+                    Box::new(self.int_amount())
+                };
+                Tree::Binary(op, a, by)
+            }
+            17..=24 => {
+                let op = [BinOp::BitAnd, BinOp::BitOr, BinOp::BitXor][self.below(3)];
+                Tree::Binary(op, a, b)
+            }
+            _ => Tree::Binary(OPERATORS[self.below(OPERATORS.len())], a, b),
+        }
+    }
+
+    fn constant_leaf(&mut self) -> Tree {
+        match self.below(16) {
+            0 => Tree::Bool(self.below(2) == 1),
+            1..=3 => Tree::Name(self.below(INT_NAMES)),
+            4 if self.below(4) == 0 => Tree::Name(NAMES.len()),
+            4..=8 => int(self.below(9) as i128),
+            _ => {
+                let operands = operands();
+                int(operands[self.below(operands.len())])
+            }
+        }
+    }
+
+    fn int_amount(&mut self) -> Tree {
+        int(match self.below(16) {
+            0 => -1 - self.below(3) as i128,
+            1..=3 => 0,
+            4 => 999_967 + self.below(35) as i128,
+            5 => INT_MAX,
+            6..=7 => 30 + self.below(4) as i128,
+            _ => self.below(9) as i128,
+        })
+    }
+}
+
+/// The value of a part, none, or outside INT.
+type Part = Result<Option<i128>, ()>;
+
+/// The original one operator at a time, each on what the parts gave, with the listed differences
+/// put in.
+fn by_steps(tree: &Tree, env: &Env, seen: &mut Seen) -> Part {
+    let step = |tree: &Tree| match by_original(tree, env) {
+        Some(value) if !in_int(value) => Err(()),
+        value => Ok(value),
+    };
+    let mut part = |tree: &Tree| by_steps(tree, env, seen);
+    let one = |of: fn(Box<Tree>) -> Tree, a: Option<i128>| match a {
+        Some(a) => step(&of(Box::new(int(a)))),
+        None => Ok(None),
+    };
+    match tree {
+        Tree::Literal(_) | Tree::Bool(_) | Tree::Name(_) => step(tree),
+        Tree::Neg(a) => one(Tree::Neg, part(a)?),
+        Tree::Not(a) => one(Tree::Not, part(a)?),
+        Tree::Clog2(a) => one(Tree::Clog2, part(a)?),
+        Tree::If(c, a, b) => match part(c)? {
+            Some(0) => part(b),
+            Some(_) => part(a),
+            None => Ok(None),
+        },
+        Tree::All(_) | Tree::Field(_) | Tree::Index(..) => Ok(None),
+        Tree::Binary(op, a, b) => {
+            let Some(a) = part(a)? else {
+                return Ok(None);
+            };
+            let Some(b) = part(b)? else {
+                return Ok(None);
+            };
+            let stepped = step(&Tree::Binary(*op, Box::new(int(a)), Box::new(int(b))));
+            let (class, put) = match (op, a, b) {
+                (BinOp::Shl | BinOp::Shr, _, ..=-1) => ("negative amount", stepped),
+                (BinOp::Shr, 1.., 0) => ("positive by 0", Ok(Some(a))),
+                (BinOp::Shl, 0, _) if stepped == Ok(None) => ("0 past the width limit", stepped),
+                (BinOp::Shl, _, _) if stepped == Ok(None) => ("past the width limit", Err(())),
+                _ => return stepped,
+            };
+            *seen.entry(class).or_default() += 1;
+            put
+        }
+    }
+}
+
+#[test]
+fn random_constants_of_the_model_and_of_the_source() {
+    let (env, mut random, mut seen) = (names(), Random(31_415_926), Seen::new());
+    for round in 0..100_000 {
+        let tree = random.constant(1 + round % 4);
+        let before = seen.get("positive by 0").copied();
+        let stepped = by_steps(&tree, &env, &mut seen);
+        let by_zero = seen.get("positive by 0").copied() != before;
+        let (class, wanted) = match stepped {
+            Ok(Some(value)) => ("value", Constant::Value(value)),
+            Ok(None) => ("no value", Constant::Missing),
+            Err(()) => ("outside INT", Constant::Outside),
+        };
+        *seen.entry(class).or_default() += 1;
+        assert_eq!(by_model(&tree), (wanted, by_zero), "{}", written(&tree));
+        // With none of the differences the original has the same in one go.
+        if let (Ok(value), false) = (stepped, by_zero) {
+            assert_eq!(by_original(&tree, &env), value, "{}", written(&tree));
+            *seen.entry("in one go").or_default() += 1;
+        }
+    }
+    println!("{seen:?}");
+    assert_eq!(seen.len(), 8, "{seen:?}");
+    assert!(seen.values().all(|&count| count > 300), "{seen:?}");
 }

@@ -4,7 +4,7 @@ use super::command::CheckerCommand;
 use super::Against;
 
 pub const USAGE: &str = "usage: compare [--profile NAME]... [--seed S] [--from I] [--count N] \
-[--cases FILE] [--refusals | --against-model] (--model | CHECKER [ARG]...)";
+[--cases FILE] [--refusals | --against-model | --before PROGRAM] (--model | CHECKER [ARG]...)";
 
 #[derive(Clone, Debug, PartialEq, Eq)]
 pub struct Options {
@@ -16,6 +16,8 @@ pub struct Options {
     /// A `.cases` file instead of generated texts.
     pub cases: Option<String>,
     pub against: Against,
+    /// The checker is held against this program, and `against` says nothing.
+    pub before: Option<CheckerCommand>,
     /// `None`: the model in this process.
     pub checker: Option<CheckerCommand>,
 }
@@ -29,6 +31,7 @@ pub fn parse(args: &[String], known_profiles: &[&str]) -> Result<Options, String
         count: 1_000,
         cases: None,
         against: Against::Oracle,
+        before: None,
         checker: None,
     };
     let mut model = false;
@@ -38,6 +41,12 @@ pub fn parse(args: &[String], known_profiles: &[&str]) -> Result<Options, String
             "--model" => model = true,
             "--refusals" => options.set_against(Against::Refusals)?,
             "--against-model" => options.set_against(Against::Model)?,
+            "--before" => {
+                options.before = Some(CheckerCommand {
+                    program: value(arg, args.next())?.clone(),
+                    args: Vec::new(),
+                });
+            }
             "--profile" => options.profiles.push(value(arg, args.next())?.clone()),
             "--cases" => options.cases = Some(value(arg, args.next())?.clone()),
             "--seed" => options.seed = number(arg, args.next())?,
@@ -54,6 +63,9 @@ pub fn parse(args: &[String], known_profiles: &[&str]) -> Result<Options, String
     }
     if model == options.checker.is_some() {
         return Err(format!("give one checker: a command, or --model; {USAGE}"));
+    }
+    if options.before.is_some() && options.against != Against::Oracle {
+        return Err(format!("--before is a mode of its own; {USAGE}"));
     }
     options.settle_profiles(known_profiles)?;
     Ok(options)

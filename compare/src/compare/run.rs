@@ -3,7 +3,7 @@
 use super::options::Options;
 use super::rules::refusal;
 use super::shrink::shrink;
-use super::{judge, Against, Checker, Difference, Verdict};
+use super::{before, judge, Against, Checker, Difference, Verdict};
 use crate::{cases, gen, model};
 use std::collections::BTreeMap;
 use std::fmt;
@@ -22,6 +22,7 @@ pub struct Counts {
     pub texts: u64,
     /// By number.
     pub refused: BTreeMap<u32, u64>,
+    pub left_out: u64,
     pub exact: u64,
     pub tied: u64,
     pub differences: u64,
@@ -32,29 +33,32 @@ impl Counts {
         self.texts += 1;
         match verdict {
             Verdict::Refused(number) => *self.refused.entry(*number).or_default() += 1,
+            Verdict::LeftOut => self.left_out += 1,
             Verdict::Exact => self.exact += 1,
             Verdict::Tied => self.tied += 1,
             Verdict::Different(_) => self.differences += 1,
         }
     }
+
+    /// How many are refused, and how many of them with each number.
+    pub fn shown_refused(&self) -> String {
+        let refused: u64 = self.refused.values().sum();
+        if refused == 0 {
+            return "0".to_string();
+        }
+        let by = self.refused.iter().map(|(n, c)| format!("{n}: {c}"));
+        format!("{refused} ({})", by.collect::<Vec<_>>().join(", "))
+    }
 }
 
 impl fmt::Display for Counts {
     fn fmt(&self, f: &mut fmt::Formatter) -> fmt::Result {
-        let refused: u64 = self.refused.values().sum();
-        write!(f, "texts {}, refused {refused}", self.texts)?;
-        if refused > 0 {
-            let by: Vec<String> = self
-                .refused
-                .iter()
-                .map(|(n, c)| format!("{n}: {c}"))
-                .collect();
-            write!(f, " ({})", by.join(", "))?;
-        }
+        let (texts, refused, left_out) = (self.texts, self.shown_refused(), self.left_out);
         let (exact, tied, differences) = (self.exact, self.tied, self.differences);
         write!(
             f,
-            ", compared exactly {exact}, with ties {tied}, differences {differences}"
+            "texts {texts}, refused {refused}, left out {left_out}, compared exactly {exact}, \
+             with ties {tied}, differences {differences}"
         )
     }
 }
@@ -71,17 +75,24 @@ pub fn run(options: &Options, out: &mut dyn Write) -> Result<u64, String> {
             &mut by_command
         }
     };
-    let mut differences = 0;
+    if let Some(before) = &options.before {
+        before.try_start()?;
+    }
+    let mut on_texts = |title: &str, texts: &mut dyn Iterator<Item = (String, Vec<u8>)>| {
+        let counts = match &options.before {
+            Some(before) => before::compare_all(title, texts, before, checker, out),
+            None => compare_all(title, texts, checker, options.against, out),
+        };
+        counts.map(|counts| counts.differences)
+    };
     if let Some(file) = &options.cases {
         let bytes = std::fs::read(file).map_err(|e| format!("cannot read {file}: {e}"))?;
         let cases = cases::read_cases(&bytes).map_err(|e| format!("{file}: {e}"))?;
-        let texts = cases.into_iter().map(|c| (c.name, c.text));
-        differences += compare_all(file, texts, checker, options.against, out)?.differences;
-    } else {
-        for profile in &options.profiles {
-            let texts = generated(options, profile);
-            differences += compare_all(profile, texts, checker, options.against, out)?.differences;
-        }
+        return on_texts(file, &mut cases.into_iter().map(|c| (c.name, c.text)));
+    }
+    let mut differences = 0;
+    for profile in &options.profiles {
+        differences += on_texts(profile, &mut generated(options, profile))?;
     }
     Ok(differences)
 }
@@ -105,31 +116,39 @@ pub fn compare_all(
     against: Against,
     out: &mut dyn Write,
 ) -> Result<Counts, String> {
-    let mut counts = Counts::default();
-    for (name, text) in texts {
-        let verdict = judge(checker, against, &text);
-        counts.add(&verdict);
-        if let Verdict::Different(found) = verdict {
-            let shown = counts.differences <= SHOWN;
-            let small = shown.then(|| smallest(checker, against, &text, &found));
-            show(out, &name, &found, small).map_err(cannot_write)?;
-        }
-    }
+    let counts = judge_all(texts, &mut |text| judge(checker, against, text), out)?;
     writeln!(out, "{title}: {counts}").map_err(cannot_write)?;
     Ok(counts)
 }
 
-fn cannot_write(e: io::Error) -> String {
+/// What says how a text comes out.
+pub type Judge<'a> = dyn FnMut(&[u8]) -> Verdict + 'a;
+
+/// Counts how the texts come out, and shows the differences.
+pub fn judge_all(
+    texts: impl Iterator<Item = (String, Vec<u8>)>,
+    judge: &mut Judge,
+    out: &mut dyn Write,
+) -> Result<Counts, String> {
+    let mut counts = Counts::default();
+    for (name, text) in texts {
+        let verdict = judge(&text);
+        counts.add(&verdict);
+        if let Verdict::Different(found) = verdict {
+            let shown = counts.differences <= SHOWN;
+            let small = shown.then(|| smallest(judge, &text, &found));
+            show(out, &name, &found, small).map_err(cannot_write)?;
+        }
+    }
+    Ok(counts)
+}
+
+pub fn cannot_write(e: io::Error) -> String {
     format!("cannot write: {e}")
 }
 
 /// A small text that still shows a difference of the same shape, and that difference.
-pub fn smallest(
-    checker: &mut Checker,
-    against: Against,
-    text: &[u8],
-    found: &Difference,
-) -> (Vec<u8>, Difference) {
+pub fn smallest(judge: &mut Judge, text: &[u8], found: &Difference) -> (Vec<u8>, Difference) {
     let sought = shape(text, found);
     let begun = Instant::now();
     let mut last = found.clone();
@@ -137,7 +156,7 @@ pub fn smallest(
         if begun.elapsed() > SHRINK_TIME {
             return false;
         }
-        match judge(checker, against, candidate) {
+        match judge(candidate) {
             Verdict::Different(found) if shape(candidate, &found) == sought => {
                 last = found;
                 true

@@ -1,6 +1,6 @@
 //! `damaged`: texts of the other profiles with something wrong in them.
 
-use super::expr::RUN_TIME;
+use super::expr::BIT_OPS;
 use super::rng::Rng;
 
 const NUMBERS: [&str; 22] = [
@@ -220,7 +220,7 @@ fn a_word(r: &mut Rng, text: Vec<u8>) -> Vec<u8> {
     let operator =
         [&b"add"[..], b"sub", b"mul", b"eq", b"lt", b"and", b"or"].contains(&&text[from..to]);
     let new = if operator || r.chance(25) {
-        r.pick(&RUN_TIME)
+        r.pick(&BIT_OPS)
     } else {
         r.pick(&WORDS)
     };

@@ -5,8 +5,8 @@ use super::rng::Rng;
 pub const TWO_PART: [&str; 11] = [
     "add", "sub", "mul", "eq", "ne", "lt", "le", "gt", "ge", "and", "or",
 ];
-/// The five that no constant place may have.
-pub const RUN_TIME: [&str; 5] = ["shl", "shr", "band", "bor", "bxor"];
+/// Shifts and bit operators. Constants made here have none; `bits` fills constant places with them.
+pub const BIT_OPS: [&str; 5] = ["shl", "shr", "band", "bor", "bxor"];
 pub const ONE_PART: [&str; 3] = ["neg", "not", "clog2"];
 
 /// The names that an expression may use.
@@ -97,7 +97,7 @@ pub fn read(r: &mut Rng, p: &Pool, depth: u32) -> String {
     let d = depth - 1;
     match r.weighted(&[24, 10, 10, 10, 14, 10, 6, 4]) {
         0 => two(r, &TWO_PART, |r| read(r, p, d)),
-        1 => two(r, &RUN_TIME, |r| read(r, p, d)),
+        1 => two(r, &BIT_OPS, |r| read(r, p, d)),
         2 => format!("({} {})", r.pick(&ONE_PART), read(r, p, d)),
         3 => three(r, "if", |r| read(r, p, d)),
         4 => many(r, 4, |r| read(r, p, d)),
@@ -112,7 +112,7 @@ pub fn read(r: &mut Rng, p: &Pool, depth: u32) -> String {
     }
 }
 
-/// A base for `f` that makes no constant place: not `(ix (n NAME) E)`.
+/// A base for `f` other than `(ix (n NAME) E)`, whose E is evaluated.
 fn field_base(r: &mut Rng, p: &Pool, depth: u32) -> String {
     let base = read(r, p, depth);
     if base.starts_with("(ix (n ") {
@@ -121,7 +121,7 @@ fn field_base(r: &mut Rng, p: &Pool, depth: u32) -> String {
     base
 }
 
-/// A base for `(f (ix BASE E) P)` that is no bare name, so that E is no constant place.
+/// A base for `(f (ix BASE E) P)` that is no bare name, so that E is not evaluated.
 fn twice(r: &mut Rng, p: &Pool) -> String {
     format!("(ix (n {}) {})", p.inst(r), p.literal(r))
 }

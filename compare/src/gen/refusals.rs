@@ -3,7 +3,7 @@
 //! Every refusal here was worked out by hand from the scope (01) and the decisions on what
 //! it leaves open; the remark above an entry, or above a run of entries, is the sentence that
 //! decides. No checker computes any of these answers. Entries with `ok` are accepted, and their
-//! answer is the one of the Rust.
+//! answer is the one of the Rust; for entries with `gives` it is stated too, and has to be that.
 
 // Tables, one entry a line.
 #[rustfmt::skip]
@@ -15,11 +15,18 @@ mod part;
 #[rustfmt::skip]
 mod whole;
 
-/// One text; no answer means that it is accepted.
 pub struct Entry {
     pub name: String,
     pub text: Vec<u8>,
-    pub answer: Option<&'static str>,
+    pub answer: Answer,
+}
+
+pub enum Answer {
+    Refused(&'static str),
+    /// Accepted, with these report lines.
+    Reports(&'static str),
+    /// Accepted, with what the Rust reports.
+    Rust,
 }
 
 /// All entries, in the order of the file.
@@ -36,7 +43,7 @@ pub fn all() -> Vec<Entry> {
         part::five,
         order::six,
         order::seven,
-        order::eight,
+        order::operators,
         order::within_a_line,
         order::between_lines,
         limit::nodes_and_edges,
@@ -56,7 +63,7 @@ fn no(out: &mut Vec<Entry>, name: &str, text: impl Into<Vec<u8>>, answer: &'stat
     out.push(Entry {
         name: name.to_string(),
         text: text.into(),
-        answer: Some(answer),
+        answer: Answer::Refused(answer),
     });
 }
 
@@ -65,13 +72,22 @@ fn ok(out: &mut Vec<Entry>, name: &str, text: impl Into<Vec<u8>>) {
     out.push(Entry {
         name: name.to_string(),
         text: text.into(),
-        answer: None,
+        answer: Answer::Rust,
     });
 }
 
 /// One module with this line as its second; the refusal names line 2.
 fn line(out: &mut Vec<Entry>, name: &str, line: &str, answer: &'static str) {
     no(out, name, second(line), answer);
+}
+
+/// One module with this line as its second, accepted with these reports.
+fn gives(out: &mut Vec<Entry>, name: &str, line: &str, reports: &'static str) {
+    out.push(Entry {
+        name: name.to_string(),
+        text: second(line).into(),
+        answer: Answer::Reports(reports),
+    });
 }
 
 /// One module with this line as its second, accepted.

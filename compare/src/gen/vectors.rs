@@ -1,6 +1,6 @@
 //! The stored vectors: stated cases, a sample of generated texts, refusals.
 
-use super::refusals;
+use super::refusals::{self, Answer};
 use crate::cases::Case;
 use crate::{model, oracle};
 
@@ -13,10 +13,19 @@ const SAMPLED: [&str; 5] = ["small", "sites", "blocks", "loops", "values"];
 /// How often the Rust is asked before an answer counts as free of its hash order.
 const ASKED: usize = 12;
 
-/// A stated case; `hand` where the Rust leaves the order to its hash tables.
+/// How a stated answer is held against the Rust.
+#[derive(Clone, Copy, PartialEq, Eq)]
+pub enum Held {
+    Exactly,
+    /// But for what the Rust leaves to the order of its hash tables.
+    ByHand,
+    /// The Rust has to answer something else: a positive number is shifted right by 0.
+    Unlike,
+}
+
 pub struct Stated {
     pub case: Case,
-    pub hand: bool,
+    pub held: Held,
 }
 
 /// The vector files by name. The error lists everything that does not agree.
@@ -47,12 +56,12 @@ fn disagreement(s: &Stated) -> Option<String> {
         Ok(rust) => rust,
         Err(why) => return Some(format!("{name}: {why}")),
     };
-    let same = if s.hand {
-        agree_but_for_ties(answer, &rust)
-    } else {
-        *answer == rust
+    let as_held = match s.held {
+        Held::Exactly => *answer == rust,
+        Held::ByHand => agree_but_for_ties(answer, &rust),
+        Held::Unlike => *answer != rust && model::shifted_by_zero(text),
     };
-    (!same).then(|| format!("{name}\nstated:\n{}Rust:\n{}", show(answer), show(&rust)))
+    (!as_held).then(|| format!("{name}\nstated:\n{}Rust:\n{}", show(answer), show(&rust)))
 }
 
 fn show(bytes: &[u8]) -> String {
@@ -104,16 +113,17 @@ pub fn stated() -> Result<Vec<Stated>, String> {
 }
 
 fn opened(header: &str) -> Stated {
-    let (name, hand) = match header.strip_suffix(" hand") {
-        Some(name) => (name, true),
-        None => (header, false),
+    let (name, held) = match header.rsplit_once(' ') {
+        Some((name, "hand")) => (name, Held::ByHand),
+        Some((name, "unlike")) => (name, Held::Unlike),
+        _ => (header, Held::Exactly),
     };
     let case = Case {
         name: name.to_string(),
         text: Vec::new(),
         answer: Vec::new(),
     };
-    Stated { case, hand }
+    Stated { case, held }
 }
 
 fn add_line(case: &mut Case, line: &str) {
@@ -153,13 +163,16 @@ pub fn with_answers(profile: &str, seed: u64, count: usize) -> Result<Vec<Case>,
     ))
 }
 
-/// Text `i` where it is accepted and the Rust always gives it one answer. One in six may be
-/// without reports.
+/// Text `i` where it is accepted and the Rust always gives it one answer, and no positive number
+/// is shifted right by 0. One in six may be without reports.
 fn with_answer(profile: &str, seed: u64, i: u64, taken: usize) -> Result<Option<Case>, String> {
     let text = super::text(profile, seed, i).ok_or_else(|| format!("no profile `{profile}`"))?;
     let model = model::answer(&text, model::PROGRAM_BUFFER);
     let quiet = model.reports == 0 && taken % 6 != 5;
-    if model.number != 0 || quiet || text.len() > 2500 || model::ties(&text).contains(&true) {
+    if model.number != 0 || quiet || text.len() > 2500 {
+        return Ok(None);
+    }
+    if model::ties(&text).contains(&true) || model::shifted_by_zero(&text) {
         return Ok(None);
     }
     let answer = rust_answer(&text)?;
@@ -185,9 +198,15 @@ fn refusal_cases() -> Result<Vec<Case>, String> {
 }
 
 fn refusal_case(e: refusals::Entry) -> Result<Case, String> {
+    let rust = || rust_answer(&e.text).map_err(|why| format!("{}: {why}", e.name));
     let answer = match e.answer {
-        Some(stated) => format!("{stated}\n").into_bytes(),
-        None => rust_answer(&e.text).map_err(|why| format!("{}: {why}", e.name))?,
+        Answer::Refused(stated) => format!("{stated}\n").into_bytes(),
+        Answer::Reports(stated) if rust()? == stated.as_bytes() => stated.into(),
+        Answer::Reports(stated) => {
+            let (name, rust) = (&e.name, show(&rust()?));
+            return Err(format!("{name}\nstated:\n{stated}Rust:\n{rust}"));
+        }
+        Answer::Rust => rust()?,
     };
     Ok(Case {
         name: e.name,

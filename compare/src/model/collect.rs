@@ -57,11 +57,14 @@ struct Checker<'a> {
     reports: Reports,
     summaries: BTreeMap<usize, Summary>,
     in_progress: BTreeSet<usize>,
+    shifted_by_zero: bool,
 }
 
 pub struct Checked {
     pub reports: Reports,
     pub rounds: u64,
+    /// Whether anywhere a positive number was shifted right by 0.
+    pub shifted_by_zero: bool,
     /// Each module's own graph, for `ties`.
     pub graphs: Vec<Graph>,
 }
@@ -73,6 +76,7 @@ pub fn check_drivers(design: &[Module]) -> Result<Checked, Full> {
         reports: Reports::default(),
         summaries: BTreeMap::new(),
         in_progress: BTreeSet::new(),
+        shifted_by_zero: false,
     };
     let mut rounds = 0;
     let mut graphs = Vec::new();
@@ -84,6 +88,7 @@ pub fn check_drivers(design: &[Module]) -> Result<Checked, Full> {
     Ok(Checked {
         reports: checker.reports,
         rounds,
+        shifted_by_zero: checker.shifted_by_zero,
         graphs,
     })
 }
@@ -94,6 +99,7 @@ impl<'a> Checker<'a> {
         let mut dcx = self.context(number, true)?;
         let left = self.collect_items(&mut dcx, &self.design[number].items, MODULE_ROUNDS)?;
         report_module(&mut dcx, &mut self.reports)?;
+        self.shifted_by_zero |= dcx.table.shifted_by_zero();
         Ok(((MODULE_ROUNDS - left) as u64, dcx.graph))
     }
 
@@ -181,15 +187,12 @@ impl<'a> Checker<'a> {
             _ => return self.collect_items(dcx, items, left),
         };
         let mut left = left - (hi - lo).max(0);
-        let old = dcx.table.get(&var).copied();
+        let old = dcx.table.get(var);
         for v in lo..hi {
-            dcx.table.insert(var, v);
+            dcx.table.put(var, Some(v));
             left = self.collect_items(dcx, items, left)?;
         }
-        match old {
-            Some(v) => dcx.table.insert(var, v),
-            None => dcx.table.remove(&var),
-        };
+        dcx.table.put(var, old);
         Ok(left)
     }
 
@@ -288,6 +291,7 @@ impl<'a> Checker<'a> {
         let mut dcx = self.context(number, false)?;
         self.collect_items(&mut dcx, &self.design[number].items, MODULE_ROUNDS)?;
         self.in_progress.remove(&number);
+        self.shifted_by_zero |= dcx.table.shifted_by_zero();
         self.summaries
             .insert(number, Rc::new(outputs_to_inputs(&dcx)));
         self.check_triples()?;

@@ -332,7 +332,7 @@ fn collect(
                         let mut left = left - (hi - lo).max(0);
                         for v in lo..hi {
                             let mut inner = table.clone();
-                            inner.insert(*var, v);
+                            inner.put(*var, Some(v));
                             left = collect(lines, design, module, items, &mut inner, left)?;
                         }
                         left

@@ -3,7 +3,7 @@
 use super::tree::*;
 use std::collections::BTreeMap;
 
-/// A refusal with 1 to 8 and its line, from 1 (0 for refusal 1).
+/// A refusal with 1 to 7 and its line, from 1 (0 for refusal 1). 8 is no longer given.
 #[derive(Debug)]
 pub struct Refusal {
     pub number: u32,
@@ -19,7 +19,7 @@ const MAX_START: i128 = 2_147_483_647;
 const MAX_INT: i128 = 2_147_483_647;
 const MIN_INT: i128 = -2_147_483_648;
 
-/// 1, then 2 over the whole text, then line by line 3 to 8.
+/// 1, then 2 over the whole text, then line by line 3 to 7.
 pub fn read(text: &[u8]) -> Result<Vec<Module>, Refusal> {
     if text.len() > MAX_BYTES {
         return Err(Refusal { number: 1, line: 0 });
@@ -53,6 +53,20 @@ fn check_bytes(text: &[u8]) -> Result<(), Refusal> {
     }
 }
 
+/// One expression by itself; none where it is badly written or a number is out of range.
+pub fn expression(text: &str) -> Option<Expr> {
+    let line = format!("(all {text})");
+    let mut faults = Faults::default();
+    let Part::Form(_, parts) = whole_form(&line)? else {
+        return None;
+    };
+    let [part] = parts.as_slice() else {
+        return None;
+    };
+    let e = faults.expr(part)?;
+    (!faults.range).then_some(e)
+}
+
 fn lines(text: &[u8]) -> impl Iterator<Item = &str> {
     let text = std::str::from_utf8(text).expect("only bytes 20 to 7E and line feeds");
     text.split_terminator('\n')
@@ -69,11 +83,7 @@ fn read_line(design: &mut Vec<Module>, line: &str) -> Result<(), u32> {
     if faults.range {
         return Err(5);
     }
-    let place = check_place(design, &parsed);
-    if faults.bitwise && place.is_ok() {
-        return Err(8);
-    }
-    place?;
+    check_place(design, &parsed)?;
     add(design, parsed);
     Ok(())
 }
@@ -179,12 +189,11 @@ fn word(text: &str) -> Option<(&str, &str)> {
     (end > 0).then(|| text.split_at(end))
 }
 
-/// Understands the parts of one line. `None` is fault 4; 5 and 8 are noted, so that a 4 further
-/// on is still found.
+/// Understands the parts of one line. `None` is fault 4; 5 is noted, so that a 4 further on is
+/// still found.
 #[derive(Default)]
 struct Faults {
     range: bool,
-    bitwise: bool,
 }
 
 impl Faults {
@@ -234,7 +243,7 @@ impl Faults {
             }),
             ("const", [name, value]) => Some(Item::Const {
                 name: self.name(name)?,
-                value: self.constant(value)?,
+                value: self.expr(value)?,
             }),
             ("drive", [lhs, rhs]) => Some(Item::Drive {
                 lhs: self.lvalue(lhs)?,
@@ -253,12 +262,12 @@ impl Faults {
             })),
             ("repeat", [var, lo, hi, items @ ..]) => Some(Item::Repeat {
                 var: self.name(var)?,
-                lo: self.constant(lo)?,
-                hi: self.constant(hi)?,
+                lo: self.expr(lo)?,
+                hi: self.expr(hi)?,
                 items: self.items(items)?,
             }),
             ("constif", [cond, then, els]) => Some(Item::ConstIf {
-                cond: self.constant(cond)?,
+                cond: self.expr(cond)?,
                 then: self.items(listed("then", then)?)?,
                 els: self.items(listed("else", els)?)?,
             }),
@@ -291,7 +300,7 @@ impl Faults {
     /// The one width of `bits` or `signed`.
     fn only(&mut self, parts: &[Part]) -> Option<Expr> {
         match parts {
-            [width] => self.constant(width),
+            [width] => self.expr(width),
             _ => None,
         }
     }
@@ -305,8 +314,8 @@ impl Faults {
             start: self.start(start)?,
             index: match index {
                 [] => LvIndex::None,
-                [bit] => LvIndex::Bit(self.constant(bit)?),
-                [hi, lo] => LvIndex::HighLow(self.constant(hi)?, self.constant(lo)?),
+                [bit] => LvIndex::Bit(self.expr(bit)?),
+                [hi, lo] => LvIndex::HighLow(self.expr(hi)?, self.expr(lo)?),
                 _ => return None,
             },
         })
@@ -315,7 +324,7 @@ impl Faults {
     fn inst_index(&mut self, part: &Part) -> Option<Option<Expr>> {
         match part {
             Part::Word("-") => Some(None),
-            _ => Some(Some(self.constant(part)?)),
+            _ => Some(Some(self.expr(part)?)),
         }
     }
 
@@ -356,57 +365,27 @@ impl Faults {
     }
 
     fn expr(&mut self, part: &Part) -> Option<Expr> {
-        self.expr_in(part, false)
-    }
-
-    /// An expression in a constant place: 8 goes by form, anywhere inside it.
-    fn constant(&mut self, part: &Part) -> Option<Expr> {
-        self.expr_in(part, true)
-    }
-
-    fn expr_in(&mut self, part: &Part, constant: bool) -> Option<Expr> {
         let (head, parts) = match part {
             Part::Word("true") => return Some(Expr::Bool(true)),
             Part::Word("false") => return Some(Expr::Bool(false)),
             Part::Word(_) => return Some(Expr::Int(self.number(part, MAX_INT)?)),
             Part::Form(head, parts) => (*head, parts.as_slice()),
         };
-        let mut sub = |p: &Part| self.expr_in(p, constant).map(Box::new);
+        let mut sub = |p: &Part| self.expr(p).map(Box::new);
         match (head, parts) {
             ("n", [name]) => Some(Expr::Ident(self.name(name)?)),
-            ("f", [base, field]) => self.field(base, field, constant),
+            ("f", [base, field]) => Some(Expr::Field(sub(base)?, self.name(field)?)),
             ("ix", [base, index]) => Some(Expr::Index(sub(base)?, sub(index)?)),
             ("if", [cond, then, els]) => Some(Expr::If(sub(cond)?, sub(then)?, sub(els)?)),
             ("all", parts) => parts
                 .iter()
-                .map(|p| self.expr_in(p, constant))
+                .map(|p| self.expr(p))
                 .collect::<Option<_>>()
                 .map(Expr::All),
             (_, [x]) => Some(Expr::Unary(un_op(head)?, sub(x)?)),
-            (_, [x, y]) => {
-                let op = bin_op(head)?;
-                let (x, y) = (sub(x)?, sub(y)?);
-                self.bitwise |= constant && op == BinOp::Bitwise;
-                Some(Expr::Binary(op, x, y))
-            }
+            (_, [x, y]) => Some(Expr::Binary(bin_op(head)?, sub(x)?, sub(y)?)),
             _ => None,
         }
-    }
-
-    /// I of `(f (ix (n NAME) I) NAME)` is a constant place, whatever kind NAME has.
-    fn field(&mut self, base: &Part, field: &Part, constant: bool) -> Option<Expr> {
-        let base = match base {
-            Part::Form("ix", parts) => match parts.as_slice() {
-                [array @ Part::Form("n", _), index] => {
-                    let array = self.expr_in(array, constant)?;
-                    let index = self.constant(index)?;
-                    Expr::Index(Box::new(array), Box::new(index))
-                }
-                _ => self.expr_in(base, constant)?,
-            },
-            _ => self.expr_in(base, constant)?,
-        };
-        Some(Expr::Field(Box::new(base), self.name(field)?))
     }
 
     fn name(&mut self, part: &Part) -> Option<Name> {
@@ -516,7 +495,11 @@ fn bin_op(head: &str) -> Option<BinOp> {
         "ge" => Some(BinOp::Ge),
         "and" => Some(BinOp::And),
         "or" => Some(BinOp::Or),
-        "shl" | "shr" | "band" | "bor" | "bxor" => Some(BinOp::Bitwise),
+        "shl" => Some(BinOp::Shl),
+        "shr" => Some(BinOp::Shr),
+        "band" => Some(BinOp::BitAnd),
+        "bor" => Some(BinOp::BitOr),
+        "bxor" => Some(BinOp::BitXor),
         _ => None,
     }
 }

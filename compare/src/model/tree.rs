@@ -135,6 +135,9 @@ pub enum BinOp {
     Ge,
     And,
     Or,
-    /// `shl shr band bor bxor`: read like any other, never in a constant place (refusal 8).
-    Bitwise,
+    Shl,
+    Shr,
+    BitAnd,
+    BitOr,
+    BitXor,
 }

@@ -1,10 +1,44 @@
 //! The value of a constant (01, "The value").
 
 use super::tree::{BinOp, Expr, Module, Name, UnOp};
+use std::cell::Cell;
 use std::collections::BTreeMap;
 
 /// The name table of one module, while it is collected.
-pub type Table = BTreeMap<Name, i128>;
+#[derive(Clone)]
+pub struct Table {
+    values: BTreeMap<Name, i128>,
+    shifted_by_zero: Cell<bool>,
+}
+
+impl Table {
+    /// A table with these values.
+    pub fn new(values: BTreeMap<Name, i128>) -> Table {
+        Table {
+            values,
+            shifted_by_zero: Cell::new(false),
+        }
+    }
+
+    /// The value of a name, if it has one.
+    pub fn get(&self, name: Name) -> Option<i128> {
+        self.values.get(&name).copied()
+    }
+
+    /// Gives a name this value, or takes its value away.
+    pub fn put(&mut self, name: Name, value: Option<i128>) {
+        match value {
+            Some(v) => self.values.insert(name, v),
+            None => self.values.remove(&name),
+        };
+    }
+
+    /// Whether some `eval` under this table shifted a positive number right by 0. It keeps its
+    /// value here and not in the Rust.
+    pub fn shifted_by_zero(&self) -> bool {
+        self.shifted_by_zero.get()
+    }
+}
 
 /// A working limit is passed, or a constant or a part of one is outside INT: refusal 20.
 #[derive(Debug)]
@@ -15,14 +49,16 @@ pub type Value = Result<Option<i128>, Full>;
 
 const INT_MIN: i128 = -2_147_483_648;
 const INT_MAX: i128 = 2_147_483_647;
+/// By this amount or more `shl` of 0 leaves no value.
+const ZERO_TOO_WIDE: i128 = 999_999;
 
 /// `val`, then top-level `const` lines in order; one without a value is skipped.
 pub fn module_table(m: &Module) -> Result<Table, Full> {
-    let mut table = m.vals.clone();
+    let mut table = Table::new(m.vals.clone());
     for item in &m.items {
         if let super::tree::Item::Const { name, value } = item {
             if let Some(v) = eval(value, &table)? {
-                table.insert(*name, v);
+                table.put(*name, Some(v));
             }
         }
     }
@@ -34,7 +70,7 @@ pub fn eval(e: &Expr, table: &Table) -> Value {
     match e {
         Expr::Int(v) => inside(*v),
         Expr::Bool(b) => inside(*b as i128),
-        Expr::Ident(name) => Ok(table.get(name).copied()),
+        Expr::Ident(name) => Ok(table.get(*name)),
         Expr::Unary(op, x) => match eval(x, table)? {
             Some(v) => unary(*op, v),
             None => Ok(None),
@@ -46,6 +82,9 @@ pub fn eval(e: &Expr, table: &Table) -> Value {
             let Some(r) = eval(y, table)? else {
                 return Ok(None);
             };
+            if *op == BinOp::Shr && l > 0 && r == 0 {
+                table.shifted_by_zero.set(true);
+            }
             binary(*op, l, r)
         }
         Expr::If(cond, then, els) => match eval(cond, table)? {
@@ -79,9 +118,32 @@ fn binary(op: BinOp, l: i128, r: i128) -> Value {
         BinOp::Ge => (l >= r) as i128,
         BinOp::And => (l != 0 && r != 0) as i128,
         BinOp::Or => (l != 0 || r != 0) as i128,
-        BinOp::Bitwise => return Ok(None), // refused with 8 before any evaluation
+        BinOp::Shl => return shl(l, r),
+        BinOp::Shr => return shr(l, r),
+        // both are in INT, far within the type: its bits beyond theirs repeat the sign
+        BinOp::BitAnd => l & r,
+        BinOp::BitOr => l | r,
+        BinOp::BitXor => l ^ r,
     };
     inside(v)
+}
+
+/// z times 2 to the n. A negative amount is rejected; 0 has no value past the Rust's width limit.
+fn shl(z: i128, n: i128) -> Value {
+    match (z, n) {
+        (_, ..=-1) | (0, ZERO_TOO_WIDE..) => Ok(None),
+        (0, _) => Ok(Some(0)),
+        (_, 32..) => Err(Full), // even 1 and -1 have left INT
+        _ => inside(z * (1 << n)),
+    }
+}
+
+/// z divided by 2 to the n, rounded towards minus infinity. A negative amount is rejected.
+fn shr(z: i128, n: i128) -> Value {
+    match n {
+        ..=-1 => Ok(None),
+        _ => inside(z.div_euclid(1 << n.min(32))), // by 32 all of INT is 0 or -1
+    }
 }
 
 /// 1 gives 1; else the bits of n - 1.

@@ -112,6 +112,30 @@ pub fn constants(out: &mut Vec<Entry>) {
         ("second-of-or", "(or 1 (mul 65536 65536))", true),
         // "a missing one ends it": the second operand is missing only after the first is out.
         ("before-a-missing-operand", "(add (mul 65536 65536) (n 9))", true),
+        // "A result outside INT is still 20."
+        ("shl-to-the-top", "(shl 1 30)", false),
+        ("shl-past-the-top", "(shl 1 31)", true),
+        ("shl-to-the-bottom", "(shl (neg 1) 31)", false),
+        ("shl-past-the-bottom", "(shl (neg 1) 32)", true),
+        ("shl-of-the-top", "(shl 2147483647 1)", true),
+        ("shl-of-the-bottom", "(shl (sub (neg 2147483647) 1) 1)", true),
+        // A number other than 0 past the Rust's width limit is outside INT first.
+        ("shl-up-to-the-width-limit", "(shl 1 999998)", true),
+        ("shl-past-the-width-limit", "(shl 1 999999)", true),
+        ("shl-far-past", "(shl (neg 1) 2147483647)", true),
+        ("part-of-shr", "(shr (shl 1 31) 1)", true),
+        ("part-of-band", "(band 0 (mul 65536 65536))", true),
+        ("part-of-bor", "(bor (mul 65536 65536) 1)", true),
+        ("part-of-bxor", "(bxor (shl 1 31) (shl 1 31))", true),
+        // Both operands before an amount is rejected; an amount outside INT is no amount.
+        ("before-a-rejected-amount", "(shl (add 2147483647 1) (neg 1))", true),
+        ("before-a-rejected-amount-of-shr", "(shr (add 2147483647 1) (neg 1))", true),
+        ("amount-of-shl", "(shl 0 (mul 65536 65536))", true),
+        ("amount-of-shr", "(shr 0 (mul 65536 65536))", true),
+        ("amount-of-shr-far-below", "(shr 0 (mul (neg 65536) 65536))", true),
+        // "a missing one ends it", and so does a branch that is not taken.
+        ("amount-after-a-missing-operand", "(shl (n 9) (mul 65536 65536))", false),
+        ("shl-in-a-branch-not-taken", "(if 0 (shl 1 31) 0)", false),
     ] {
         let text = format!("(const 1 {e})");
         let name = format!("20-constant-{name}");

@@ -45,7 +45,7 @@ pub fn two(out: &mut Vec<Entry>) {
     // The byte before the line feed belongs to its line, the byte after it to the next.
     no(out, "2-carriage-returns", "(module 0 bound)\r\n(reg 1 5)\r\n", "(refused 2 1)");
     no(out, "2-byte-after-a-line-feed", "(module 0 bound)\n\r(reg 1 5)\n", "(refused 2 2)");
-    // "2 over the whole text" goes before 3 to 8 in earlier lines.
+    // "2 over the whole text" goes before 3 to 7 in earlier lines.
     no(out, "2-goes-before-earlier-lines", "\n(foo)\n(reg 256 \t5)\n", "(refused 2 3)");
     // "no final line feed": "else the last line", the unterminated one.
     no(out, "2-end-of-one-line", "(module 0 bound)", "(refused 2 1)");
