@@ -3,7 +3,7 @@
 
 use bench::consteval::make::{Maker, MOODS};
 use bench::consteval::names::Names;
-use bench::consteval::tree::Tree;
+use bench::consteval::tree::{Op, Tree};
 use bench::consteval::{archive, original, read, Answer, DEPTH};
 use bench::timing::{self, Rate};
 use compare::gen::rng::Rng;
@@ -26,7 +26,9 @@ struct Shape {
     make: fn(&mut Maker) -> Tree,
 }
 
-const SHAPES: [Shape; 4] = [
+/// The first four rows draw none of `Op::BITS`, so that their figures can be held against
+/// earlier ones.
+const SHAPES: [Shape; 9] = [
     Shape {
         name: "1 operator",
         make: |maker| maker.valued(1).0,
@@ -42,6 +44,26 @@ const SHAPES: [Shape; 4] = [
     Shape {
         name: "nested 30",
         make: |maker| maker.nested(30).0,
+    },
+    Shape {
+        name: "1 shl",
+        make: |maker| maker.alone(Op::Shl),
+    },
+    Shape {
+        name: "1 shr",
+        make: |maker| maker.alone(Op::Shr),
+    },
+    Shape {
+        name: "1 band",
+        make: |maker| maker.alone(Op::Band),
+    },
+    Shape {
+        name: "1 bor",
+        make: |maker| maker.alone(Op::Bor),
+    },
+    Shape {
+        name: "1 bxor",
+        make: |maker| maker.alone(Op::Bxor),
     },
 ];
 
@@ -97,10 +119,15 @@ fn names() -> Names {
 /// Expressions whose parts all have values inside INT.
 fn expressions(shape: &Shape, names: &Names) -> Vec<Vec<u8>> {
     let mut rng = Rng::new(shape.name, 1, 0);
+    let ops: Vec<Op> = Op::ALL
+        .into_iter()
+        .filter(|op| !Op::BITS.contains(op))
+        .collect();
     let mut maker = Maker {
         rng: &mut rng,
         names,
         mood: MOODS[0],
+        ops: &ops,
     };
     let trees = std::iter::repeat_with(|| (shape.make)(&mut maker));
     let shallow = trees.filter(|tree| tree.nesting() <= DEEPEST);

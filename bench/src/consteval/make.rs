@@ -3,6 +3,7 @@
 use super::exact;
 use super::names::Names;
 use super::tree::{Op, Tree};
+use super::{INT_MAX, INT_MIN};
 use compare::gen::rng::Rng;
 
 /// Literals at which something turns over; the last is INT's end, the ones of `PAST` are past it.
@@ -28,6 +29,12 @@ const PAST: [u128; 7] = [
     18_446_744_073_709_551_616,
     1_000_000_000_000_000_000_000_000_000_000,
 ];
+
+/// Shift amounts around those at which a value of INT leaves it.
+const AT_THE_WIDTH: [i128; 4] = [30, 31, 32, 33];
+
+/// Shift amounts around those at which the original's width limit is passed.
+const AT_THE_LIMIT: (i64, i64) = (999_967, 1_000_001);
 
 /// How often things are drawn, in percent.
 #[derive(Clone, Copy)]
@@ -63,6 +70,8 @@ pub struct Maker<'a> {
     pub rng: &'a mut Rng,
     pub names: &'a Names,
     pub mood: Mood,
+    /// The operators with a value that are drawn.
+    pub ops: &'a [Op],
 }
 
 impl Maker<'_> {
@@ -80,7 +89,7 @@ impl Maker<'_> {
         let side = self.rng.below(4).min(u64::from(depth - 1)) as u32;
         let part = |k: usize| match k == deep {
             true => self.spine(depth - 1),
-            false => self.bush(side),
+            false => self.part(op, k, side),
         };
         Tree::Apply(op, (0..arity).map(part).collect())
     }
@@ -91,14 +100,56 @@ impl Maker<'_> {
             return self.leaf(depth);
         }
         let (op, arity) = self.op();
-        Tree::Apply(op, (0..arity).map(|_| self.bush(depth - 1)).collect())
+        let part = |k: usize| self.part(op, k, depth - 1);
+        Tree::Apply(op, (0..arity).map(part).collect())
+    }
+
+    /// Part k of an operator, at most `depth` brackets deep. Any amount would mostly be too far, and
+    /// any operand is seldom at a power of two.
+    fn part(&mut self, op: Op, k: usize, depth: u32) -> Tree {
+        let value = match k == 1 && op.is_shift() {
+            true if self.rng.chance(85) => self.amount(),
+            false if Op::BITS.contains(&op) && self.rng.chance(50) => self.operand(),
+            _ => return self.bush(depth),
+        };
+        let spelled = Tree::spelled(value);
+        match spelled.nesting() <= depth {
+            true => spelled,
+            false => Tree::spelled(value.abs().min(INT_MAX)),
+        }
+    }
+
+    fn amount(&mut self) -> i128 {
+        match self.rng.below(40) {
+            0 => -1,
+            1 => self.rng.pick(&[INT_MIN, INT_MAX, INT_MAX]),
+            2 => self.rng.range(AT_THE_LIMIT.0, AT_THE_LIMIT.1).into(),
+            3..=8 => self.rng.pick(&AT_THE_WIDTH),
+            9..=15 => 0,
+            16..=21 => 1,
+            _ => self.rng.range(2, 9).into(),
+        }
+    }
+
+    /// 0, 1, around a power of two, or INT's end, with either sign.
+    fn operand(&mut self) -> i128 {
+        let size = match self.rng.below(8) {
+            0 => 0,
+            1..=2 => 1,
+            3 => self.rng.pick(&[INT_MAX, -INT_MIN]),
+            _ => (1 << self.rng.range(1, 30)) + i128::from(self.rng.range(-1, 1)),
+        };
+        match self.rng.chance(50) {
+            true => -size,
+            false => size.min(INT_MAX),
+        }
     }
 
     /// An operator and its number of parts.
     fn op(&mut self) -> (Op, usize) {
         let op = match self.rng.chance(self.mood.without) {
             true => self.rng.pick(&[Op::Ix, Op::All]),
-            false => self.rng.pick(&Op::ALL),
+            false => self.rng.pick(self.ops),
         };
         let any = self.rng.below(4) as usize;
         (op, op.arity().unwrap_or(any))
@@ -142,7 +193,7 @@ impl Maker<'_> {
         let Some(rest) = ops.checked_sub(1) else {
             return self.valued_leaf();
         };
-        let op = self.rng.pick(&Op::ALL);
+        let op = self.rng.pick(self.ops);
         let shares = self.shares(rest, op.arity().unwrap_or(2));
         let made = shares.into_iter().map(|share| self.valued(share)).collect();
         applied(op, made)
@@ -153,7 +204,7 @@ impl Maker<'_> {
         let Some(rest) = depth.checked_sub(1) else {
             return (Tree::Literal(7), 7);
         };
-        let op = self.rng.pick(&Op::ALL);
+        let op = self.rng.pick(self.ops);
         let arity = op.arity().unwrap_or(2);
         let deep = self.rng.below(arity as u64) as usize;
         let part = |k: usize| match k == deep {
@@ -163,6 +214,19 @@ impl Maker<'_> {
         };
         let made = (0..arity).map(part).collect();
         applied(op, made)
+    }
+
+    /// One operator of two operands, with a value inside INT on which the original agrees: `shr` of
+    /// a positive number by 0 is left out.
+    pub fn alone(&mut self, op: Op) -> Tree {
+        loop {
+            let (left, l) = self.valued_leaf();
+            let (right, r) = self.valued_leaf();
+            let by_zero = op == Op::Shr && l > 0 && r == 0;
+            if !by_zero && exact::result(op, &[l, r]).is_some() {
+                return Tree::Apply(op, vec![left, right]);
+            }
+        }
     }
 
     fn valued_leaf(&mut self) -> (Tree, i128) {

@@ -167,6 +167,11 @@ fn binary(head: &[u8]) -> Read<BinOp> {
         b"ge" => BinOp::Ge,
         b"and" => BinOp::LogicAnd,
         b"or" => BinOp::LogicOr,
+        b"shl" => BinOp::Shl,
+        b"shr" => BinOp::Shr,
+        b"band" => BinOp::BitAnd,
+        b"bor" => BinOp::BitOr,
+        b"bxor" => BinOp::BitXor,
         _ => return Err(format!("not a head: {}", String::from_utf8_lossy(head))),
     })
 }

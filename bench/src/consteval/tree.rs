@@ -1,5 +1,7 @@
 //! An expression, and its bytes in the line format.
 
+use super::INT_MIN;
+
 /// The heads of forms, but `n` and `f`, whose parts are not all expressions.
 #[derive(Clone, Copy, Debug, PartialEq, Eq)]
 pub enum Op {
@@ -18,6 +20,11 @@ pub enum Op {
     Not,
     Clog2,
     If,
+    Shl,
+    Shr,
+    Band,
+    Bor,
+    Bxor,
     Ix,
     All,
 }
@@ -33,7 +40,7 @@ pub enum Tree {
 
 impl Op {
     /// Those that can have a value.
-    pub const ALL: [Op; 15] = [
+    pub const ALL: [Op; 20] = [
         Op::Add,
         Op::Sub,
         Op::Mul,
@@ -49,7 +56,15 @@ impl Op {
         Op::Not,
         Op::Clog2,
         Op::If,
+        Op::Shl,
+        Op::Shr,
+        Op::Band,
+        Op::Bor,
+        Op::Bxor,
     ];
+
+    /// Shifts and bit operators: the last of `ALL`.
+    pub const BITS: [Op; 5] = [Op::Shl, Op::Shr, Op::Band, Op::Bor, Op::Bxor];
 
     pub fn word(self) -> &'static str {
         match self {
@@ -68,6 +83,11 @@ impl Op {
             Op::Not => "not",
             Op::Clog2 => "clog2",
             Op::If => "if",
+            Op::Shl => "shl",
+            Op::Shr => "shr",
+            Op::Band => "band",
+            Op::Bor => "bor",
+            Op::Bxor => "bxor",
             Op::Ix => "ix",
             Op::All => "all",
         }
@@ -82,15 +102,32 @@ impl Op {
             _ => Some(2),
         }
     }
+
+    /// Whether the second operand is an amount.
+    pub fn is_shift(self) -> bool {
+        matches!(self, Op::Shl | Op::Shr)
+    }
 }
 
 impl Tree {
+    /// A value of INT in the fewest forms: a literal has no sign, and INT's lower end is past the
+    /// literals.
+    pub fn spelled(v: i128) -> Tree {
+        let literal = |n: i128| Tree::Literal(n.unsigned_abs());
+        match v {
+            0.. => literal(v),
+            INT_MIN => Tree::Apply(Op::Sub, vec![Tree::spelled(v + 1), literal(1)]),
+            _ => Tree::Apply(Op::Neg, vec![literal(v)]),
+        }
+    }
+
     /// The bytes of the expression.
     pub fn bytes(&self) -> Vec<u8> {
         self.shown().into_bytes()
     }
 
-    fn shown(&self) -> String {
+    /// The same as text.
+    pub fn shown(&self) -> String {
         match self {
             Tree::Literal(n) => n.to_string(),
             Tree::Bool(b) => b.to_string(),
