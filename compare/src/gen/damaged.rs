@@ -204,7 +204,7 @@ const WORDS: [&str; 34] = [
     "conn", "bits", "opaque", "bit", "true", "n", "f", "ix", "if", "all", "add", "Add",
 ];
 
-/// A word becomes another one; often an operator that no constant place may have.
+/// A word becomes another one: a plain operator always a shift or bit operator, any other word in one case of four.
 fn a_word(r: &mut Rng, text: Vec<u8>) -> Vec<u8> {
     let letter = |k: usize| text.get(k).is_some_and(u8::is_ascii_alphabetic);
     let starts: Vec<usize> = (0..text.len())
