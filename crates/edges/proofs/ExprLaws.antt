@@ -27,7 +27,7 @@ use Rattle.edges.specs.declared.Named.the-variants as named
 use Rattle.lines.specs.Parts.{part-end, piece, next-end}
 use borrow.Author.Tests.{ltb-true}
 
--- 01, The edge: the parts of a form that are read one behind the other: all of them, of a name and of an `f` none
+-- 01, The edge: the parts of a form that are read one behind the other: all of them; of a name and of an `f`, which have ways of their own, none
 unfoldable pub children : Expr → Exprs
 children (lit n) = Exprs.none
 children (truth b) = Exprs.none

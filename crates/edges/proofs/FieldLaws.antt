@@ -1,27 +1,24 @@
--- Reading `(f x p)`, one law for each way of `field_read`.
+-- What an `f` is of: one law for each way of `indexed_name` and `field_of`.
 -- Assumes nothing.
-use mathlib.Core.Path.{_≡_, refl, sym, _∙_, ap}
-use mathlib.Core.Bool.{Bool, true, false, _&&_, true≢false}
-use mathlib.Core.List.{List, [], _∷_, _++_}
-use mathlib.Core.Option.{none}
-use Prim.Native.Nat.{ℕ, zero, suc, _+_, _-_, _≤_, max}
+use mathlib.Core.Path.{_≡_, refl, sym, _∙_, ap, subst}
+use mathlib.Core.Bool.{Bool, true, false}
+use mathlib.Core.List.{List, [], _∷_}
+use Prim.Native.Nat.{ℕ, zero, suc, _-_, _≤_, max}
 use native.Mathlib.Omega.{arith}
 use lib.ListN.{drop, getD}
-use borrow.Author.Tests.{eq-eqb}
 use Rattle.spec.specs.Bytes.{Bytes, show-rest, show-form}
 use Rattle.spec.specs.Syntax.{neg, not, clog2, add, sub, mul, eq, ne, lt, le, gt, ge, and, or, shl, shr, band, bor, bxor, Expr, lit, truth, name, field, index, if-else, unary, binary, all, Header}
 use Rattle.spec.specs.Show.{show-expr}
-use Rattle.spec.specs.Decode.{decode-expr}
 use Rattle.spec.specs.Refusal.{expr-in-range, expr-depth}
-use Rattle.spec.specs.Value.{Names, value}
-use Rattle.spec.specs.Edge.{inst-out, no-reads, field-reads, indexed-reads}
+use Rattle.spec.specs.Edge.{FieldOf, an-inst, an-inst-at, no-inst, field-of}
 use Rattle.spec.proofs.Nodes.{and-parts}
 use Rattle.spec.proofs.Shown.{expr-shown}
 use Rattle.lines.specs.Parts.{part-end, piece, next-end, follows}
 use Rattle.edges.specs.declared.Named as N
 use Rattle.edges.specs.declared.Named.the-variants as named
-use Rattle.edges.specs.Shows.{ShowsExpr, NamedBy, one-read, InstRead, FieldRead}
-use Rattle.edges.proofs.ReadLaws.{read-none}
+use Rattle.edges.specs.declared.FieldOf.the-variants as of
+use Rattle.edges.specs.Reads.{KindsOf}
+use Rattle.edges.specs.Shows.{ShowsExpr, NamedBy, IndexedBy, IsInst, FieldOfIs}
 use Rattle.runs.proofs.Inside.{placed}
 use Rattle.edges.proofs.ExprLaws.{number-first}
 
@@ -62,31 +59,9 @@ ix-told (binary bor a b) e f g = absurd (omega arith)
 ix-told (binary bxor a b) e f g = absurd (omega arith)
 ix-told (all es) e f g = absurd (omega arith)
 
--- what is neither a name nor an index reads nothing under `f`
-field-none : (y : Expr) → ((i : ℕ) → y ≡ name i → ⊥) → ((a b : Expr) → y ≡ index a b → ⊥) → (hs : List Header) (names : Names) (p : ℕ) → field-reads hs names y p ≡ no-reads
-unfolding field-reads
-field-none (lit n) f g hs names p = refl
-field-none (truth b) f g hs names p = refl
-field-none (name n) f g hs names p = absurd (f n refl)
-field-none (field a n) f g hs names p = refl
-field-none (index a b) f g hs names p = absurd (g a b refl)
-field-none (if-else c a b) f g hs names p = refl
-field-none (unary o a) f g hs names p = refl
-field-none (binary o a b) f g hs names p = refl
-field-none (all es) f g hs names p = refl
-
--- nor does an index of something that is no name
-index-none : (a b : Expr) → ((i : ℕ) → a ≡ name i → ⊥) → (hs : List Header) (names : Names) (p : ℕ) → field-reads hs names (index a b) p ≡ no-reads
-unfolding field-reads
-index-none (lit n) b f hs names p = refl
-index-none (truth c) b f hs names p = refl
-index-none (name n) b f hs names p = absurd (f n refl)
-index-none (field a n) b f hs names p = refl
-index-none (index a c) b f hs names p = refl
-index-none (if-else c a d) b f hs names p = refl
-index-none (unary o a) b f hs names p = refl
-index-none (binary o a c) b f hs names p = refl
-index-none (all es) b f hs names p = refl
+-- the first part of an index
+first-part : {a b c d : Expr} → index a b ≡ index c d → a ≡ c
+first-part e = cc
 
 pub as-not : (v : N.Named) → v ≡ named.Not → (y : Expr) → NamedBy v y → NamedBy named.Not y
 as-not v e y h = rw e at h
@@ -94,93 +69,115 @@ as-not v e y h = rw e at h
 pub as-is : (v : N.Named) (i : ℕ) → v ≡ named.Is i → (y : Expr) → NamedBy v y → y ≡ name i
 as-is v i e y h = rw e at h
 
-module _ (x : Bytes) (p d : ℕ) (kinds : List ℕ) (names : Names) (g : List ℕ) (from : ℕ) (r : N.Named) (told : (y : Expr) (e : ℕ) → ShowsExpr x e y → NamedBy r y) where
-  -- a name
-  pub field-name : {i : ℕ} → r ≡ named.Is i → (b : Bool) (g′ : List ℕ) → InstRead b i (one-read (inst-out i none p)) kinds g g′ from → FieldRead b x p d kinds names g g′ from
-  unfolding field-reads
-  field-name {i} e b g′ h y s header w hs n start rs k =
-      let t : NamedBy (named.Is i) y = rw e at (told y d s) in
-      rw t (h header w hs n start rs k)
+-- ---- an index that is shown
 
-  module _ (e : r ≡ named.Not) where
-    no-name : (y : Expr) → ShowsExpr x d y → (i : ℕ) → y ≡ name i → ⊥
-    no-name y s = rw e at (told y d s)
+-- its parts: the first up to a, and the second
+pub record IndexParts (x : Bytes) (d a : ℕ) (y z : Expr) : Type 0 where
+  pub first : ShowsExpr (piece x 3 a) (d - 1) y
+  pub behind : drop a x ≡ show-rest (show-expr z ∷ [])
+  pub deep : expr-depth z ≤ d - 1
 
-    nothing-read : ((y : Expr) → ShowsExpr x d y → (a b : Expr) → y ≡ index a b → ⊥) → FieldRead true x p d kinds names g g from
-    nothing-read f y s header w hs n start rs k = rw (field-none y (no-name y s) (f y s) header names p) (read-none hs n start from g rs k)
+pub index-parts : (x : Bytes) (d : ℕ) {a : ℕ} → a ≡ part-end x 4 → (y z : Expr) → ShowsExpr x d (index y z) → IndexParts x d a y z
+unfolding show-expr show-form show-rest expr-depth expr-in-range next-end
+index-parts x d qa y z s =
+    let q = placed x 3 32 (show-expr z ∷ []) (expr-shown y .part) (ap (drop 3) (s .shown)) in
+    let h : suc (max (expr-depth y) (expr-depth z)) ≤ d = s .deep in
+    record {
+      first = record { shown = ap (piece x 3) qa ∙ q .here; deep = omega arith; ranged = and-parts (expr-in-range y) (expr-in-range z) (s .ranged) .0 };
+      behind = ap (λ (n : ℕ). drop n x) qa ∙ q .follows;
+      deep = omega arith;
+    }
 
-    pub field-shut : d ≡ 0 → FieldRead true x p d kinds names g g from
-    unfolding expr-depth
-    field-shut z = nothing-read (λ y s a b q. let h = rw q at (s .deep) in omega arith)
+-- ---- one law for each way of `indexed_name`
 
-    byte-not : (i c : ℕ) → ((a b : Expr) → getD (show-expr (index a b)) i 0 ≡ c) → (getD x i 0 ≡ c → ⊥) → FieldRead true x p d kinds names g g from
-    byte-not i c h f = nothing-read (λ y s a b q. f (ap (λ (z : Bytes). getD z i 0) (s .shown ∙ ap show-expr q) ∙ h a b))
+module _ (x : Bytes) where
+  -- its first bytes are not those of an index
+  no-index : (i c : ℕ) → ((a b : Expr) → getD (show-expr (index a b)) i 0 ≡ c) → (getD x i 0 ≡ c → ⊥) → (y : Expr) (d : ℕ) → ShowsExpr x d y → IndexedBy named.Not y
+  no-index i c h f y d s n e q = f (ap (λ (z : Bytes). getD z i 0) (s .shown ∙ ap show-expr q) ∙ h (name n) e)
 
-    pub field-closed : (getD x 0 0 ≡ 40 → ⊥) → FieldRead true x p d kinds names g g from
-    unfolding show-expr show-form
-    field-closed = byte-not 0 40 (λ a b. refl)
+  pub index-closed : (getD x 0 0 ≡ 40 → ⊥) → (y : Expr) (d : ℕ) → ShowsExpr x d y → IndexedBy named.Not y
+  unfolding show-expr show-form
+  index-closed = no-index 0 40 (λ a b. refl)
 
-    pub field-not-i : (getD x 1 0 ≡ 105 → ⊥) → FieldRead true x p d kinds names g g from
-    unfolding show-expr show-form
-    field-not-i = byte-not 1 105 (λ a b. refl)
+  pub index-not-i : (getD x 1 0 ≡ 105 → ⊥) → (y : Expr) (d : ℕ) → ShowsExpr x d y → IndexedBy named.Not y
+  unfolding show-expr show-form
+  index-not-i = no-index 1 105 (λ a b. refl)
 
-    pub field-not-x : (getD x 2 0 ≡ 120 → ⊥) → FieldRead true x p d kinds names g g from
-    unfolding show-expr show-form
-    field-not-x = byte-not 2 120 (λ a b. refl)
+  pub index-not-x : (getD x 2 0 ≡ 120 → ⊥) → (y : Expr) (d : ℕ) → ShowsExpr x d y → IndexedBy named.Not y
+  unfolding show-expr show-form
+  index-not-x = no-index 2 120 (λ a b. refl)
 
-    module _ (z : d ≡ 0 → ⊥) (b₀ : getD x 0 0 ≡ 40) (b₁ : getD x 1 0 ≡ 105) (b₂ : getD x 2 0 ≡ 120) {a : ℕ} (qa : a ≡ part-end x 4) {u : Bytes} (qu : u ≡ piece x 3 a) (v : N.Named)
-        (told′ : (y : Expr) (e : ℕ) → ShowsExpr u e y → NamedBy v y) where
-      -- the index that x shows: its parts
-      record Parts (y : Expr) : Type 0 where
-        first : Expr
-        second : Expr
-        whole : y ≡ index first second
-        here : ShowsExpr u (d - 1) first
-        behind : drop a x ≡ show-rest (show-expr second ∷ [])
-        deep : expr-depth second ≤ d - 1
+  -- they are: what it is of is the name, if it is one
+  pub index-name : getD x 0 0 ≡ 40 → getD x 1 0 ≡ 105 → getD x 2 0 ≡ 120 → {a : ℕ} → a ≡ part-end x 4 → {u : Bytes} → u ≡ piece x 3 a → (v : N.Named)
+      → ((y : Expr) (d : ℕ) → ShowsExpr u d y → NamedBy v y) → (y : Expr) (d : ℕ) → ShowsExpr x d y → IndexedBy v y
+  index-name b₀ b₁ b₂ {a} qa {u} qu v says y d s = go v (says (t .0) (d - 1) (rw (← qu) at (index-parts x d qa (t .0) (t .1) shown .first)))
+    where
+      here : (i : ℕ) → getD (show-expr y) i 0 ≡ getD x i 0
+      here i = sym (ap (λ (z : Bytes). getD z i 0) (s .shown))
 
-      index-parts : (y : Expr) → ShowsExpr x d y → Parts y
-      unfolding show-expr show-form show-rest expr-depth expr-in-range next-end
-      index-parts y s =
-          let h : (i : ℕ) → getD (show-expr y) i 0 ≡ getD x i 0 = λ i. sym (ap (λ (z : Bytes). getD z i 0) (s .shown)) in
-          let t = ix-told y (h 0 ∙ b₀) (h 1 ∙ b₁) (h 2 ∙ b₂) in
-          let shown : x ≡ show-expr (index (t .0) (t .1)) = s .shown ∙ ap show-expr (t .2) in
-          let deep : suc (max (expr-depth (t .0)) (expr-depth (t .1))) ≤ d = rw (t .2) at (s .deep) in
-          let ranged : expr-in-range (t .0) && expr-in-range (t .1) ≡ true = rw (t .2) at (s .ranged) in
-          let q = placed x 3 32 (show-expr (t .1) ∷ []) (expr-shown (t .0) .part) (ap (drop 3) shown) in
-          record {
-            first = t .0;
-            second = t .1;
-            whole = t .2;
-            here = record { shown = qu ∙ ap (piece x 3) qa ∙ q .here; deep = omega arith; ranged = and-parts (expr-in-range (t .0)) (expr-in-range (t .1)) ranged .0 };
-            behind = ap (λ (n : ℕ). drop n x) qa ∙ q .follows;
-            deep = omega arith;
-          }
+      t : (a : Expr) × (b : Expr) × (y ≡ index a b)
+      t = ix-told y (here 0 ∙ b₀) (here 1 ∙ b₁) (here 2 ∙ b₂)
 
-      pub index-other : v ≡ named.Not → FieldRead true x p d kinds names g g from
-      index-other f y s header w hs n start rs k =
-          let t = index-parts y s in
-          let m = as-not v f (t .first) (told′ (t .first) (d - 1) (t .here)) in
-          rw (t .whole, index-none (t .first) (t .second) m header names p) (read-none hs n start from g rs k)
+      shown : ShowsExpr x d (index (t .0) (t .1))
+      shown = subst (λ z. ShowsExpr x d z) (t .2) s
 
-      module _ {i : ℕ} (f : v ≡ named.Is i) where
-        named-first : (y : Expr) (t : Parts y) → t .first ≡ name i
-        named-first y t = as-is v i f (t .first) (told′ (t .first) (d - 1) (t .here))
+      go : (v : N.Named) → NamedBy v (t .0) → IndexedBy v y
+      go (named.Is i) h = (t .1, t .2 ∙ ap (λ (z : Expr). index z (t .1)) h)
+      go named.Not h = λ n e q. h n (first-part (sym (t .2) ∙ q))
 
-        pub index-alone : follows x a ≡ false → FieldRead true x p d kinds names g g from
-        unfolding show-rest
-        index-alone q y s = let t = index-parts y s in absurd (true≢false (sym (space (drop a x) (show-expr (t .second) ++ (41 ∷ [])) (t .behind) (getD-drop-here x a)) ∙ q))
-          where
-            space : (l m : Bytes) → l ≡ 32 ∷ m → getD l 0 0 ≡ getD x a 0 → follows x a ≡ true
-            space l m e h = eq-eqb (getD x a 0) 32 (sym h ∙ ap (λ (z : Bytes). getD z 0 0) e)
+-- ---- one law for each way of `field_of`
 
-        pub index-named : {b : ℕ} → b ≡ part-end x (a + 1) → {c : Bytes} → c ≡ piece x a b → (r′ : Bool) (g′ : List ℕ)
-            → InstRead r′ i (indexed-reads i (value names (decode-expr (d - 1) c)) p) kinds g g′ from → FieldRead r′ x p d kinds names g g′ from
-        unfolding field-reads show-rest next-end
-        index-named qb {c} qc r′ g′ h y s header w hs n start rs k =
-            let t = index-parts y s in
-            let q = placed x a 32 [] (expr-shown (t .second) .part) (t .behind) in
-            let e : c ≡ show-expr (t .second) = qc ∙ ap (piece x a) qb ∙ q .here in
-            let u : decode-expr (d - 1) c ≡ t .second = ap (decode-expr (d - 1)) e ∙ expr-shown (t .second) .back (d - 1) (t .deep) in
-            let j : y ≡ index (name i) (t .second) = t .whole ∙ ap (λ (z : Expr). index z (t .second)) (named-first y t) in
-            rw (j, ← u) (h header w hs n start rs k)
+-- what is neither a name nor an index of one is no inst
+no-inst-of : (y : Expr) → ((i : ℕ) → y ≡ name i → ⊥) → ((i : ℕ) (e : Expr) → y ≡ index (name i) e → ⊥) → (hs : List Header) → field-of hs y ≡ no-inst
+unfolding field-of
+no-inst-of (lit n) f g hs = refl
+no-inst-of (truth b) f g hs = refl
+no-inst-of (name n) f g hs = absurd (f n refl)
+no-inst-of (field a n) f g hs = refl
+no-inst-of (index (lit n) e) f g hs = refl
+no-inst-of (index (truth b) e) f g hs = refl
+no-inst-of (index (name n) e) f g hs = absurd (g n e refl)
+no-inst-of (index (field a n) e) f g hs = refl
+no-inst-of (index (index a b) e) f g hs = refl
+no-inst-of (index (if-else c a b) e) f g hs = refl
+no-inst-of (index (unary o a) e) f g hs = refl
+no-inst-of (index (binary o a b) e) f g hs = refl
+no-inst-of (index (all es) e) f g hs = refl
+no-inst-of (if-else c a b) f g hs = refl
+no-inst-of (unary o a) f g hs = refl
+no-inst-of (binary o a b) f g hs = refl
+no-inst-of (all es) f g hs = refl
+
+-- f where i is an inst, and else nothing of the two
+abbrev if-inst : Bool → FieldOf → FieldOf
+if-inst b f = elim b as (λ _. FieldOf) [ true ↦ f | false ↦ no-inst ]
+
+module _ (x : Bytes) (kinds : List ℕ) (v : N.Named) (says : (y : Expr) (d : ℕ) → ShowsExpr x d y → NamedBy v y) where
+  module _ {i : ℕ} (e : v ≡ named.Is i) (b : Bool) (h : IsInst b i kinds) where
+    of-name : {c : Bool} → b ≡ c → (y : Expr) (d : ℕ) → ShowsExpr x d y → (header : List Header) → KindsOf kinds header → field-of header y ≡ if-inst c (an-inst i)
+    unfolding field-of
+    of-name q y d s header w = rw (as-is v i e y (says y d s)) (ap (λ (z : Bool). if-inst z (an-inst i)) (sym (h header w) ∙ q))
+
+    pub of-inst : b ≡ true → FieldOfIs (of.Inst i) x kinds
+    of-inst q = of-name q
+
+    pub of-signal : b ≡ false → FieldOfIs of.Other x kinds
+    of-signal q = of-name q
+
+  module _ (u : N.Named) (says′ : (y : Expr) (d : ℕ) → ShowsExpr x d y → IndexedBy u y) where
+    module _ {i : ℕ} (e : u ≡ named.Is i) (b : Bool) (h : IsInst b i kinds) where
+      indexed : (y : Expr) (d : ℕ) → ShowsExpr x d y → (z : Expr) × (y ≡ index (name i) z)
+      indexed y d s = rw e at (says′ y d s)
+
+      of-index : {c : Bool} → b ≡ c → (y z : Expr) → y ≡ index (name i) z → (header : List Header) → KindsOf kinds header → field-of header y ≡ if-inst c (an-inst-at i z)
+      unfolding field-of
+      of-index q y z f header w = rw f (ap (λ (k : Bool). if-inst k (an-inst-at i z)) (sym (h header w) ∙ q))
+
+      pub of-inst-at : b ≡ true → FieldOfIs (of.InstAt i) x kinds
+      of-inst-at q y d s header w = let t = indexed y d s in (t .0, t .1, of-index q y (t .0) (t .1) header w)
+
+      pub of-signal-at : b ≡ false → FieldOfIs of.Other x kinds
+      of-signal-at q y d s header w = let t = indexed y d s in of-index q y (t .0) (t .1) header w
+
+    pub of-other : v ≡ named.Not → u ≡ named.Not → FieldOfIs of.Other x kinds
+    of-other e f y d s header w = no-inst-of y (as-not v e y (says y d s)) (rw f at (says′ y d s)) header

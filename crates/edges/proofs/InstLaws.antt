@@ -1,8 +1,8 @@
--- Reading the outputs of instances, one law for each way of `output_read` and `index_read`.
+-- Which names are instances, and reading their outputs: one law for each way of `is_inst`, `output_read` and `index_read`.
 -- Assumes nothing.
 use mathlib.Core.Path.{_≡_, refl, sym, _∙_, ap}
 use mathlib.Core.Bool.{Bool, true, false}
-use mathlib.Core.List.{List, []}
+use mathlib.Core.List.{List}
 use mathlib.Core.Option.{some}
 use Prim.Native.Nat.{ℕ, zero, suc, _-_, _≤_, _<_}
 use native.Mathlib.Omega.{arith}
@@ -13,7 +13,7 @@ use borrow.Author.Tests.{ltb-true}
 use Rattle.spec.specs.Syntax.{Header}
 use Rattle.spec.specs.Value.{Value}
 use Rattle.spec.specs.Site.{kind-of}
-use Rattle.spec.specs.Edge.{Node, inst-out, Head, Reads, no-reads, is-inst, indexed-reads}
+use Rattle.spec.specs.Edge.{Node, inst-out, Head, is-inst, indexed-reads}
 use Rattle.graph.specs.Table.{unbiased}
 use Rattle.graph.specs.Stands.{Heading, Read}
 use Rattle.graph.specs.declared.Added as A
@@ -21,8 +21,8 @@ use Rattle.graph.specs.declared.Added.the-variants as added
 use Rattle.consteval.specs.Worth.{signed, worth}
 use Rattle.consteval.specs.declared.Value.{Value as Answer}
 use Rattle.consteval.specs.declared.Value.the-variants.{Known, Missing, Outside}
-use Rattle.edges.specs.Reads.{kind-word, KindsOf, ReadAll}
-use Rattle.edges.specs.Shows.{one-read, if-inst, InstRead}
+use Rattle.edges.specs.Reads.{kind-word, KindsOf}
+use Rattle.edges.specs.Shows.{one-read, NodesRead, IsInst}
 use Rattle.edges.proofs.ReadLaws.{read-none, read-one, read-out}
 
 -- the whole number that a word holds, in both crates
@@ -51,47 +51,38 @@ large-kind (suc (suc (suc (suc zero)))) h = absurd (omega arith)
 large-kind (suc (suc (suc (suc (suc zero))))) h = absurd (omega arith)
 large-kind (suc (suc (suc (suc (suc (suc k)))))) h = refl
 
-module _ (kinds : List ℕ) (i : ℕ) (g : List ℕ) (from : ℕ) {k : ℕ} (q : k ≡ getD kinds i 0) where
+module _ (kinds : List ℕ) (i : ℕ) {k : ℕ} (q : k ≡ getD kinds i 0) where
   kind-here : (header : List Header) → KindsOf kinds header → kind-word k ≡ kind-of header i
   kind-here header w = ap kind-word q ∙ w i
 
-  -- i is no inst
-  pub inst-not : (r : Reads) → k < 6 → InstRead true i r kinds g g from
-  inst-not r l header w hs n start rs h =
-      let e : is-inst (kind-of header i) ≡ false = ap is-inst (sym (kind-here header w)) ∙ small-kind k l in
-      let z : if-inst (kind-of header i) r ≡ no-reads = ap (λ (b : Bool). elim b as (λ _. Reads) [ true ↦ r | false ↦ no-reads ]) e in
-      rw z (read-none hs n start from g rs h)
+  pub inst-not : k < 6 → IsInst false i kinds
+  inst-not l header w = sym (small-kind k l) ∙ ap is-inst (kind-here header w)
 
-  module _ (l : 6 ≤ k) where
-    -- i is one, and r is read
-    inst-then : (b : Bool) (g′ : List ℕ) (r : Reads) → ((hs : List Head) (n : Node) (start : ℕ) (rs : List Node) → Heading g hs n start rs from → ReadAll b g′ hs n start rs from r)
-        → InstRead b i r kinds g g′ from
-    inst-then b g′ r f header w hs n start rs h =
-        let e : is-inst (kind-of header i) ≡ true = ap is-inst (sym (kind-here header w)) ∙ large-kind k l in
-        let z : if-inst (kind-of header i) r ≡ r = ap (λ (b : Bool). elim b as (λ _. Reads) [ true ↦ r | false ↦ no-reads ]) e in
-        rw z (f hs n start rs h)
+  pub inst-here : 6 ≤ k → IsInst true i kinds
+  inst-here l header w = sym (large-kind k l) ∙ ap is-inst (kind-here header w)
 
-    module _ (m : Node) (a : A.Added) (g′ : List ℕ) (read : (hs : List Head) (n : Node) (start : ℕ) (rs : List Node) → Heading g hs n start rs from → Read a g′ hs n start rs from m) where
-      pub inst-at : {j : ℕ} → a ≡ added.At j → InstRead true i (one-read m) kinds g g′ from
-      inst-at e = inst-then true g′ (one-read m) (λ hs n start rs h. read-one hs n start from a true g′ rs m (read hs n start rs h) (λ j f. refl) (λ f. let x : _≡_ {A = ℕ} 0 1 = cc in absurd (omega arith)))
+module _ (g : List ℕ) (from : ℕ) where
+  module _ (m : Node) (a : A.Added) (g′ : List ℕ) (read : (hs : List Head) (n : Node) (start : ℕ) (rs : List Node) → Heading g hs n start rs from → Read a g′ hs n start rs from m) where
+    pub output-at : {j : ℕ} → a ≡ added.At j → NodesRead true (one-read m) g g′ from
+    output-at e hs n start rs h = read-one hs n start from a true g′ rs m (read hs n start rs h) (λ j f. refl) (λ f. let x : _≡_ {A = ℕ} 0 1 = cc in absurd (omega arith))
 
-      pub inst-full : a ≡ added.Full → InstRead false i (one-read m) kinds g g′ from
-      inst-full e = inst-then false g′ (one-read m) (λ hs n start rs h. read-one hs n start from a false g′ rs m (read hs n start rs h) (λ j f. let x : _≡_ {A = ℕ} 0 1 = cc in absurd (omega arith)) (λ f. refl))
+    pub output-full : a ≡ added.Full → NodesRead false (one-read m) g g′ from
+    output-full e hs n start rs h = read-one hs n start from a false g′ rs m (read hs n start rs h) (λ j f. let x : _≡_ {A = ℕ} 0 1 = cc in absurd (omega arith)) (λ f. refl)
 
-    -- the index: its value
-    module _ (p : ℕ) {v : Answer} {z : Value} (qv : worth v ≡ z) where
-      pub index-missing : v ≡ Missing → InstRead true i (indexed-reads i z p) kinds g g from
-      index-missing e = rw (sym qv ∙ ap worth e) (inst-then true g no-reads (λ hs n start rs h. read-none hs n start from g rs h))
+  -- the index: its value
+  module _ (i p : ℕ) {v : Answer} {z : Value} (qv : worth v ≡ z) where
+    pub index-missing : v ≡ Missing → NodesRead true (indexed-reads i z p) g g from
+    index-missing e = rw (sym qv ∙ ap worth e) (λ hs n start rs h. read-none hs n start from g rs h)
 
-      pub index-outside : (g′ : List ℕ) → v ≡ Outside → InstRead false i (indexed-reads i z p) kinds g g′ from
-      index-outside g′ e = rw (sym qv ∙ ap worth e) (inst-then false g′ (record { nodes = []; out = true }) (λ hs n start rs h. read-out hs n start from g′ rs))
+    pub index-outside : (g′ : List ℕ) → v ≡ Outside → NodesRead false (indexed-reads i z p) g g′ from
+    index-outside g′ e = rw (sym qv ∙ ap worth e) (λ hs n start rs h. read-out hs n start from g′ rs)
 
-      module _ {x : ℕ} (e : v ≡ Known x) (a : A.Added) (g′ : List ℕ) (read : (hs : List Head) (n : Node) (start : ℕ) (rs : List Node) → Heading g hs n start rs from → Read a g′ hs n start rs from (inst-out i (some (unbiased x)) p)) where
-        known-here : indexed-reads i z p ≡ one-read (inst-out i (some (unbiased x)) p)
-        known-here = ap (λ (u : Value). indexed-reads i u p) (sym qv ∙ ap worth e) ∙ ap (λ (u : ℤ). one-read (inst-out i (some u) p)) (same-word x)
+    module _ {x : ℕ} (e : v ≡ Known x) (a : A.Added) (g′ : List ℕ) (read : (hs : List Head) (n : Node) (start : ℕ) (rs : List Node) → Heading g hs n start rs from → Read a g′ hs n start rs from (inst-out i (some (unbiased x)) p)) where
+      known-here : indexed-reads i z p ≡ one-read (inst-out i (some (unbiased x)) p)
+      known-here = ap (λ (u : Value). indexed-reads i u p) (sym qv ∙ ap worth e) ∙ ap (λ (u : ℤ). one-read (inst-out i (some u) p)) (same-word x)
 
-        pub index-at : {j : ℕ} → a ≡ added.At j → InstRead true i (indexed-reads i z p) kinds g g′ from
-        index-at f = rw known-here (inst-at (inst-out i (some (unbiased x)) p) a g′ read f)
+      pub index-at : {j : ℕ} → a ≡ added.At j → NodesRead true (indexed-reads i z p) g g′ from
+      index-at f = rw known-here (output-at (inst-out i (some (unbiased x)) p) a g′ read f)
 
-        pub index-full : a ≡ added.Full → InstRead false i (indexed-reads i z p) kinds g g′ from
-        index-full f = rw known-here (inst-full (inst-out i (some (unbiased x)) p) a g′ read f)
+      pub index-full : a ≡ added.Full → NodesRead false (indexed-reads i z p) g g′ from
+      index-full f = rw known-here (output-full (inst-out i (some (unbiased x)) p) a g′ read f)

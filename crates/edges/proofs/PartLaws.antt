@@ -1,7 +1,7 @@
--- Where the parts of a shown form end, and what they read: one law for each way of `next_end`, `number_at`, `field_form`, `expr_reads` and
+-- Where the parts of a shown form end, and what they read: one law for each way of `next_end`, `number_at`, `field_reads`, `expr_reads` and
 -- `parts_read`.
 -- Assumes nothing.
-use mathlib.Core.Path.{_≡_, refl, sym, _∙_, ap}
+use mathlib.Core.Path.{_≡_, refl, sym, _∙_, ap, subst}
 use mathlib.Core.Bool.{Bool, true, false, _&&_, true≢false}
 use mathlib.Core.List.{List, [], _∷_, _++_}
 use Prim.Native.Nat.{ℕ, suc, _+_, _-_, _≤_, _<_, min}
@@ -10,11 +10,13 @@ use lib.ListN.{length, drop, getD, length-drop}
 use lib.Dec.{eqb, ltb}
 use borrow.Author.Tests.{ltb-true}
 use Rattle.spec.specs.Bytes.{Bytes, number, show-number, show-rest, show-form}
-use Rattle.spec.specs.Syntax.{Expr, Exprs, lit, truth, name, field, index, if-else, unary, binary, all}
+use mathlib.Core.Option.{none}
+use Rattle.spec.specs.Syntax.{Expr, Exprs, lit, truth, name, field, index, if-else, unary, binary, all, Header}
 use Rattle.spec.specs.Show.{show-expr, show-exprs}
 use Rattle.spec.specs.Refusal.{expr-in-range, exprs-in-range, expr-depth, exprs-depth}
-use Rattle.spec.specs.Value.{Names}
-use Rattle.spec.specs.Edge.{expr-reads, exprs-reads}
+use Rattle.spec.specs.Decode.{decode-expr}
+use Rattle.spec.specs.Value.{Names, value}
+use Rattle.spec.specs.Edge.{inst-out, indexed-reads, FieldOf, an-inst, an-inst-at, no-inst, field-of, field-reads, expr-reads, exprs-reads}
 use Rattle.spec.proofs.Nodes.{and-parts}
 use Rattle.spec.proofs.Numbers.{number-show}
 use Rattle.spec.proofs.Parts.{Part, number-part}
@@ -24,10 +26,12 @@ use Rattle.runs.proofs.Inside.{placed}
 use Rattle.edges.specs.declared.Named as N
 use Rattle.edges.specs.declared.Named.the-variants as named
 use Rattle.edges.specs.Reads.{ReadAll}
-use Rattle.edges.specs.Shows.{ShowsExpr, ShowsExprs, NameRead, NamedBy, FieldRead, FieldFormRead, ExprRead, PartsRead}
+use Rattle.edges.specs.declared.FieldOf as F
+use Rattle.edges.specs.declared.FieldOf.the-variants as of
+use Rattle.edges.specs.Shows.{ShowsExpr, ShowsExprs, NodesRead, one-read, NameRead, NamedBy, FieldOfIs, FieldRead, ExprRead, PartsRead}
 use Rattle.edges.proofs.ReadLaws.{read-none, read-then, read-stops}
 use Rattle.edges.proofs.ExprLaws.{Told, an-atom, a-name, a-field, a-form, told, children}
-use Rattle.edges.proofs.FieldLaws.{getD-drop-here, as-not, as-is}
+use Rattle.edges.proofs.FieldLaws.{getD-drop-here, as-not, as-is, index-parts}
 
 -- ---- `next_end` and `number_at`
 
@@ -73,21 +77,55 @@ number-here s e a n h l q = omega (arith, ap number (h .here) ∙ number-show n)
 pub follows-byte : (s : Bytes) (a c : ℕ) {t : Bytes} → drop a s ≡ c ∷ t → follows s a ≡ eqb c 32
 follows-byte s a c e = ap (λ (z : ℕ). eqb z 32) (sym (getD-drop-here s a) ∙ ap (λ (z : Bytes). getD z 0 0) e)
 
--- ---- `field_form`
+-- ---- `field_reads`
 
-module _ (e : Bytes) (d : ℕ) (kinds : List ℕ) (names : Names) (g : List ℕ) (from : ℕ) where
-  pub field-form : {a : ℕ} → EndsAt e 2 a → {b : ℕ} → EndsAt e a b → {p : ℕ} → p ≡ min (number (piece e a b)) 4294967295 → {u : Bytes} → u ≡ piece e 2 a
-      → (r : Bool) (g′ : List ℕ) → FieldRead r u p d kinds names g g′ from → FieldFormRead r e d kinds names g g′ from
+module _ (e : Bytes) (d : ℕ) (kinds : List ℕ) (names : Names) (g : List ℕ) (from : ℕ) {a : ℕ} (fa : EndsAt e 2 a) {u : Bytes} (qu : u ≡ piece e 2 a) where
+  -- what the `f` is of, and its output
+  record Field (y : Expr) (m p : ℕ) : Type 0 where
+    inner : ShowsExpr u d y
+    out : p ≡ m
+
+  field-parts : {b : ℕ} → EndsAt e a b → {p : ℕ} → p ≡ min (number (piece e a b)) 4294967295 → (y : Expr) (m : ℕ) → ShowsExpr e (suc d) (field y m) → Field y m p
   unfolding show-expr show-form show-rest expr-depth expr-in-range
-  field-form {a} fa {b} fb {p} qp {u} qu r g′ f y m s header w hs n start rs k =
+  field-parts {b} fb {p} qp y m s =
       let q : drop 2 e ≡ 32 ∷ show-expr y ++ show-rest (show-number m ∷ []) = ap (drop 2) (s .shown) in
       let h = ended e 2 32 (show-number m ∷ []) (expr-shown y .part) q fa in
       let i = ended-next e a [] (number-part m) (h .follows) fb in
       let l = and-parts (expr-in-range y) (ltb m 256) (s .ranged) in
       let o = ltb-true m 256 (l .1) in
-      let z : p ≡ m = number-here e a b m i (omega arith) qp in
       let j : suc (expr-depth y) ≤ suc d = s .deep in
-      rw z at (f y (record { shown = qu ∙ h .here; deep = omega arith; ranged = l .0 }) header w hs n start rs k)
+      record { inner = record { shown = qu ∙ h .here; deep = omega arith; ranged = l .0 }; out = number-here e a b m i (omega arith) qp }
+
+  module _ {b : ℕ} (fb : EndsAt e a b) {p : ℕ} (qp : p ≡ min (number (piece e a b)) 4294967295) (v : F.FieldOf) (says : FieldOfIs v u kinds) where
+    -- what is read, by what it is of
+    reads-of : (f : FieldOf) (y : Expr) (m : ℕ) → Field y m p → (header : List Header) → field-of header y ≡ f → expr-reads (field y m) header names ≡ field-reads names f p (expr-reads y header names)
+    unfolding expr-reads
+    reads-of f y m t header h = ap (λ (z : FieldOf). field-reads names z m (expr-reads y header names)) h ∙ ap (λ (z : ℕ). field-reads names f z (expr-reads y header names)) (sym (t .out))
+
+    -- an inst
+    pub field-output : {i : ℕ} → v ≡ of.Inst i → (r : Bool) (g′ : List ℕ) → NodesRead r (one-read (inst-out i none p)) g g′ from → FieldRead r e d kinds names g g′ from
+    field-output {i} q r g′ f y m s header w =
+        let t = field-parts fb qp y m s in
+        let h : field-of header y ≡ an-inst i = rw q at (says y d (t .inner) header w) in
+        rw (reads-of (an-inst i) y m t header h) f
+
+    -- an inst with an index
+    pub field-indexed : {i : ℕ} → v ≡ of.InstAt i → {c : ℕ} → c ≡ part-end u 4 → {j : ℕ} → EndsAt u c j → {x : Bytes} → x ≡ piece u c j → {k : ℕ} → k ≡ d - 1
+        → (r : Bool) (g′ : List ℕ) → NodesRead r (indexed-reads i (value names (decode-expr k x)) p) g g′ from → FieldRead r e d kinds names g g′ from
+    field-indexed {i} q {c} qc {j} fj {x} qx {k} qk r g′ f y m s header w =
+        let t = field-parts fb qp y m s in
+        let h : (z : Expr) × (y ≡ index (name i) z) × (field-of header y ≡ an-inst-at i z) = rw q at (says y d (t .inner) header w) in
+        let o = index-parts u d qc (name i) (h .0) (subst (λ z. ShowsExpr u d z) (h .1) (t .inner)) in
+        let here : x ≡ show-expr (h .0) = qx ∙ ended-next u c [] (expr-shown (h .0) .part) (o .behind) fj .here in
+        let back : decode-expr k x ≡ h .0 = ap (decode-expr k) here ∙ expr-shown (h .0) .back k (rw qk (o .deep)) in
+        rw (reads-of (an-inst-at i (h .0)) y m t header (h .2), ← back) f
+
+    -- anything else
+    pub field-inner : v ≡ of.Other → (r : Bool) (g′ : List ℕ) → ExprRead r u d kinds names g g′ from → FieldRead r e d kinds names g g′ from
+    field-inner q r g′ f y m s header w =
+        let t = field-parts fb qp y m s in
+        let h : field-of header y ≡ no-inst = rw q at (says y d (t .inner) header w) in
+        rw (reads-of no-inst y m t header h) (f y (t .inner) header w)
 
 -- ---- `expr_reads`
 
@@ -165,8 +203,7 @@ module _ (e : Bytes) (d : ℕ) (kinds : List ℕ) (names : Names) (g : List ℕ)
       expr-shut z x s = absurd (omega (arith, deeper x s))
 
       -- an `f`
-      pub expr-field : getD e 1 0 ≡ 102 → (r : Bool) (g′ : List ℕ) → FieldFormRead r e (d - 1) kinds names g g′ from → ExprRead r e d kinds names g g′ from
-      unfolding expr-reads
+      pub expr-field : getD e 1 0 ≡ 102 → (r : Bool) (g′ : List ℕ) → FieldRead r e (d - 1) kinds names g g′ from → ExprRead r e d kinds names g g′ from
       expr-field c r g′ f x s header w hs n start rs k = go (told x)
         where
           go : Told x → ReadAll r g′ hs n start rs from (expr-reads x header names)

@@ -4,18 +4,19 @@
 use mathlib.Core.Path.{_≡_}
 use mathlib.Core.Bool.{Bool, true, false}
 use mathlib.Core.List.{List, [], _∷_}
-use mathlib.Core.Option.{Option}
 use Prim.Native.Nat.{ℕ, suc, _≤_}
 use Rattle.spec.specs.Bytes.{Bytes, show-rest}
-use Rattle.spec.specs.Syntax.{Kind, Expr, Exprs, name, field, Header}
+use Rattle.spec.specs.Syntax.{Expr, Exprs, name, field, index, Header}
 use Rattle.spec.specs.Show.{show-expr, show-exprs}
 use Rattle.spec.specs.Refusal.{expr-in-range, exprs-in-range, expr-depth, exprs-depth}
 use Rattle.spec.specs.Value.{Names}
 use Rattle.spec.specs.Site.{kind-of}
-use Rattle.spec.specs.Edge.{Node, Reads, no-reads, name-reads, is-inst, field-reads, expr-reads, exprs-reads, Head}
+use Rattle.spec.specs.Edge.{Node, Reads, name-reads, is-inst, an-inst, an-inst-at, no-inst, field-of, expr-reads, exprs-reads, Head}
 use Rattle.graph.specs.Stands.{Heading}
 use Rattle.edges.specs.declared.Named as N
 use Rattle.edges.specs.declared.Named.the-variants as named
+use Rattle.edges.specs.declared.FieldOf as F
+use Rattle.edges.specs.declared.FieldOf.the-variants as of
 use Rattle.edges.specs.Reads.{KindsOf, ReadAll}
 
 -- 01, The line: the bytes e show x, which is in range and at most d brackets deep
@@ -24,50 +25,51 @@ pub record ShowsExpr (e : Bytes) (d : ℕ) (x : Expr) : Type 0 where
   pub deep : expr-depth x ≤ d
   pub ranged : expr-in-range x ≡ true
 
--- 01, The edge; Refused because of the state: what reading the bytes e leaves in the graph of a module, whatever they show and whatever was
--- headed and read before
-abbrev pub ExprRead : Bool → Bytes → ℕ → List ℕ → Names → List ℕ → List ℕ → ℕ → Type 0
-ExprRead r e d kinds names g g′ from =
-    (x : Expr) → ShowsExpr e d x → (header : List Header) → KindsOf kinds header
-    → (hs : List Head) (n : Node) (start : ℕ) (rs : List Node) → Heading g hs n start rs from → ReadAll r g′ hs n start rs from (expr-reads x header names)
+-- 01, The edge; Refused because of the state: what reading q leaves in the graph of a module, whatever was headed and read before
+abbrev pub NodesRead : Bool → Reads → List ℕ → List ℕ → ℕ → Type 0
+NodesRead r q g g′ from = (hs : List Head) (n : Node) (start : ℕ) (rs : List Node) → Heading g hs n start rs from → ReadAll r g′ hs n start rs from q
 
--- 01, The edge; Refused because of the state: what reading the name m, by its kind, leaves in the graph of a module
+-- 01, The edge; Refused because of the state: what reading the bytes e, whatever they show, leaves there
+abbrev pub ExprRead : Bool → Bytes → ℕ → List ℕ → Names → List ℕ → List ℕ → ℕ → Type 0
+ExprRead r e d kinds names g g′ from = (x : Expr) → ShowsExpr e d x → (header : List Header) → KindsOf kinds header → NodesRead r (expr-reads x header names) g g′ from
+
+-- 01, The edge; Refused because of the state: what reading the name m, by its kind, leaves there
 abbrev pub NameRead : Bool → ℕ → List ℕ → List ℕ → List ℕ → ℕ → Type 0
-NameRead r m kinds g g′ from =
-    (header : List Header) → KindsOf kinds header
-    → (hs : List Head) (n : Node) (start : ℕ) (rs : List Node) → Heading g hs n start rs from → ReadAll r g′ hs n start rs from (name-reads (kind-of header m) m)
+NameRead r m kinds g g′ from = (header : List Header) → KindsOf kinds header → NodesRead r (name-reads (kind-of header m) m) g g′ from
+
+-- 01, The edge: one node is read
+abbrev pub one-read : Node → Reads
+one-read n = record { nodes = n ∷ []; out = false }
 
 -- 01, The edge: what looking for a name says of an expression: it is that name, or it is none
 abbrev pub NamedBy : N.Named → Expr → Type 0
 NamedBy (named.Is n) x = x ≡ name n
 NamedBy named.Not x = (n : ℕ) → x ≡ name n → ⊥
 
--- 01, The edge: one node is read
-abbrev pub one-read : Node → Reads
-one-read n = record { nodes = n ∷ []; out = false }
+-- 01, The edge: what looking for an index of a name says of an expression: it is one of that name, or it is none
+abbrev pub IndexedBy : N.Named → Expr → Type 0
+IndexedBy (named.Is n) x = (e : Expr) × (x ≡ index (name n) e)
+IndexedBy named.Not x = (n : ℕ) (e : Expr) → x ≡ index (name n) e → ⊥
 
--- 01, The edge: q is read where the kind is inst, else nothing
-abbrev pub if-inst : Option Kind → Reads → Reads
-if-inst o q = elim (is-inst o) [ true ↦ q | false ↦ no-reads ]
+-- 01, The edge: r says whether the name i is an inst
+abbrev pub IsInst : Bool → ℕ → List ℕ → Type 0
+IsInst r i kinds = (header : List Header) → KindsOf kinds header → r ≡ is-inst (kind-of header i)
 
--- 01, The edge; Refused because of the state: what reading q if i is an inst, and else nothing, leaves in the graph of a module
-abbrev pub InstRead : Bool → ℕ → Reads → List ℕ → List ℕ → List ℕ → ℕ → Type 0
-InstRead r i q kinds g g′ from =
-    (header : List Header) → KindsOf kinds header
-    → (hs : List Head) (n : Node) (start : ℕ) (rs : List Node) → Heading g hs n start rs from → ReadAll r g′ hs n start rs from (if-inst (kind-of header i) q)
+-- 01, The edge: what the code says of an `f` of x
+abbrev pub SaysOf : F.FieldOf → List Header → Expr → Type 0
+SaysOf (of.Inst i) hs x = field-of hs x ≡ an-inst i
+SaysOf (of.InstAt i) hs x = (e : Expr) × (x ≡ index (name i) e) × (field-of hs x ≡ an-inst-at i e)
+SaysOf of.Other hs x = field-of hs x ≡ no-inst
 
--- 01, The edge; Refused because of the state: what reading `(f x p)` leaves in the graph of a module
-abbrev pub FieldRead : Bool → Bytes → ℕ → ℕ → List ℕ → Names → List ℕ → List ℕ → ℕ → Type 0
-FieldRead r x p d kinds names g g′ from =
-    (y : Expr) → ShowsExpr x d y → (header : List Header) → KindsOf kinds header
-    → (hs : List Head) (n : Node) (start : ℕ) (rs : List Node) → Heading g hs n start rs from → ReadAll r g′ hs n start rs from (field-reads header names y p)
+-- 01, The edge: the same of the bytes x, whatever they show
+abbrev pub FieldOfIs : F.FieldOf → Bytes → List ℕ → Type 0
+FieldOfIs r x kinds = (y : Expr) (d : ℕ) → ShowsExpr x d y → (header : List Header) → KindsOf kinds header → SaysOf r header y
 
 -- 01, The edge; Refused because of the state: what reading the bytes e of an `f` leaves in the graph of a module, what it is of being at
 -- most d brackets deep
-abbrev pub FieldFormRead : Bool → Bytes → ℕ → List ℕ → Names → List ℕ → List ℕ → ℕ → Type 0
-FieldFormRead r e d kinds names g g′ from =
-    (y : Expr) (p : ℕ) → ShowsExpr e (suc d) (field y p) → (header : List Header) → KindsOf kinds header
-    → (hs : List Head) (n : Node) (start : ℕ) (rs : List Node) → Heading g hs n start rs from → ReadAll r g′ hs n start rs from (field-reads header names y p)
+abbrev pub FieldRead : Bool → Bytes → ℕ → List ℕ → Names → List ℕ → List ℕ → ℕ → Type 0
+FieldRead r e d kinds names g g′ from =
+    (y : Expr) (p : ℕ) → ShowsExpr e (suc d) (field y p) → (header : List Header) → KindsOf kinds header → NodesRead r (expr-reads (field y p) header names) g g′ from
 
 -- 01, The line: the bytes s show the expressions es behind a part of a form, which they end; each is in range and at most d brackets deep
 pub record ShowsExprs (s : Bytes) (d : ℕ) (es : Exprs) : Type 0 where
@@ -78,5 +80,4 @@ pub record ShowsExprs (s : Bytes) (d : ℕ) (es : Exprs) : Type 0 where
 -- 01, The edge; Refused because of the state: what reading those bytes leaves in the graph of a module
 abbrev pub PartsRead : Bool → Bytes → ℕ → List ℕ → Names → List ℕ → List ℕ → ℕ → Type 0
 PartsRead r s d kinds names g g′ from =
-    (es : Exprs) → ShowsExprs s d es → (header : List Header) → KindsOf kinds header
-    → (hs : List Head) (n : Node) (start : ℕ) (rs : List Node) → Heading g hs n start rs from → ReadAll r g′ hs n start rs from (exprs-reads es header names)
+    (es : Exprs) → ShowsExprs s d es → (header : List Header) → KindsOf kinds header → NodesRead r (exprs-reads es header names) g g′ from

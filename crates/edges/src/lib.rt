@@ -20,7 +20,7 @@ ghost use Rattle.graph.specs.Table.{node-of};
 ghost use Rattle.spec.specs.Cleared.{ClearedUnless};
 ghost use Rattle.consteval.specs.Worth.{names-of, worth};
 ghost use Rattle.lines.specs.Parts.{piece, next-end};
-ghost use Rattle.edges.specs.Shows.{NameRead, NamedBy, ShowsExpr, InstRead, FieldRead, FieldFormRead, ExprRead, PartsRead, one-read};
+ghost use Rattle.edges.specs.Shows.{NameRead, NamedBy, IndexedBy, IsInst, FieldOfIs, ShowsExpr, NodesRead, FieldRead, ExprRead, PartsRead, one-read};
 ghost use Rattle.edges.specs.Lines.{WireHeads, DriveHeads, summary-at, IndexIs, ModuleIs, ConnRead, ConnsRead, OutputHead, InstHeads};
 
 // The node `from`, which the last line headed, reads the name n, by its kind: false where a limit is passed, and then the graph is cleared.
@@ -68,14 +68,68 @@ pub fn name_of(x: &[u8]) -> Named
     Named::Is(v as u32)
 }
 
-// The node `from` reads the output p of the instance i, if i is one. At a limit the graph is cleared.
-pub fn output_read(kinds: &[u8], i: u32, p: u32, g: &mut [u32], from: u32) -> bool
-    ensures { λ r. ⌜ InstRead r i (one-read (inst-out i none p)) (now (kinds .entry)) (now (g .entry)) (now (g .exit)) from ⌝ }
-    ensures { λ r. ⌜ ClearedUnless r (now (g .exit)) ⌝ }
+// The name that the expression x is an index of, if it is one of a name. By the first bytes of a form.
+fn indexed_name(x: &[u8]) -> Named
+    ensures { λ r. ⌜ ((y : Expr) (d : ℕ) → ShowsExpr (now (x .entry)) d y → IndexedBy r y) ⌝ }
+{
+    if parts::byte(x, 0) != b'(' {
+        return Named::Not;
+    }
+    if parts::byte(x, 1) != b'i' {
+        return Named::Not;
+    }
+    if parts::byte(x, 2) != b'x' {
+        return Named::Not;
+    }
+    let a = parts::part_end(x, 4);
+    name_of(parts::between(x, 3, a))
+}
+
+// Is the name i an inst?
+fn is_inst(kinds: &[u8], i: u32) -> bool
+    ensures { λ r. ⌜ IsInst r i (now (kinds .entry)) ⌝ }
 {
     if parts::byte(kinds, i as usize) < 6 {
-        return true;
+        return false;
     }
+    true
+}
+
+// What an `f` is of: an inst, an inst with an index, or anything else.
+enum FieldOf {
+    Inst(u32),
+    InstAt(u32),
+    Other,
+}
+
+// What an `f` of the expression x is of.
+fn field_of(x: &[u8], kinds: &[u8]) -> FieldOf
+    ensures { λ r. ⌜ FieldOfIs r (now (x .entry)) (now (kinds .entry)) ⌝ }
+{
+    match name_of(x) {
+        Named::Is(i) => {
+            if is_inst(kinds, i) {
+                return FieldOf::Inst(i);
+            }
+            FieldOf::Other
+        }
+        Named::Not => match indexed_name(x) {
+            Named::Is(i) => {
+                if is_inst(kinds, i) {
+                    return FieldOf::InstAt(i);
+                }
+                FieldOf::Other
+            }
+            Named::Not => FieldOf::Other,
+        },
+    }
+}
+
+// The node `from` reads the output p of the instance i. At a limit the graph is cleared.
+fn output_read(i: u32, p: u32, g: &mut [u32], from: u32) -> bool
+    ensures { λ r. ⌜ NodesRead r (one-read (inst-out i none p)) (now (g .entry)) (now (g .exit)) from ⌝ }
+    ensures { λ r. ⌜ ClearedUnless r (now (g .exit)) ⌝ }
+{
     match graph::read(g, from, Node::Output(i, p)) {
         Added::At(_) => true,
         Added::Full => false,
@@ -83,8 +137,7 @@ pub fn output_read(kinds: &[u8], i: u32, p: u32, g: &mut [u32], from: u32) -> bo
 }
 
 // The same with an index e, which is evaluated and not read: false also where it is outside INT. Where it says false the graph is cleared.
-pub fn index_read(
-    kinds: &[u8],
+fn index_read(
     i: u32,
     p: u32,
     e: &[u8],
@@ -94,13 +147,10 @@ pub fn index_read(
     g: &mut [u32],
     from: u32,
 ) -> bool
-    ensures { λ r. ⌜ InstRead r i (indexed-reads i (value (names-of (now (names .entry)) used) (decode-expr depth (now (e .entry)))) p)
-        (now (kinds .entry)) (now (g .entry)) (now (g .exit)) from ⌝ }
+    ensures { λ r. ⌜ NodesRead r (indexed-reads i (value (names-of (now (names .entry)) used) (decode-expr depth (now (e .entry)))) p)
+        (now (g .entry)) (now (g .exit)) from ⌝ }
     ensures { λ r. ⌜ ClearedUnless r (now (g .exit)) ⌝ }
 {
-    if parts::byte(kinds, i as usize) < 6 {
-        return true;
-    }
     match consteval::eval(e, depth, names, used) {
         Value::Known(v) => match graph::read(g, from, Node::OutputAt(i, v, p)) {
             Added::At(_) => true,
@@ -110,60 +160,6 @@ pub fn index_read(
         Value::Outside => {
             graph::clear(g);
             false
-        }
-    }
-}
-
-// The node `from` reads `(f x p)`: an output of an instance, or nothing. Where it says false the graph is cleared.
-pub fn field_read(
-    x: &[u8],
-    p: u32,
-    depth: u32,
-    kinds: &[u8],
-    names: &[u32],
-    used: usize,
-    g: &mut [u32],
-    from: u32,
-) -> bool
-    ensures { λ r. ⌜ FieldRead r (now (x .entry)) p depth (now (kinds .entry)) (names-of (now (names .entry)) used) (now (g .entry)) (now (g .exit)) from ⌝ }
-    ensures { λ r. ⌜ ClearedUnless r (now (g .exit)) ⌝ }
-{
-    match name_of(x) {
-        Named::Is(i) => output_read(kinds, i, p, g, from),
-        Named::Not => {
-            if depth == 0 {
-                return true;
-            }
-            if parts::byte(x, 0) != b'(' {
-                return true;
-            }
-            if parts::byte(x, 1) != b'i' {
-                return true;
-            }
-            if parts::byte(x, 2) != b'x' {
-                return true;
-            }
-            let a = parts::part_end(x, 4);
-            match name_of(parts::between(x, 3, a)) {
-                Named::Is(i) => {
-                    if parts::more(x, a) {
-                        let b = parts::part_end(x, a + 1);
-                        return index_read(
-                            kinds,
-                            i,
-                            p,
-                            parts::between(x, a, b),
-                            depth - 1,
-                            names,
-                            used,
-                            g,
-                            from,
-                        );
-                    }
-                    true
-                }
-                Named::Not => true,
-            }
         }
     }
 }
@@ -189,8 +185,16 @@ fn number_at(s: &[u8], before: usize, end: usize) -> u32
     v as u32
 }
 
-// The node `from` reads the `f` that e is.
-fn field_form(
+// How deep what stands k brackets inside may be.
+fn under(depth: u32, k: u32) -> u32
+    ensures { λ r. ⌜ r ≡ depth - k ⌝ }
+{
+    if depth < k { 0 } else { depth - k }
+}
+
+// The node `from` reads the `f` that e is: an output of an instance, or what the expression under it reads, which is at most `depth`
+// brackets deep. Where it says false the graph is cleared.
+fn field_reads(
     e: &[u8],
     depth: u32,
     kinds: &[u8],
@@ -199,21 +203,21 @@ fn field_form(
     g: &mut [u32],
     from: u32,
 ) -> bool
-    ensures { λ r. ⌜ FieldFormRead r (now (e .entry)) depth (now (kinds .entry)) (names-of (now (names .entry)) used) (now (g .entry)) (now (g .exit)) from ⌝ }
+    ensures { λ r. ⌜ FieldRead r (now (e .entry)) depth (now (kinds .entry)) (names-of (now (names .entry)) used) (now (g .entry)) (now (g .exit)) from ⌝ }
     ensures { λ r. ⌜ ClearedUnless r (now (g .exit)) ⌝ }
 {
     let a = next_end(e, 2);
+    let x = parts::between(e, 2, a);
     let p = number_at(e, a, next_end(e, a));
-    field_read(
-        parts::between(e, 2, a),
-        p,
-        depth,
-        kinds,
-        names,
-        used,
-        g,
-        from,
-    )
+    match field_of(x, kinds) {
+        FieldOf::Inst(i) => output_read(i, p, g, from),
+        FieldOf::InstAt(i) => {
+            let b = parts::part_end(x, 4);
+            let index = parts::between(x, b, next_end(x, b));
+            index_read(i, p, index, under(depth, 1), names, used, g, from)
+        }
+        FieldOf::Other => expr_reads(x, depth, kinds, names, used, g, from),
+    }
 }
 
 // The node `from` reads what the expression e reads: false where a limit is passed or an index is outside INT, and then
@@ -240,7 +244,7 @@ pub fn expr_reads(
                 return true;
             }
             if parts::byte(e, 1) == b'f' {
-                return field_form(e, depth - 1, kinds, names, used, g, from);
+                return field_reads(e, depth - 1, kinds, names, used, g, from);
             }
             let a = parts::part_end(e, 1);
             parts_read(e, a, depth - 1, kinds, names, used, g, from)
@@ -271,13 +275,6 @@ fn parts_read(
         a = b;
     }
     true
-}
-
-// How deep what stands k brackets inside may be.
-fn under(depth: u32, k: u32) -> u32
-    ensures { λ r. ⌜ r ≡ depth - k ⌝ }
-{
-    if depth < k { 0 } else { depth - k }
 }
 
 // The `wire` line x heads its signal, which reads its expression. The name stands behind the 5 bytes of `(wire`, START behind the

@@ -1,5 +1,5 @@
 -- Small texts computed by the definitions, each rule of 01 among them. What is printed is what the original Rust reports; of a
--- refusal, on ties, and where `shr` is by 0, it is what 01 and 02 demand. 01: all sections.
+-- refusal, on ties, where `shr` is by 0, and of an `f` that is no output of an instance, it is what 01 and 02 demand. 01: all sections.
 -- Assumes nothing.
 use mathlib.Core.Path.{_≡_, refl}
 use mathlib.Core.List.{List, [], _∷_}
@@ -197,12 +197,18 @@ read-table =
     ∷ example "head-of-a-wire-line-whatever-the-kind" ("(module 0 bound)" ∷ "(kind 1 in)" ∷ "(kind 2 out)" ∷ "(wire 1 (n 1) 10)" ∷ "(wire 2 (n 2) 20)" ∷ []) ("(E0504 0 10 (walk 1 1))" ∷ "(E0504 0 20 (walk 2 2))" ∷ [])
     ∷ example "read-of-every-part-of-if" ("(module 0 bound)" ∷ "(kind 1 wire)" ∷ "(kind 2 wire)" ∷ "(kind 3 wire)" ∷ "(wire 1 (if (n 1) 0 0) 10)" ∷ "(wire 2 (if 0 (n 2) 0) 20)" ∷ "(wire 3 (if 0 0 (n 3)) 30)" ∷ []) ("(E0504 0 10 (walk 1 1))" ∷ "(E0504 0 20 (walk 2 2))" ∷ "(E0504 0 30 (walk 3 3))" ∷ [])
     ∷ example "read-of-the-indexes-of-an-output" ("(module 0 bound)" ∷ "(kind 1 out)" ∷ "(kind 2 out)" ∷ "(drive (lv 1 10 (n 1)) 0)" ∷ "(drive (lv 2 20 7 (n 2)) 0)" ∷ []) ("(E0504 0 10 (walk 1 1))" ∷ "(E0504 0 20 (walk 2 2))" ∷ [])
-    ∷ example "read-of-a-field-of-a-signal-is-none" ("(module 0 bound)" ∷ "(kind 1 wire)" ∷ "(wire 1 (f (n 1) 2) 10)" ∷ "(wire 1 (f (ix (n 1) 0) 2) 20)" ∷ "(wire 1 (f (all (n 1)) 2) 30)" ∷ "(wire 1 (f (f (n 1) 2) 2) 40)" ∷ []) []
+    ∷ example "read-of-a-field-of-a-signal" ("(module 0 bound)" ∷ "(kind 0 wire)" ∷ "(wire 0 (f (n 0) 1) 0)" ∷ []) ("(E0504 0 0 (walk 0 0))" ∷ [])
+    ∷ example "read-of-a-field-of-any-form" ("(module 0 bound)" ∷ "(kind 1 wire)" ∷ "(kind 2 wire)" ∷ "(kind 3 wire)" ∷ "(wire 1 (f (ix (n 1) 0) 9) 10)" ∷ "(wire 2 (f (all (n 2)) 9) 20)" ∷ "(wire 3 (f (f (n 3) 9) 9) 30)" ∷ []) ("(E0504 0 10 (walk 1 1))" ∷ "(E0504 0 20 (walk 2 2))" ∷ "(E0504 0 30 (walk 3 3))" ∷ [])
+    ∷ example "read-of-the-index-of-a-name-that-is-no-instance" ("(module 0 bound)" ∷ "(kind 0 wire)" ∷ "(wire 0 (f (ix (n 1) (n 0)) 0) 0)" ∷ []) ("(E0504 0 0 (walk 0 0))" ∷ [])
+    ∷ example "no-value-of-the-index-of-a-name-that-is-no-instance" ("(module 0 bound)" ∷ "(kind 1 reg)" ∷ "(kind 2 wire)" ∷ "(wire 2 (f (ix (n 1) (add (mul 65536 65536) (n 2))) 9) 10)" ∷ []) ("(E0504 0 10 (walk 2 2))" ∷ [])
+    ∷ example "value-of-the-index-of-an-instance-under-a-field" ("(module 0 bound)" ∷ "(kind 1 wire)" ∷ "(kind 9 inst)" ∷ "(wire 1 (f (f (ix (n 9) (mul 65536 65536)) 3) 4) 10)" ∷ []) ("(refused 20 0)" ∷ [])
+    ∷ example "read-of-a-field-of-an-instance-output" ("(module 0 bound)" ∷ "(kind 9 inst)" ∷ "(inst 9 - 1 10 (conn 2 (f (f (n 9) 3) 4)))" ∷ "(module 1 bound)" ∷ "(kind 2 in)" ∷ "(kind 3 out)" ∷ "(port out 3 bit 1)" ∷ "(drive (lv 3 2) (n 2))" ∷ []) ("(E0504 0 10 (walk (u 9 - 3) (u 9 - 3)))" ∷ [])
+    ∷ example "read-of-a-field-in-an-index-of-an-output" ("(module 0 bound)" ∷ "(kind 1 out)" ∷ "(drive (lv 1 10 (f (n 1) 9)) 0)" ∷ []) ("(E0504 0 10 (walk 1 1))" ∷ [])
     ∷ []
 
 read-rows : All-print read-table
 unfolding computed-print
-read-rows = printed read-table (refl, (refl, (refl, (refl, (refl, (refl, (refl, (refl, (refl, tt)))))))))
+read-rows = printed read-table (refl, (refl, (refl, (refl, (refl, (refl, (refl, (refl, (refl, (refl, (refl, (refl, (refl, (refl, (refl, tt)))))))))))))))
 
 -- 01, The edge.
 abbrev instance-table : List Example

@@ -20,13 +20,13 @@ use Rattle.spec.specs.Collect.{Collected, collection}
 use Rattle.spec.specs.Site.{kind-of, Driving, an-output, a-wire, a-reg, a-mem, nothing, driving, Site, index-constants, line-constants, any-outside, lines-outside, sites, sites-of, Output, outputs, deciding-width}
 use Rattle.spec.specs.Block.{pairs}
 use Rattle.spec.specs.DepthFirst.{each-once}
-use Rattle.spec.specs.Edge.{same-node, is-inst, name-reads, indexed-reads, field-reads, expr-reads, exprs-reads, and-reads, index-reads, Head, drive-heads, Summary, reaches, conn-reads, has-output, output-heads, index-of, place-value, inst-edges, line-heads, all-nodes, edge-count, node-limit, edge-limit, over-graph, inst-of}
+use Rattle.spec.specs.Edge.{same-node, Reads, name-reads, indexed-reads, FieldOf, an-inst, an-inst-at, no-inst, field-of, field-reads, expr-reads, exprs-reads, and-reads, index-reads, Head, drive-heads, Summary, reaches, conn-reads, has-output, output-heads, index-of, place-value, inst-edges, line-heads, all-nodes, edge-count, node-limit, edge-limit, over-graph, inst-of}
 use Rattle.spec.specs.Summary.{Kept, kept-summary, triples, triple-limit, Asked, ask-for, comb-summary, make-summary, Headed, lines-heads, module-heads}
 use Rattle.spec.specs.Report.{show-reports}
 use Rattle.spec.specs.Check.{site-limit, pair-limit, widths-out, Checked, check-module-drivers, check-modules, check-design, refuse, accept, answer-checked, Lent, too-short, check-drivers, Slice, cleared, check-call}
 use Rattle.spec.specs.Graph.{_∈_, Once}
 use Rattle.spec.specs.Reading.{Fault, not-one-form, badly-written, out-of-range, out-of-place, one-too-many, Refused, too-long, bad-byte, no-feed, bad-line}
-use Rattle.spec.specs.Refusals.{PartOutside, literal, condition, then-branch, else-branch, operand, negation, left-operand, right-operand, sum, difference, product, shifted, field-index, read-constants, reads-constants, is-reached, conns-read, drive-read, line-read, GraphPasses, many-nodes, many-edges, LinesPass, line-asks, line-reads, MakingPasses, summary-walk, summary-graph, many-triples, AskPasses, const-table, item-list, ModulePasses, const-outside, line-outside, width-outside, many-sites, many-pairs, own-walk, own-graph, Passes, own-check, Short, Refusals}
+use Rattle.spec.specs.Refusals.{PartOutside, literal, condition, then-branch, else-branch, operand, negation, left-operand, right-operand, sum, difference, product, shifted, field-constants, read-constants, reads-constants, is-reached, conns-read, drive-read, line-read, GraphPasses, many-nodes, many-edges, LinesPass, line-asks, line-reads, MakingPasses, summary-walk, summary-graph, many-triples, AskPasses, const-table, item-list, ModulePasses, const-outside, line-outside, width-outside, many-sites, many-pairs, own-walk, own-graph, Passes, own-check, Short, Refusals}
 use Rattle.spec.proofs.Flags.{clash, which, not-so, or-cases, or-left, or-right, and-both, and-of, or-says, unnamed}
 use Rattle.spec.proofs.Lists.{once-length}
 use Rattle.spec.proofs.Numbers.{if-case}
@@ -266,33 +266,10 @@ indexed-out i (known z) p = refl
 indexed-out i missing p = refl
 indexed-out i outside p = refl
 
-field-says : (hs : List Header) (names : Names) (e : Expr) (p : ℕ) → (field-reads hs names e p .out ≡ true) ↔ OneOutside names (field-index hs e)
-unfolding field-reads field-index
-field-says hs names (name i) p = go (is-inst (kind-of hs i)) refl
-  where
-    go : (b : Bool) → is-inst (kind-of hs i) ≡ b → (field-reads hs names (name i) p .out ≡ true) ↔ OneOutside names []
-    go true e = rw (e, field-reads) no-test
-    go false e = rw (e, field-reads) no-test
-field-says hs names (index (name i) e) p = go (is-inst (kind-of hs i)) refl
-  where
-    go : (b : Bool) → is-inst (kind-of hs i) ≡ b → (field-reads hs names (index (name i) e) p .out ≡ true) ↔ OneOutside names (field-index hs (index (name i) e))
-    go true h = rw (h, field-reads, field-index, indexed-out) (one-alone names e)
-    go false h = rw (h, field-reads, field-index) no-test
-field-says hs names (index (lit n) e) p = no-test
-field-says hs names (index (truth b) e) p = no-test
-field-says hs names (index (field a n) e) p = no-test
-field-says hs names (index (index a b) e) p = no-test
-field-says hs names (index (if-else c a b) e) p = no-test
-field-says hs names (index (unary o a) e) p = no-test
-field-says hs names (index (binary o a b) e) p = no-test
-field-says hs names (index (all es) e) p = no-test
-field-says hs names (lit n) p = no-test
-field-says hs names (truth b) p = no-test
-field-says hs names (field e n) p = no-test
-field-says hs names (if-else c a b) p = no-test
-field-says hs names (unary o a) p = no-test
-field-says hs names (binary o a b) p = no-test
-field-says hs names (all es) p = no-test
+field-says : (names : Names) (f : FieldOf) (p : ℕ) (r : Reads) (xs : List Expr) → (r .out ≡ true) ↔ OneOutside names xs → (field-reads names f p r .out ≡ true) ↔ OneOutside names (field-constants f xs)
+field-says names (an-inst i) p r xs h = no-test
+field-says names (an-inst-at i e) p r xs h = rw (indexed-out i (value names e) p) (one-alone names e)
+field-says names no-inst p r xs h = h
 
 mutual
   unfolding expr-reads read-constants
@@ -301,7 +278,7 @@ mutual
   reads-say (lit n) hs names = no-test
   reads-say (truth b) hs names = no-test
   reads-say (name n) hs names = rw (name-quiet (kind-of hs n) n) no-test
-  reads-say (field e p) hs names = field-says hs names e p
+  reads-say (field e p) hs names = field-says names (field-of hs e) p (expr-reads e hs names) (read-constants e hs) (reads-say e hs names)
   reads-say (index e i) hs names = one-append (reads-say e hs names) (reads-say i hs names)
   reads-say (if-else c a b) hs names = rw (append-assoc (read-constants c hs) (read-constants a hs) (read-constants b hs)) (one-append (reads-say c hs names) (one-append (reads-say a hs names) (reads-say b hs names)))
   reads-say (unary o a) hs names = reads-say a hs names

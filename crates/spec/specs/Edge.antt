@@ -70,25 +70,38 @@ indexed-reads i (known z) p = record { nodes = inst-out i (some z) p ∷ []; out
 indexed-reads i missing p = no-reads
 indexed-reads i outside p = record { nodes = []; out = true }
 
--- 01, The edge: `(f (n I) P)` or `(f (ix (n I) E) P)`, I an inst. Any other `f` reads nothing.
-unfoldable pub field-reads : List Header → Names → Expr → ℕ → Reads
-field-reads hs names (name i) p = elim (is-inst (kind-of hs i)) [ true ↦ record { nodes = inst-out i none p ∷ []; out = false } | false ↦ no-reads ]
-field-reads hs names (index (name i) e) p = elim (is-inst (kind-of hs i)) [ true ↦ indexed-reads i (value names e) p | false ↦ no-reads ]
-field-reads hs names (index (lit n) e) p = no-reads
-field-reads hs names (index (truth b) e) p = no-reads
-field-reads hs names (index (field a n) e) p = no-reads
-field-reads hs names (index (index a b) e) p = no-reads
-field-reads hs names (index (if-else c a b) e) p = no-reads
-field-reads hs names (index (unary o a) e) p = no-reads
-field-reads hs names (index (binary o a b) e) p = no-reads
-field-reads hs names (index (all es) e) p = no-reads
-field-reads hs names (lit n) p = no-reads
-field-reads hs names (truth b) p = no-reads
-field-reads hs names (field e n) p = no-reads
-field-reads hs names (if-else c a b) p = no-reads
-field-reads hs names (unary o a) p = no-reads
-field-reads hs names (binary o a b) p = no-reads
-field-reads hs names (all es) p = no-reads
+-- 01, The edge: the inner expression of an `f`: an inst, an inst with an index, or anything else.
+pub data FieldOf : Type 0 where
+  an-inst : (inst : ℕ) → FieldOf
+  an-inst-at : (inst : ℕ) → (index : Expr) → FieldOf
+  no-inst : FieldOf
+
+-- 01, The edge: which of them it is: `(n I)` or `(ix (n I) E)`, I an inst, or neither.
+unfoldable pub field-of : List Header → Expr → FieldOf
+field-of hs (name i) = elim (is-inst (kind-of hs i)) [ true ↦ an-inst i | false ↦ no-inst ]
+field-of hs (index (name i) e) = elim (is-inst (kind-of hs i)) [ true ↦ an-inst-at i e | false ↦ no-inst ]
+field-of hs (index (lit n) e) = no-inst
+field-of hs (index (truth b) e) = no-inst
+field-of hs (index (field a n) e) = no-inst
+field-of hs (index (index a b) e) = no-inst
+field-of hs (index (if-else c a b) e) = no-inst
+field-of hs (index (unary o a) e) = no-inst
+field-of hs (index (binary o a b) e) = no-inst
+field-of hs (index (all es) e) = no-inst
+field-of hs (lit n) = no-inst
+field-of hs (truth b) = no-inst
+field-of hs (field e n) = no-inst
+field-of hs (if-else c a b) = no-inst
+field-of hs (unary o a) = no-inst
+field-of hs (binary o a b) = no-inst
+field-of hs (all es) = no-inst
+
+-- 01, The edge: of an inst that output is read, and nothing of the inner expression, the index neither. 02, U2: any other `f` reads
+-- everything that its inner expression reads.
+abbrev pub field-reads : Names → FieldOf → (output : ℕ) → (inner : Reads) → Reads
+field-reads names (an-inst i) p inner = record { nodes = inst-out i none p ∷ []; out = false }
+field-reads names (an-inst-at i e) p inner = indexed-reads i (value names e) p
+field-reads names no-inst p inner = inner
 
 -- 01, The edge: every other form reads all that its parts read.
 unfoldable mutual
@@ -96,7 +109,7 @@ unfoldable mutual
   expr-reads (lit n) hs names = no-reads
   expr-reads (truth b) hs names = no-reads
   expr-reads (name n) hs names = name-reads (kind-of hs n) n
-  expr-reads (field e p) hs names = field-reads hs names e p
+  expr-reads (field e p) hs names = field-reads names (field-of hs e) p (expr-reads e hs names)
   expr-reads (index e i) hs names = and-reads (expr-reads e hs names) (expr-reads i hs names)
   expr-reads (if-else c a b) hs names = and-reads (expr-reads c hs names) (and-reads (expr-reads a hs names) (expr-reads b hs names))
   expr-reads (unary o a) hs names = expr-reads a hs names

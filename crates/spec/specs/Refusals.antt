@@ -18,7 +18,7 @@ use Rattle.spec.specs.Collect.{Collected}
 use Rattle.spec.specs.Site.{kind-of, Driving, an-output, a-wire, a-reg, a-mem, nothing, driving, index-constants, line-constants, sites, width-value}
 use Rattle.spec.specs.Block.{pairs}
 use Rattle.spec.specs.DepthFirst.{each-once}
-use Rattle.spec.specs.Edge.{same-node, is-inst, Head, Summary, all-nodes, edge-count, node-limit, edge-limit, inst-of}
+use Rattle.spec.specs.Edge.{same-node, FieldOf, an-inst, an-inst-at, no-inst, field-of, Head, Summary, all-nodes, edge-count, node-limit, edge-limit, inst-of}
 use Rattle.spec.specs.Summary.{Kept, kept-summary, triples, triple-limit, Asked, ask-for, comb-summary, make-summary, lines-heads, module-heads}
 use Rattle.spec.specs.Report.{show-reports}
 use Rattle.spec.specs.Check.{site-limit, pair-limit, check-modules, check-design, refuse, accept, Lent, check-drivers, Slice, lent, check-call}
@@ -42,25 +42,12 @@ pub data PartOutside (names : Names) : Expr → Type 0 where
   product : (a b : Expr) (x y : ℤ) → value names a ≡ known x → value names b ≡ known y → in-int (x *ℤ y) ≡ false → PartOutside names (binary mul a b)
   shifted : (a b : Expr) (x : ℤ) (n : ℕ) → value names a ≡ known x → value names b ≡ known (pos n) → in-int (shift-up x n) ≡ false → PartOutside names (binary shl a b)
 
--- 01, The edge: the indexes that are evaluated where an expression is read: of `(f (ix (n I) E) P)`, I an inst.
-unfoldable pub field-index : List Header → Expr → List Expr
-field-index hs (index (name i) e) = elim (is-inst (kind-of hs i)) [ true ↦ e ∷ [] | false ↦ [] ]
-field-index hs (index (lit n) e) = []
-field-index hs (index (truth b) e) = []
-field-index hs (index (field a n) e) = []
-field-index hs (index (index a b) e) = []
-field-index hs (index (if-else c a b) e) = []
-field-index hs (index (unary o a) e) = []
-field-index hs (index (binary o a b) e) = []
-field-index hs (index (all es) e) = []
-field-index hs (lit n) = []
-field-index hs (truth b) = []
-field-index hs (name n) = []
-field-index hs (field e n) = []
-field-index hs (if-else c a b) = []
-field-index hs (unary o a) = []
-field-index hs (binary o a b) = []
-field-index hs (all es) = []
+-- 01, The edge: the indexes that are evaluated where an `f` is read: of an inst its index, if it has one. 02, U2: of any other `f` those of
+-- its inner expression.
+abbrev pub field-constants : FieldOf → (inner : List Expr) → List Expr
+field-constants (an-inst i) inner = []
+field-constants (an-inst-at i e) inner = e ∷ []
+field-constants no-inst inner = inner
 
 -- 01, The edge: the indexes that are evaluated where an expression is read.
 unfoldable mutual
@@ -68,7 +55,7 @@ unfoldable mutual
   read-constants (lit n) hs = []
   read-constants (truth b) hs = []
   read-constants (name n) hs = []
-  read-constants (field e n) hs = field-index hs e
+  read-constants (field e n) hs = field-constants (field-of hs e) (read-constants e hs)
   read-constants (index e i) hs = read-constants e hs ++ read-constants i hs
   read-constants (if-else c a b) hs = read-constants c hs ++ read-constants a hs ++ read-constants b hs
   read-constants (unary o a) hs = read-constants a hs

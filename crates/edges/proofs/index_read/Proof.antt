@@ -2,16 +2,10 @@
 use Rattle.graph.proofs.Cleared.{full-cleared}
 use Rattle.spec.proofs.Cleared.{cleared-of}
 use lib.ListN.{length}
-use Rattle.edges.proofs.InstLaws.{inst-not, index-missing, index-outside, index-at, index-full}
+use Rattle.edges.proofs.InstLaws.{index-missing, index-outside, index-at, index-full}
 use borrow.Author.Needs.{needs}
 use Rattle.edges.proofs.index_read.Statement.{statement}
 use Rattle.edges.proofs.index_read.Tie as tie
-
-byte-requires : tie.Need-byte-requires
-byte-requires c κs = search needs
-
-returns : tie.Need-returns
-returns c = (inst-not (c .before .before .before .before .before .before .args .kinds .now) (c .before .before .before .before .before .before .args .i) (c .before .before .before .before .before .before .args .g .now) (c .before .before .before .before .before .before .args .from) (c .before .byte .ensures) _ (c .if1 .taken), tt)
 
 eval-requires : tie.Need-eval-requires
 eval-requires c κs = search needs
@@ -40,30 +34,28 @@ clear-requires c κs = search needs
 same-length : tie.Need-same-length
 same-length c = search needs
 
-returns-2 : tie.Need-returns-2
-returns-2 c = (index-at (c .before .before .before .before .before .before .before .before .before .before .before .before .before .before .before .before .args .kinds .now) (c .before .before .before .before .before .before .before .before .before .before .before .before .before .before .before .before .args .i) (c .before .before .before .before .before .before .before .before .before .before .before .before .before .before .before .before .args .g .now) (c .before .before .before .before .before .before .before .before .before .before .before .before .before .before .before .before .args .from) (c .before .before .before .before .before .before .before .before .before .before .before .byte .ensures) (c .before .before .before .before .before .before .before .before .before .before .if1 .left) (c .before .before .before .before .before .before .before .before .before .before .before .before .before .before .before .before .args .p) (c .before .before .before .before .before .before .before .before .before .eval .ensures) (c .before .before .before .before .before .before .before .v .given .1) (c .before .before .before .before .read .result) _ (c .before .before .before .before .read .ensures .0) (c .enum-told .given .1), tt)
+returns : tie.Need-returns
+returns c = (index-at (c .before .before .before .before .before .before .before .before .before .before .before .before .before .args .g .now) (c .before .before .before .before .before .before .before .before .before .before .before .before .before .args .from) (c .before .before .before .before .before .before .before .before .before .before .before .before .before .args .i) (c .before .before .before .before .before .before .before .before .before .before .before .before .before .args .p) (c .before .before .before .before .before .before .before .before .before .eval .ensures) (c .before .before .before .before .before .before .before .v .given .1) (c .before .before .before .before .read .result) _ (c .before .before .before .before .read .ensures .0) (c .enum-told .given .1), tt)
 
 same-length-2 : tie.Need-same-length-2
 same-length-2 c = search needs
 
-returns-3 : tie.Need-returns-3
-returns-3 c = (index-full (c .before .before .before .before .before .before .before .before .before .before .before .before .before .before .before .before .args .kinds .now) (c .before .before .before .before .before .before .before .before .before .before .before .before .before .before .before .before .args .i) (c .before .before .before .before .before .before .before .before .before .before .before .before .before .before .before .before .args .g .now) (c .before .before .before .before .before .before .before .before .before .before .before .before .before .before .before .before .args .from) (c .before .before .before .before .before .before .before .before .before .before .before .byte .ensures) (c .before .before .before .before .before .before .before .before .before .before .if1 .left) (c .before .before .before .before .before .before .before .before .before .before .before .before .before .before .before .before .args .p) (c .before .before .before .before .before .before .before .before .before .eval .ensures) (c .before .before .before .before .before .before .before .v .given .1) (c .before .before .before .before .read .result) _ (c .before .before .before .before .read .ensures .0) (c .enum-told2 .given .1), full-cleared (c .before .before .before .before .read .result) _ (c .enum-told2 .given .1) (c .before .before .before .before .read .ensures .1))
+returns-2 : tie.Need-returns-2
+returns-2 c = (index-full (c .before .before .before .before .before .before .before .before .before .before .before .before .before .args .g .now) (c .before .before .before .before .before .before .before .before .before .before .before .before .before .args .from) (c .before .before .before .before .before .before .before .before .before .before .before .before .before .args .i) (c .before .before .before .before .before .before .before .before .before .before .before .before .before .args .p) (c .before .before .before .before .before .before .before .before .before .eval .ensures) (c .before .before .before .before .before .before .before .v .given .1) (c .before .before .before .before .read .result) _ (c .before .before .before .before .read .ensures .0) (c .enum-told2 .given .1), full-cleared (c .before .before .before .before .read .result) _ (c .enum-told2 .given .1) (c .before .before .before .before .read .ensures .1))
 
-returns-4 : tie.Need-returns-4
-returns-4 c = (index-missing (c .before .before .before .before .before .before .before .before .before .args .kinds .now) (c .before .before .before .before .before .before .before .before .before .args .i) (c .before .before .before .before .before .before .before .before .before .args .g .now) (c .before .before .before .before .before .before .before .before .before .args .from) (c .before .before .before .before .byte .ensures) (c .before .before .before .if1 .left) (c .before .before .before .before .before .before .before .before .before .args .p) (c .before .before .eval .ensures) (c .enum-told3 .given .1), tt)
+returns-3 : tie.Need-returns-3
+returns-3 c = (index-missing (c .before .before .before .before .before .before .args .g .now) (c .before .before .before .before .before .before .args .from) (c .before .before .before .before .before .before .args .i) (c .before .before .before .before .before .before .args .p) (c .before .before .eval .ensures) (c .enum-told3 .given .1), tt)
 
 same-length-3 : tie.Need-same-length-3
 same-length-3 c = search needs
 
-returns-5 : tie.Need-returns-5
-returns-5 c = (index-outside (c .before .before .before .before .before .before .before .before .before .before .before .before .before .args .kinds .now) (c .before .before .before .before .before .before .before .before .before .before .before .before .before .args .i) (c .before .before .before .before .before .before .before .before .before .before .before .before .before .args .g .now) (c .before .before .before .before .before .before .before .before .before .before .before .before .before .args .from) (c .before .before .before .before .before .before .before .before .byte .ensures) (c .before .before .before .before .before .before .before .if1 .left) (c .before .before .before .before .before .before .before .before .before .before .before .before .before .args .p) (c .before .before .before .before .before .before .eval .ensures) (c .before .before .clear .last .0) (c .before .before .before .before .enum-told4 .given .1), cleared-of (length (c .before .before .before .before .before .before .before .before .before .before .before .before .before .args .g .now)) (c .before .before .clear .last .0) (c .before .before .clear .ensures))
+returns-4 : tie.Need-returns-4
+returns-4 c = (index-outside (c .before .before .before .before .before .before .before .before .before .before .args .g .now) (c .before .before .before .before .before .before .before .before .before .before .args .from) (c .before .before .before .before .before .before .before .before .before .before .args .i) (c .before .before .before .before .before .before .before .before .before .before .args .p) (c .before .before .before .before .before .before .eval .ensures) (c .before .before .clear .last .0) (c .before .before .before .before .enum-told4 .given .1), cleared-of (length (c .before .before .before .before .before .before .before .before .before .before .args .g .now)) (c .before .before .clear .last .0) (c .before .before .clear .ensures))
 
 pub index-read-spec : {M : Type 1} → statement M
 index-read-spec =
     tie.close
     (tie.spec
-    byte-requires
-    returns
     eval-requires
     enum-known-v
     read-requires
@@ -73,9 +65,9 @@ index-read-spec =
     enum-told-4
     clear-requires
     same-length
-    returns-2
+    returns
     same-length-2
+    returns-2
     returns-3
-    returns-4
     same-length-3
-    returns-5)
+    returns-4)

@@ -1,4 +1,4 @@
--- `expr_reads` and `parts_read` meet their contracts: depth falls, and a part is less deep than its form. Assumes nothing.
+-- `expr_reads`, `field_reads` and `parts_read` meet their contracts: depth falls, and a part is less deep than its form. Assumes nothing.
 use borrow.Author.Needs.{needs}
 use native.Mathlib.Omega.{arith}
 use mathlib.Core.Path.{_≡_, refl, sym, _∙_}
@@ -11,28 +11,39 @@ use Rattle.consteval.specs.Worth.{names-of}
 use Rattle.lines.proofs.PartLaws.{follows-in}
 use Rattle.edges.specs.Shows.{PartsRead}
 use Rattle.spec.proofs.Cleared.{false-cleared}
-use Rattle.edges.proofs.PartLaws.{expr-atom, expr-name, expr-shut, expr-field, expr-parts, parts-none, parts-stop, parts-more}
+use Rattle.edges.proofs.PartLaws.{field-output, field-indexed, field-inner, expr-atom, expr-name, expr-shut, expr-field, expr-parts, parts-none, parts-stop, parts-more}
 use Prim.Native.Nat.{ℕ, _<_}
 use borrow.Fn.Kinds.{In}
 use borrow.Fn.PlainCycle.{Measures, is, falls, and}
 use Rattle.edges.proofs.expr_reads.Reads as expr-reads
 use Rattle.edges.proofs.expr_reads.Kinds as expr-reads-kinds
-use Rattle.edges.proofs.+expr_reads+parts_read.Lts-expr_reads as expr-reads-lts
+use Rattle.edges.proofs.+expr_reads+field_reads+parts_read.Lts-expr_reads as expr-reads-lts
+use Rattle.edges.proofs.field_reads.Reads as field-reads
+use Rattle.edges.proofs.field_reads.Kinds as field-reads-kinds
+use Rattle.edges.proofs.+expr_reads+field_reads+parts_read.Lts-field_reads as field-reads-lts
 use Rattle.edges.proofs.parts_read.Reads as parts-read
 use Rattle.edges.proofs.parts_read.Kinds as parts-read-kinds
-use Rattle.edges.proofs.+expr_reads+parts_read.Lts-parts_read as parts-read-lts
-use Rattle.edges.proofs.field_form.Reads as field-form-reads
+use Rattle.edges.proofs.+expr_reads+field_reads+parts_read.Lts-parts_read as parts-read-lts
+use Rattle.edges.proofs.field_of.Reads as field-of-reads
+use Rattle.edges.proofs.index_read.Reads as index-read-reads
 use Rattle.edges.proofs.name_of.Reads as name-of-reads
 use Rattle.edges.proofs.name_read.Reads as name-read-reads
+use Rattle.edges.proofs.next_end.Reads as next-end-reads
+use Rattle.edges.proofs.number_at.Reads as number-at-reads
+use Rattle.edges.proofs.output_read.Reads as output-read-reads
+use Rattle.edges.proofs.under.Reads as under-reads
 use Rattle.lines.proofs.parts.between.Reads as between-reads
 use Rattle.lines.proofs.parts.byte.Reads as byte-reads
 use Rattle.lines.proofs.parts.more.Reads as more-reads
 use Rattle.lines.proofs.parts.part_end.Reads as part-end-reads
-use Rattle.edges.proofs.+expr_reads+parts_read.{statement}
-use Rattle.edges.proofs.+expr_reads+parts_read.Tie.{close}
+use Rattle.edges.proofs.+expr_reads+field_reads+parts_read.{statement}
+use Rattle.edges.proofs.+expr_reads+field_reads+parts_read.Tie.{close}
 
 abbrev μ-expr-reads : Measures 4 expr-reads-kinds.ps ℕ
 μ-expr-reads κs a = 2 * a .1 .0
+
+abbrev μ-field-reads : Measures 4 field-reads-kinds.ps ℕ
+μ-field-reads κs a = 2 * a .1 .0 + 1
 
 abbrev μ-parts-read : Measures 4 parts-read-kinds.ps ℕ
 μ-parts-read κs a = 2 * a .1 .1 .0 + 1
@@ -45,6 +56,14 @@ abbrev expr-reads-below : ℕ → In 4 expr-reads-kinds.ps
 expr-reads-below t =
     and 4 expr-reads-kinds.ps (falls 4 expr-reads-kinds.ps _<_ μ-expr-reads t) expr-reads.Pre
 
+abbrev field-reads-at : ℕ → In 4 field-reads-kinds.ps
+field-reads-at t =
+    and 4 field-reads-kinds.ps (is 4 field-reads-kinds.ps μ-field-reads t) field-reads.Pre
+
+abbrev field-reads-below : ℕ → In 4 field-reads-kinds.ps
+field-reads-below t =
+    and 4 field-reads-kinds.ps (falls 4 field-reads-kinds.ps _<_ μ-field-reads t) field-reads.Pre
+
 abbrev parts-read-at : ℕ → In 4 parts-read-kinds.ps
 parts-read-at t =
     and 4 parts-read-kinds.ps (is 4 parts-read-kinds.ps μ-parts-read t) parts-read.Pre
@@ -55,7 +74,10 @@ parts-read-below t =
 
 -- what the functions that it calls ask and say
 abbrev expr-reads-claims : ℕ → expr-reads-lts.Claims
-expr-reads-claims t = (byte-reads.Asked, byte-reads.Learnt, name-of-reads.Asked, name-of-reads.Learnt, name-read-reads.Asked, name-read-reads.Learnt, field-form-reads.Asked, field-form-reads.Learnt, part-end-reads.Asked, part-end-reads.Learnt, parts-read-below t, parts-read.Post)
+expr-reads-claims t = (byte-reads.Asked, byte-reads.Learnt, name-of-reads.Asked, name-of-reads.Learnt, name-read-reads.Asked, name-read-reads.Learnt, field-reads-below t, field-reads.Post, part-end-reads.Asked, part-end-reads.Learnt, parts-read-below t, parts-read.Post)
+
+abbrev field-reads-claims : ℕ → field-reads-lts.Claims
+field-reads-claims t = (next-end-reads.Asked, next-end-reads.Learnt, between-reads.Asked, between-reads.Learnt, number-at-reads.Asked, number-at-reads.Learnt, field-of-reads.Asked, field-of-reads.Learnt, output-read-reads.Asked, output-read-reads.Learnt, part-end-reads.Asked, part-end-reads.Learnt, under-reads.Asked, under-reads.Learnt, index-read-reads.Asked, index-read-reads.Learnt, expr-reads-below t, expr-reads.Post)
 
 abbrev parts-read-claims : ℕ → parts-read-lts.Claims
 parts-read-claims t = (more-reads.Asked, more-reads.Learnt, part-end-reads.Asked, part-end-reads.Learnt, between-reads.Asked, between-reads.Learnt, expr-reads-below t, expr-reads.Post)
@@ -84,17 +106,17 @@ expr-reads-returns-2 t c = (expr-shut (c .before .before .before .before .before
 expr-reads-byte-requires-2 : (t : ℕ) → expr-reads-lts.Need-byte-requires-2 (expr-reads-claims t) (expr-reads-at t) expr-reads.Post
 expr-reads-byte-requires-2 t c κs = search needs
 
-expr-reads-sub-field-form : (t : ℕ) → expr-reads-lts.Need-sub-field-form (expr-reads-claims t) (expr-reads-at t) expr-reads.Post
-expr-reads-sub-field-form t c = search needs
+expr-reads-sub-field-reads : (t : ℕ) → expr-reads-lts.Need-sub-field-reads (expr-reads-claims t) (expr-reads-at t) expr-reads.Post
+expr-reads-sub-field-reads t c = search needs
 
-expr-reads-field-form-requires : (t : ℕ) → expr-reads-lts.Need-field-form-requires (expr-reads-claims t) (expr-reads-at t) expr-reads.Post
-expr-reads-field-form-requires t c κs = search needs
+expr-reads-field-reads-requires : (t : ℕ) → expr-reads-lts.Need-field-reads-requires (expr-reads-claims t) (expr-reads-at t) expr-reads.Post
+expr-reads-field-reads-requires t c κs = search needs
 
 expr-reads-same-length : (t : ℕ) → expr-reads-lts.Need-same-length (expr-reads-claims t) (expr-reads-at t) expr-reads.Post
 expr-reads-same-length t c = search needs
 
 expr-reads-returns-3 : (t : ℕ) → expr-reads-lts.Need-returns-3 (expr-reads-claims t) (expr-reads-at t) expr-reads.Post
-expr-reads-returns-3 t c = (expr-field (c .before .before .before .before .before .before .before .before .before .before .before .before .before .before .before .before .args .e .now) (c .before .before .before .before .before .before .before .before .before .before .before .before .before .before .before .before .args .depth) (c .before .before .before .before .before .before .before .before .before .before .before .before .before .before .before .before .args .kinds .now) (names-of (c .before .before .before .before .before .before .before .before .before .before .before .before .before .before .before .before .args .names .now) (c .before .before .before .before .before .before .before .before .before .before .before .before .before .before .before .before .args .used)) (c .before .before .before .before .before .before .before .before .before .before .before .before .before .before .before .before .args .g .now) (c .before .before .before .before .before .before .before .before .before .before .before .before .before .before .before .before .args .from) (c .before .before .before .before .before .before .before .before .before .name-of .result) (c .before .before .before .before .before .before .before .before .before .name-of .ensures) (sym (c .before .before .before .before .before .before .before .before .before .before .before .byte .ensures) ∙ c .before .before .before .before .before .before .before .before .before .before .if1 .left) (c .before .before .before .before .before .before .before .enum-told .given .1) (sym (c .before .before .before .before .before .byte2 .ensures) ∙ c .before .before .before .before .if3 .taken) (c .before .before .field-form .result) _ (c .before .before .field-form .ensures .0), c .before .before .field-form .ensures .1)
+expr-reads-returns-3 t c = (expr-field (c .before .before .before .before .before .before .before .before .before .before .before .before .before .before .before .before .args .e .now) (c .before .before .before .before .before .before .before .before .before .before .before .before .before .before .before .before .args .depth) (c .before .before .before .before .before .before .before .before .before .before .before .before .before .before .before .before .args .kinds .now) (names-of (c .before .before .before .before .before .before .before .before .before .before .before .before .before .before .before .before .args .names .now) (c .before .before .before .before .before .before .before .before .before .before .before .before .before .before .before .before .args .used)) (c .before .before .before .before .before .before .before .before .before .before .before .before .before .before .before .before .args .g .now) (c .before .before .before .before .before .before .before .before .before .before .before .before .before .before .before .before .args .from) (c .before .before .before .before .before .before .before .before .before .name-of .result) (c .before .before .before .before .before .before .before .before .before .name-of .ensures) (sym (c .before .before .before .before .before .before .before .before .before .before .before .byte .ensures) ∙ c .before .before .before .before .before .before .before .before .before .before .if1 .left) (c .before .before .before .before .before .before .before .enum-told .given .1) (sym (c .before .before .before .before .before .byte2 .ensures) ∙ c .before .before .before .before .if3 .taken) (c .before .before .field-reads .result) _ (c .before .before .field-reads .ensures .0), c .before .before .field-reads .ensures .1)
 
 expr-reads-part-end-requires : (t : ℕ) → expr-reads-lts.Need-part-end-requires (expr-reads-claims t) (expr-reads-at t) expr-reads.Post
 expr-reads-part-end-requires t c κs = search needs
@@ -116,6 +138,69 @@ expr-reads-same-length-3 t c = search needs
 
 expr-reads-returns-5 : (t : ℕ) → expr-reads-lts.Need-returns-5 (expr-reads-claims t) (expr-reads-at t) expr-reads.Post
 expr-reads-returns-5 t c = (expr-parts (c .before .before .before .before .before .before .before .before .before .before .before .before .before .before .before .before .before .args .e .now) (c .before .before .before .before .before .before .before .before .before .before .before .before .before .before .before .before .before .args .depth) (c .before .before .before .before .before .before .before .before .before .before .before .before .before .before .before .before .before .args .kinds .now) (names-of (c .before .before .before .before .before .before .before .before .before .before .before .before .before .before .before .before .before .args .names .now) (c .before .before .before .before .before .before .before .before .before .before .before .before .before .before .before .before .before .args .used)) (c .before .before .before .before .before .before .before .before .before .before .before .before .before .before .before .before .before .args .g .now) (c .before .before .before .before .before .before .before .before .before .before .before .before .before .before .before .before .before .args .from) (c .before .before .before .before .before .before .before .before .before .before .name-of .result) (c .before .before .before .before .before .before .before .before .before .before .name-of .ensures) (sym (c .before .before .before .before .before .before .before .before .before .before .before .before .byte .ensures) ∙ c .before .before .before .before .before .before .before .before .before .before .before .if1 .left) (c .before .before .before .before .before .before .before .before .enum-told .given .1) (λ e. c .before .before .before .before .before .if3 .left (c .before .before .before .before .before .before .byte2 .ensures ∙ e)) (c .before .before .before .before .part-end .ensures) (c .before .before .parts-read .result) _ (c .before .before .parts-read .ensures .0), c .before .before .parts-read .ensures .1)
+
+field-reads-next-end-requires : (t : ℕ) → field-reads-lts.Need-next-end-requires (field-reads-claims t) (field-reads-at t) field-reads.Post
+field-reads-next-end-requires t c κs = search needs
+
+field-reads-between-requires : (t : ℕ) → field-reads-lts.Need-between-requires (field-reads-claims t) (field-reads-at t) field-reads.Post
+field-reads-between-requires t c κs = search needs
+
+field-reads-next-end-requires-2 : (t : ℕ) → field-reads-lts.Need-next-end-requires-2 (field-reads-claims t) (field-reads-at t) field-reads.Post
+field-reads-next-end-requires-2 t c κs = search needs
+
+field-reads-number-at-requires : (t : ℕ) → field-reads-lts.Need-number-at-requires (field-reads-claims t) (field-reads-at t) field-reads.Post
+field-reads-number-at-requires t c κs = search needs
+
+field-reads-field-of-requires : (t : ℕ) → field-reads-lts.Need-field-of-requires (field-reads-claims t) (field-reads-at t) field-reads.Post
+field-reads-field-of-requires t c κs = search needs
+
+field-reads-enum-known-i : (t : ℕ) → field-reads-lts.Need-enum-known-i (field-reads-claims t) (field-reads-at t) field-reads.Post
+field-reads-enum-known-i t c = search needs
+
+field-reads-output-read-requires : (t : ℕ) → field-reads-lts.Need-output-read-requires (field-reads-claims t) (field-reads-at t) field-reads.Post
+field-reads-output-read-requires t c κs = search needs
+
+field-reads-enum-known-i-2 : (t : ℕ) → field-reads-lts.Need-enum-known-i-2 (field-reads-claims t) (field-reads-at t) field-reads.Post
+field-reads-enum-known-i-2 t c = search needs
+
+field-reads-part-end-requires : (t : ℕ) → field-reads-lts.Need-part-end-requires (field-reads-claims t) (field-reads-at t) field-reads.Post
+field-reads-part-end-requires t c κs = search needs
+
+field-reads-next-end-requires-3 : (t : ℕ) → field-reads-lts.Need-next-end-requires-3 (field-reads-claims t) (field-reads-at t) field-reads.Post
+field-reads-next-end-requires-3 t c κs = search needs
+
+field-reads-between-requires-2 : (t : ℕ) → field-reads-lts.Need-between-requires-2 (field-reads-claims t) (field-reads-at t) field-reads.Post
+field-reads-between-requires-2 t c κs = search needs
+
+field-reads-under-requires : (t : ℕ) → field-reads-lts.Need-under-requires (field-reads-claims t) (field-reads-at t) field-reads.Post
+field-reads-under-requires t c κs = search needs
+
+field-reads-index-read-requires : (t : ℕ) → field-reads-lts.Need-index-read-requires (field-reads-claims t) (field-reads-at t) field-reads.Post
+field-reads-index-read-requires t c κs = search needs
+
+field-reads-enum-told : (t : ℕ) → field-reads-lts.Need-enum-told (field-reads-claims t) (field-reads-at t) field-reads.Post
+field-reads-enum-told t c = search needs
+
+field-reads-expr-reads-requires : (t : ℕ) → field-reads-lts.Need-expr-reads-requires (field-reads-claims t) (field-reads-at t) field-reads.Post
+field-reads-expr-reads-requires t c κs = search needs
+
+field-reads-same-length : (t : ℕ) → field-reads-lts.Need-same-length (field-reads-claims t) (field-reads-at t) field-reads.Post
+field-reads-same-length t c = search needs
+
+field-reads-returns : (t : ℕ) → field-reads-lts.Need-returns (field-reads-claims t) (field-reads-at t) field-reads.Post
+field-reads-returns t c = (field-output (c .before .before .before .before .before .before .before .before .before .before .before .before .before .before .before .before .args .e .now) (c .before .before .before .before .before .before .before .before .before .before .before .before .before .before .before .before .args .depth) (c .before .before .before .before .before .before .before .before .before .before .before .before .before .before .before .before .args .kinds .now) (names-of (c .before .before .before .before .before .before .before .before .before .before .before .before .before .before .before .before .args .names .now) (c .before .before .before .before .before .before .before .before .before .before .before .before .before .before .before .before .args .used)) (c .before .before .before .before .before .before .before .before .before .before .before .before .before .before .before .before .args .g .now) (c .before .before .before .before .before .before .before .before .before .before .before .before .before .before .before .before .args .from) (c .before .before .before .before .before .before .before .before .before .before .before .next-end .ensures) (c .before .before .before .before .before .before .before .before .before .before .between .ensures) (c .before .before .before .before .before .before .before .before .before .next-end2 .ensures) (c .before .before .before .before .before .before .before .before .number-at .ensures) (c .before .before .before .before .before .before .before .field-of .result) (c .before .before .before .before .before .before .before .field-of .ensures) (c .before .before .before .before .before .i .given .1) (c .before .before .output-read .result) _ (c .before .before .output-read .ensures .0), c .before .before .output-read .ensures .1)
+
+field-reads-same-length-2 : (t : ℕ) → field-reads-lts.Need-same-length-2 (field-reads-claims t) (field-reads-at t) field-reads.Post
+field-reads-same-length-2 t c = search needs
+
+field-reads-returns-2 : (t : ℕ) → field-reads-lts.Need-returns-2 (field-reads-claims t) (field-reads-at t) field-reads.Post
+field-reads-returns-2 t c = (field-indexed (c .before .before .before .before .before .before .before .before .before .before .before .before .before .before .before .before .before .before .before .before .args .e .now) (c .before .before .before .before .before .before .before .before .before .before .before .before .before .before .before .before .before .before .before .before .args .depth) (c .before .before .before .before .before .before .before .before .before .before .before .before .before .before .before .before .before .before .before .before .args .kinds .now) (names-of (c .before .before .before .before .before .before .before .before .before .before .before .before .before .before .before .before .before .before .before .before .args .names .now) (c .before .before .before .before .before .before .before .before .before .before .before .before .before .before .before .before .before .before .before .before .args .used)) (c .before .before .before .before .before .before .before .before .before .before .before .before .before .before .before .before .before .before .before .before .args .g .now) (c .before .before .before .before .before .before .before .before .before .before .before .before .before .before .before .before .before .before .before .before .args .from) (c .before .before .before .before .before .before .before .before .before .before .before .before .before .before .before .next-end .ensures) (c .before .before .before .before .before .before .before .before .before .before .before .before .before .before .between .ensures) (c .before .before .before .before .before .before .before .before .before .before .before .before .before .next-end2 .ensures) (c .before .before .before .before .before .before .before .before .before .before .before .before .number-at .ensures) (c .before .before .before .before .before .before .before .before .before .before .before .field-of .result) (c .before .before .before .before .before .before .before .before .before .before .before .field-of .ensures) (c .before .before .before .before .before .before .before .before .before .i2 .given .1) (c .before .before .before .before .before .before .before .part-end .ensures) (c .before .before .before .before .before .before .next-end3 .ensures) (c .before .before .before .before .before .between2 .ensures) (c .before .before .before .before .under .ensures) (c .before .before .index-read .result) _ (c .before .before .index-read .ensures .0), c .before .before .index-read .ensures .1)
+
+field-reads-same-length-3 : (t : ℕ) → field-reads-lts.Need-same-length-3 (field-reads-claims t) (field-reads-at t) field-reads.Post
+field-reads-same-length-3 t c = search needs
+
+field-reads-returns-3 : (t : ℕ) → field-reads-lts.Need-returns-3 (field-reads-claims t) (field-reads-at t) field-reads.Post
+field-reads-returns-3 t c = (field-inner (c .before .before .before .before .before .before .before .before .before .before .before .before .before .before .before .args .e .now) (c .before .before .before .before .before .before .before .before .before .before .before .before .before .before .before .args .depth) (c .before .before .before .before .before .before .before .before .before .before .before .before .before .before .before .args .kinds .now) (names-of (c .before .before .before .before .before .before .before .before .before .before .before .before .before .before .before .args .names .now) (c .before .before .before .before .before .before .before .before .before .before .before .before .before .before .before .args .used)) (c .before .before .before .before .before .before .before .before .before .before .before .before .before .before .before .args .g .now) (c .before .before .before .before .before .before .before .before .before .before .before .before .before .before .before .args .from) (c .before .before .before .before .before .before .before .before .before .before .next-end .ensures) (c .before .before .before .before .before .before .before .before .before .between .ensures) (c .before .before .before .before .before .before .before .before .next-end2 .ensures) (c .before .before .before .before .before .before .before .number-at .ensures) (c .before .before .before .before .before .before .field-of .result) (c .before .before .before .before .before .before .field-of .ensures) (c .before .before .before .before .enum-told .given .1) (c .before .before .expr-reads .result) _ (c .before .before .expr-reads .ensures .0), c .before .before .expr-reads .ensures .1)
 
 abbrev parts-read-Inv-loop : parts-read-lts.InvT-loop
 parts-read-Inv-loop e end depth kinds names used g₀ from a₀ g a = (length g ≡ length g₀) × ((r : Bool) (g′ : List ℕ) → PartsRead r (drop a e) depth kinds (names-of names used) g g′ from → PartsRead r (drop end e) depth kinds (names-of names used) g₀ g′ from)
@@ -159,8 +244,9 @@ parts-read-same-length-2 t c = search needs
 parts-read-returns-2 : (t : ℕ) → parts-read-lts.Need-returns-2 (parts-read-claims t) (parts-read-at t) parts-read.Post parts-read-Inv-loop parts-read-μ-loop
 parts-read-returns-2 t c = (c .before .before .loop .inv .1 true (c .before .before .loop .g) (parts-none (c .before .before .before .before .before .before .before .args .e .now) (c .before .before .loop .a) (c .before .before .before .before .before .before .before .args .depth) (c .before .before .before .before .before .before .before .args .kinds .now) (names-of (c .before .before .before .before .before .before .before .args .names .now) (c .before .before .before .before .before .before .before .args .used)) (c .before .before .before .before .before .before .before .args .from) (c .before .before .loop .g) (sym (c .before .more .ensures) ∙ c .if1 .left)), tt)
 
-pub +expr-reads+parts-read-spec : {M : Type 1} → statement M
-+expr-reads+parts-read-spec = close μ-expr-reads μ-parts-read (λ t. expr-reads-lts.spec (expr-reads-claims t)
+pub +expr-reads+field-reads+parts-read-spec : {M : Type 1} → statement M
++expr-reads+field-reads+parts-read-spec =
+    close μ-expr-reads μ-field-reads μ-parts-read (λ t. expr-reads-lts.spec (expr-reads-claims t)
     (expr-reads-at t)
     expr-reads.Post
     (expr-reads-byte-requires t)
@@ -171,8 +257,8 @@ pub +expr-reads+parts-read-spec : {M : Type 1} → statement M
     (expr-reads-enum-told t)
     (expr-reads-returns-2 t)
     (expr-reads-byte-requires-2 t)
-    (expr-reads-sub-field-form t)
-    (expr-reads-field-form-requires t)
+    (expr-reads-sub-field-reads t)
+    (expr-reads-field-reads-requires t)
     (expr-reads-same-length t)
     (expr-reads-returns-3 t)
     (expr-reads-part-end-requires t)
@@ -182,6 +268,30 @@ pub +expr-reads+parts-read-spec : {M : Type 1} → statement M
     (expr-reads-returns-4 t)
     (expr-reads-same-length-3 t)
     (expr-reads-returns-5 t))
+    (λ t. field-reads-lts.spec (field-reads-claims t)
+    (field-reads-at t)
+    field-reads.Post
+    (field-reads-next-end-requires t)
+    (field-reads-between-requires t)
+    (field-reads-next-end-requires-2 t)
+    (field-reads-number-at-requires t)
+    (field-reads-field-of-requires t)
+    (field-reads-enum-known-i t)
+    (field-reads-output-read-requires t)
+    (field-reads-enum-known-i-2 t)
+    (field-reads-part-end-requires t)
+    (field-reads-next-end-requires-3 t)
+    (field-reads-between-requires-2 t)
+    (field-reads-under-requires t)
+    (field-reads-index-read-requires t)
+    (field-reads-enum-told t)
+    (field-reads-expr-reads-requires t)
+    (field-reads-same-length t)
+    (field-reads-returns t)
+    (field-reads-same-length-2 t)
+    (field-reads-returns-2 t)
+    (field-reads-same-length-3 t)
+    (field-reads-returns-3 t))
     λ t. parts-read-lts.spec (parts-read-claims t)
     (parts-read-at t)
     parts-read.Post
