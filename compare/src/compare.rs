@@ -9,7 +9,8 @@ pub mod rules;
 pub mod run;
 pub mod shrink;
 
-use crate::{model, oracle};
+use crate::model;
+use crate::oracle::{self, fields, Prepared};
 
 /// What is printed for a text; the error is one line.
 pub type Checker<'a> = dyn FnMut(&[u8]) -> Result<Vec<u8>, String> + 'a;
@@ -18,7 +19,9 @@ pub type Checker<'a> = dyn FnMut(&[u8]) -> Result<Vec<u8>, String> + 'a;
 #[derive(Clone, Copy, Debug, PartialEq, Eq)]
 pub enum Against {
     /// The original. Refused texts are counted, not compared, and so are texts in which a positive
-    /// number is shifted right by 0: the original has another value there.
+    /// number is shifted right by 0: the original has another value there. The original does not
+    /// read fields of signals: a text with one is compared as it is, but for the loops, and then
+    /// with its fields rewritten so that the original reads them, loops and all.
     Oracle,
     /// The model's refusals: number and line, and which texts are accepted.
     Refusals,
@@ -35,7 +38,26 @@ pub enum Verdict {
     Exact,
     /// In some module only loop or no loop was compared.
     Tied,
+    /// Compared as it is, but for the loops, and with its fields rewritten; with ties or exactly.
+    Rewritten {
+        tied: bool,
+    },
     Different(Difference),
+}
+
+/// What is said of one text.
+pub trait Outcome {
+    /// The difference, where it is one.
+    fn difference(&self) -> Option<&Difference>;
+}
+
+impl Outcome for Verdict {
+    fn difference(&self) -> Option<&Difference> {
+        match self {
+            Verdict::Different(found) => Some(found),
+            _ => None,
+        }
+    }
 }
 
 #[derive(Clone, Debug, PartialEq, Eq)]
@@ -79,8 +101,13 @@ fn different(what: String, checker: Vec<String>, other: Vec<String>) -> Verdict 
 }
 
 fn by_oracle(lines: Vec<String>, text: &[u8]) -> Verdict {
+    let rewritten = fields::rewritten(text);
     if let Some((number, _)) = rules::refusal(&lines) {
-        return Verdict::Refused(number);
+        return match number {
+            // fields that are read can pass a limit, so the refusal has to be the model's
+            20 | 21 if rewritten.is_some() => by_refusals(lines, text),
+            _ => Verdict::Refused(number),
+        };
     }
     let oracle = match oracle::prepare(text) {
         Ok(oracle) => oracle,
@@ -103,11 +130,19 @@ fn by_oracle(lines: Vec<String>, text: &[u8]) -> Verdict {
     if model::shifted_by_zero(text) {
         return Verdict::LeftOut;
     }
+    match rewritten {
+        None => by_runs(lines, &oracle, &ties),
+        Some(rewritten) => by_rewriting(lines, &oracle, &rewritten, &ties),
+    }
+}
+
+/// All reports, with ties by several runs.
+fn by_runs(lines: Vec<String>, oracle: &Prepared, ties: &[bool]) -> Verdict {
     let tied = ties.contains(&true);
     for _ in 0..if tied { TIED_RUNS } else { 1 } {
         let other = oracle.run();
-        let checked = rules::comparable(&lines, &ties);
-        if let Some(what) = rules::first_difference(&checked, &rules::comparable(&other, &ties)) {
+        let checked = rules::comparable(&lines, ties);
+        if let Some(what) = rules::first_difference(&checked, &rules::comparable(&other, ties)) {
             return different(what, lines, other);
         }
     }
@@ -115,6 +150,26 @@ fn by_oracle(lines: Vec<String>, text: &[u8]) -> Verdict {
         Verdict::Tied
     } else {
         Verdict::Exact
+    }
+}
+
+/// The reports other than loops with the original's on the text as it is; then all reports with the
+/// original's on the rewritten text.
+fn by_rewriting(lines: Vec<String>, oracle: &Prepared, rewritten: &[u8], ties: &[bool]) -> Verdict {
+    let other = oracle.run();
+    let besides = |lines: &[String]| rules::comparable(&rules::without_loops(lines), ties);
+    if let Some(what) = rules::first_difference(&besides(&lines), &besides(&other)) {
+        return different(format!("loops aside, {what}"), lines, other);
+    }
+    let oracle = oracle::prepare(rewritten).expect("a rewritten text is read as it was");
+    match by_runs(lines, &oracle, ties) {
+        Verdict::Different(found) => Verdict::Different(Difference {
+            what: format!("with its fields rewritten, {}", found.what),
+            ..found
+        }),
+        same => Verdict::Rewritten {
+            tied: same == Verdict::Tied,
+        },
     }
 }
 

@@ -6,6 +6,7 @@ mod bits;
 mod damaged;
 mod dense;
 mod expr;
+mod fields;
 pub mod limits;
 mod loops;
 mod maker;
@@ -32,8 +33,10 @@ use rng::Rng;
 /// - `damaged`: texts of the others with something wrong in them
 /// - `dense`: a few names that everything shares; repeats around the rounds that are left
 /// - `bits`: shifts and bit operators, in two texts of three in constant places too
+/// - `fields`: fields of signals, of instance outputs and of other forms in every place that is read
 pub const PROFILES: &[&str] = &[
     "small", "sites", "blocks", "loops", "ties", "values", "limits", "damaged", "dense", "bits",
+    "fields",
 ];
 
 /// Text `i` of a profile under a seed; none where there is no such profile.
@@ -49,6 +52,7 @@ pub fn text(profile: &str, seed: u64, i: u64) -> Option<Vec<u8>> {
         "limits" => limits::limits(r, i),
         "dense" => dense::dense(r),
         "bits" => bits::bits(r, i),
+        "fields" => fields::fields(r, i),
         "damaged" => return Some(damage_one(r, seed, i)),
         _ => return None,
     };

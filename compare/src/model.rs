@@ -1,6 +1,7 @@
 //! Document 01 as a plain Rust program, to hold other checkers against: reader, values,
-//! collection, sites, blocks, edges, summaries, walk, reports. It is written from 01's words and
-//! shares no code with the original or with the oracle's reader.
+//! collection, sites, blocks, edges, summaries, walk, reports. It is written from 01's words and,
+//! for shifts in constants and fields of signals, from those of 02's U1 and U2. It shares no code
+//! with the original or with the oracle's reader.
 
 mod collect;
 mod edge;

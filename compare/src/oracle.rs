@@ -6,6 +6,7 @@
 //! itself goes by hash order (conflicts at one START, walks over equal STARTs), so do the lines.
 
 mod build;
+pub mod fields;
 mod report;
 mod sexp;
 

@@ -3,6 +3,7 @@
 use compare::compare::command::CheckerCommand;
 use compare::compare::run::{compare_all, smallest, Counts};
 use compare::compare::{before, judge, options, rules, shrink, Against, Checker, Verdict};
+use compare::oracle::{self, fields};
 use compare::{gen, model};
 use std::process::Command;
 
@@ -29,6 +30,7 @@ fn lines(printed: &[u8]) -> Vec<&[u8]> {
 
 #[test]
 fn the_model_is_the_same() {
+    let mut rewritten = 0;
     for profile in gen::PROFILES {
         let mut model = |text: &[u8]| Ok(model::printed(text));
         let counts = counts(&mut model, Against::Oracle, profile);
@@ -36,7 +38,10 @@ fn the_model_is_the_same() {
         let refused: u64 = counts.refused.values().sum();
         assert_eq!(counts.texts, 100);
         assert_eq!(refused + counts.left_out + counts.exact + counts.tied, 100);
+        assert!(counts.rewritten <= counts.exact + counts.tied);
+        rewritten += counts.rewritten;
     }
+    assert!(rewritten > 50, "{rewritten}");
 }
 
 #[test]
@@ -95,11 +100,11 @@ fn notices_a_checker_that_adds_or_changes_a_report() {
 
 #[test]
 fn counts_refusals_but_compares_them_only_when_asked() {
-    let refuses = |_: &[u8]| b"(refused 20 0)\n".to_vec();
+    let refuses = |_: &[u8]| b"(refused 5 2)\n".to_vec();
     assert_eq!(differences(refuses, Against::Oracle), 0);
     assert!(differences(refuses, Against::Refusals) > 90);
     let mut refuses = |_: &[u8]| Ok(b"(refused 20 0)\n".to_vec());
-    let counted = counts(&mut refuses, Against::Oracle, "small").refused;
+    let counted = counts(&mut refuses, Against::Oracle, "sites").refused;
     assert_eq!(counted.into_iter().collect::<Vec<_>>(), [(20, 100)]);
 }
 
@@ -168,43 +173,276 @@ fn a_positive_number_shifted_right_by_0_is_left_out() {
     assert!(matches!(other, Verdict::Different(_)));
 }
 
+/// Wire 3 reads itself through a field; register 4 has no block.
+const FIELD: &[u8] = b"(module 0 bound)\n(kind 3 wire)\n(reg 4 1)\n(wire 3 (f (n 3) 1) 5)\n";
+
+fn verdict_on(text: &'static [u8], printed: &'static str) -> Verdict {
+    let mut checker = |_: &[u8]| Ok(printed.as_bytes().to_vec());
+    judge(&mut checker, Against::Oracle, text)
+}
+
 #[test]
-fn before_and_now_are_compared_byte_for_byte() {
-    let verdict = |was: &'static [u8], is: &'static [u8]| {
-        let mut before = |_: &[u8]| Ok(was.to_vec());
-        let mut now = |_: &[u8]| Ok(is.to_vec());
-        before::judge(&mut before, &mut now, b"(module 0 bound)\n")
+fn a_field_of_a_signal_is_compared_by_rewriting() {
+    let same = Verdict::Rewritten { tied: false };
+    let reports = "(E0503 0 1 4 none)\n(E0504 0 5 (walk 3 3))\n";
+    assert_eq!(verdict_on(FIELD, reports), same);
+    let what = |printed| match verdict_on(FIELD, printed) {
+        Verdict::Different(found) => found.what,
+        other => panic!("{other:?}"),
     };
-    let report = b"(E0503 0 1 4 none)\n";
-    assert_eq!(verdict(report, report), Verdict::Exact);
-    assert_eq!(verdict(b"", b""), Verdict::Exact);
-    let refused = b"(refused 5 2)\n";
-    assert_eq!(verdict(refused, refused), Verdict::Refused(5));
-    // only 8, and only of the one before, is passed over
-    let eight = b"(refused 8 2)\n";
-    for is in [&b""[..], report, refused, eight] {
-        assert_eq!(verdict(eight, is), Verdict::LeftOut);
+    // reports other than loops on the text as it is
+    for wrong in ["", "(E0504 0 5 (walk 3 3))\n", "(E0503 0 2 4 none)\n"] {
+        assert!(
+            what(wrong).starts_with("loops aside, report 1: "),
+            "{wrong}"
+        );
     }
-    for (was, is) in [
-        (&report[..], &b""[..]),
-        (b"", report),
-        (report, &report[..report.len() - 1]),
-        (report, eight),
-        (refused, b"(refused 5 3)\n"),
-        (refused, report),
-        (report, refused),
-        (b"\xff\n", b"\xfe\n"),
+    // and loops on the rewritten one: what the original prints for the text as it is will not do
+    for wrong in [
+        "(E0503 0 1 4 none)\n",
+        "(E0503 0 1 4 none)\n(E0504 0 6 (walk 3 3))\n",
+        "(E0504 0 5 (walk 3 3))\n(E0503 0 1 4 none)\n",
     ] {
-        assert!(matches!(verdict(was, is), Verdict::Different(_)), "{is:?}");
+        assert!(what(wrong).starts_with("with its fields rewritten, report "));
     }
-    let mut fails = |_: &[u8]| Err("no answer".to_string());
-    let mut works = |_: &[u8]| Ok(Vec::new());
-    let one = before::judge(&mut fails, &mut works, b"");
-    let two = before::judge(&mut works, &mut fails, b"");
-    assert!(matches!(
-        (one, two),
-        (Verdict::Different(_), Verdict::Different(_))
-    ));
+}
+
+#[test]
+fn a_field_that_is_an_output_of_an_instance_is_compared_as_it_is() {
+    let text = b"(module 0 bound)\n(kind 3 inst)\n(reg 4 1)\n(wire 3 (f (n 3) 1) 5)\n";
+    assert_eq!(verdict_on(text, "(E0503 0 1 4 none)\n"), Verdict::Exact);
+    let looped = "(E0503 0 1 4 none)\n(E0504 0 5 (walk 3 3))\n";
+    assert!(matches!(verdict_on(text, looped), Verdict::Different(_)));
+}
+
+/// Two wires at one START that read each other through fields.
+#[test]
+fn ties_through_fields() {
+    let text = b"(module 0 bound)\n(kind 1 wire)\n(kind 2 wire)\n\
+        (wire 1 (f (n 2) 0) 5)\n(wire 2 (f (n 1) 0) 5)\n";
+    for walk in ["(E0504 0 5 (walk 1 2 1))\n", "(E0504 0 5 (walk 2 1 2))\n"] {
+        assert_eq!(verdict_on(text, walk), Verdict::Rewritten { tied: true });
+    }
+    assert!(matches!(verdict_on(text, ""), Verdict::Different(_)));
+}
+
+/// With fields a limit can be passed: the refusal is the model's, or the texts differ.
+#[test]
+fn a_text_with_fields_is_refused_only_where_the_model_refuses_it() {
+    let full = b"(module 0 bound)\n(kind 3 wire)\n(kind 6 inst)\n\
+        (wire 3 (f (neg (f (ix (n 6) (shl 1 31)) 1)) 2) 5)\n";
+    assert_eq!(verdict_on(full, "(refused 20 0)\n"), Verdict::Refused(20));
+    for wrong in ["", "(refused 21 0)\n"] {
+        assert!(matches!(verdict_on(full, wrong), Verdict::Different(_)));
+    }
+    for wrong in ["(refused 20 0)\n", "(refused 21 0)\n"] {
+        assert!(matches!(verdict_on(FIELD, wrong), Verdict::Different(_)));
+    }
+    // malformed texts are counted by what the checker says of them
+    let malformed = b"(module 0 bound)\n(wire 3 (f (n 3) 256) 5)\n";
+    assert_eq!(
+        verdict_on(malformed, "(refused 5 2)\n"),
+        Verdict::Refused(5)
+    );
+    assert_eq!(
+        verdict_on(malformed, "(refused 4 2)\n"),
+        Verdict::Refused(4)
+    );
+    assert!(matches!(verdict_on(malformed, ""), Verdict::Different(_)));
+    let unread = b"(module 0 bound)\n(wire 3 (f (n 3) 1) 5)\n(x\n";
+    assert_eq!(verdict_on(unread, "(refused 20 0)\n"), Verdict::Refused(20));
+    assert!(matches!(verdict_on(unread, ""), Verdict::Different(_)));
+}
+
+#[test]
+fn a_positive_number_shifted_by_0_is_left_out_with_fields_too() {
+    let text = b"(module 0 bound)\n(kind 3 wire)\n(kind 6 inst)\n\
+        (wire 3 (f (neg (f (ix (n 6) (shr 5 0)) 1)) 2) 5)\n";
+    assert_eq!(verdict_on(text, ""), Verdict::LeftOut);
+}
+
+/// What the original says of the text as it is.
+#[test]
+fn notices_a_checker_that_does_not_read_fields() {
+    let mut unread = |text: &[u8]| {
+        let lines = oracle::check(text)?.into_iter();
+        Ok(lines.map(|l| l + "\n").collect::<String>().into_bytes())
+    };
+    let verdict = judge(&mut unread, Against::Oracle, FIELD);
+    assert!(matches!(verdict, Verdict::Different(_)));
+}
+
+/// `(all E)` is read as the field is, and has no value as it has none.
+#[test]
+fn the_model_says_the_same_of_a_rewritten_text() {
+    let mut held = 0;
+    for profile in gen::PROFILES {
+        for (_, text) in texts(profile, 100) {
+            let answer = |text: &[u8]| model::answer(text, model::PROGRAM_BUFFER);
+            let said = answer(&text);
+            let Some(other) =
+                fields::rewritten(&text).filter(|_| matches!(said.number, 0 | 20 | 21))
+            else {
+                continue;
+            };
+            assert_eq!(answer(&other), said, "{}", String::from_utf8_lossy(&text));
+            assert_eq!(fields::rewritten(&other), None);
+            held += 1;
+        }
+    }
+    assert!(held > 50, "{held}");
+}
+
+fn before_verdict(text: &[u8], was: &[u8], is: &[u8]) -> before::Verdict {
+    let mut before = |_: &[u8]| Ok(was.to_vec());
+    let mut now = |_: &[u8]| Ok(is.to_vec());
+    before::judge(&mut before, &mut now, text)
+}
+
+#[track_caller]
+fn is_unlike_before(text: &[u8], was: &[u8], is: &[u8]) {
+    let verdict = before_verdict(text, was, is);
+    assert!(
+        matches!(verdict, before::Verdict::Different(_)),
+        "{was:?} {is:?}"
+    );
+}
+
+const REPORT: &[u8] = b"(E0503 0 1 4 none)\n";
+const MALFORMED: &[u8] = b"(refused 5 2)\n";
+const FULL: &[u8] = b"(refused 20 0)\n";
+const TOO_LONG: &[u8] = b"(refused 21 0)\n";
+
+#[test]
+fn before_and_now_print_the_same_bytes_where_no_field_of_a_signal_is() {
+    let outputs = b"(module 0 bound)\n(kind 6 inst)\n(wire 3 (f (ix (n 6) 0) 1) 5)\n";
+    for text in [
+        &b""[..],
+        b"(module 0 bound)\n",
+        outputs,
+        b"(f (n 3) 1)\n(x\n",
+    ] {
+        let same = |printed| before_verdict(text, printed, printed);
+        assert_eq!(same(REPORT), before::Verdict::Accepted);
+        assert_eq!(same(b""), before::Verdict::Accepted);
+        assert_eq!(same(MALFORMED), before::Verdict::Refused(5));
+        assert_eq!(same(FULL), before::Verdict::Refused(20));
+        for (was, is) in [
+            (REPORT, &b""[..]),
+            (b"", REPORT),
+            (b"", b"(E0504 0 5 (walk 3 3))\n"),
+            (REPORT, &REPORT[..REPORT.len() - 1]),
+            (REPORT, FULL),
+            (REPORT, TOO_LONG),
+            (TOO_LONG, REPORT),
+            (TOO_LONG, FULL),
+            (MALFORMED, b"(refused 5 3)\n"),
+            (MALFORMED, REPORT),
+            (b"(refused 8 2)\n", REPORT),
+            (b"\xff\n", b"\xfe\n"),
+        ] {
+            is_unlike_before(text, was, is);
+        }
+    }
+}
+
+#[test]
+fn where_a_field_of_a_signal_is_only_loops_may_differ() {
+    let looped = b"(E0503 0 1 4 none)\n(E0504 0 5 (walk 3 3))\n";
+    let otherwise = b"(E0503 0 1 4 none)\n(E0504 0 5 (walk 3 2 3))\n(E0504 0 6 (walk 2 2))\n";
+    let verdict = |was: &[u8], is: &[u8]| before_verdict(FIELD, was, is);
+    assert_eq!(verdict(b"", b""), before::Verdict::SameLoops);
+    assert_eq!(verdict(REPORT, REPORT), before::Verdict::SameLoops);
+    assert_eq!(verdict(looped, looped), before::Verdict::SameLoops);
+    assert_eq!(verdict(REPORT, looped), before::Verdict::OtherLoops);
+    assert_eq!(verdict(looped, otherwise), before::Verdict::OtherLoops);
+    assert_eq!(verdict(otherwise, looped), before::Verdict::OtherLoops);
+    for (was, is) in [
+        (REPORT, &b"(E0504 0 5 (walk 3 3))\n"[..]),
+        (b"", REPORT),
+        (REPORT, b"(E0503 0 2 4 none)\n(E0504 0 5 (walk 3 3))\n"),
+        // the same lines, but in another order or not all ended
+        (
+            b"(E0503 0 1 4 none)\n(E0503 0 1 5 none)\n",
+            b"(E0503 0 1 5 none)\n(E0503 0 1 4 none)\n",
+        ),
+        (REPORT, &looped[..looped.len() - 1]),
+        (REPORT, b"(E0503 0 1 4 none)\n(E0504 0 5 (walk \xff))\n"),
+        (REPORT, b"(E0503 0 1 4 none)\n(unread)\n"),
+        // a module that had a loop has one still
+        (looped, REPORT),
+        (looped, b"(E0503 0 1 4 none)\n(E0504 1 5 (walk 3 3))\n"),
+    ] {
+        is_unlike_before(FIELD, was, is);
+    }
+}
+
+#[test]
+fn where_a_field_of_a_signal_is_20_and_21_may_come() {
+    let verdict = |was: &[u8], is: &[u8]| before_verdict(FIELD, was, is);
+    assert_eq!(verdict(REPORT, FULL), before::Verdict::Become20);
+    assert_eq!(verdict(REPORT, TOO_LONG), before::Verdict::Become21);
+    assert_eq!(verdict(FULL, FULL), before::Verdict::RefusedBefore(20));
+    for is in [REPORT, b"", FULL, TOO_LONG] {
+        assert_eq!(verdict(TOO_LONG, is), before::Verdict::RefusedBefore(21));
+    }
+    assert_eq!(
+        verdict(MALFORMED, MALFORMED),
+        before::Verdict::RefusedBefore(5)
+    );
+    for (was, is) in [
+        (REPORT, MALFORMED),
+        (REPORT, b"(refused 20 1)\n"),
+        (REPORT, b"(refused 20 0)"),
+        (FULL, REPORT),
+        (FULL, TOO_LONG),
+        (FULL, MALFORMED),
+        (TOO_LONG, MALFORMED),
+        (TOO_LONG, &REPORT[..REPORT.len() - 1]),
+        (MALFORMED, b"(refused 5 3)\n"),
+        (MALFORMED, REPORT),
+        (MALFORMED, FULL),
+    ] {
+        is_unlike_before(FIELD, was, is);
+    }
+}
+
+#[test]
+fn a_program_that_fails_before_or_now_is_different() {
+    for text in [b"", FIELD] {
+        let mut fails = |_: &[u8]| Err("no answer".to_string());
+        let mut works = |_: &[u8]| Ok(Vec::new());
+        for verdict in [
+            before::judge(&mut fails, &mut works, text),
+            before::judge(&mut works, &mut fails, text),
+        ] {
+            assert!(matches!(verdict, before::Verdict::Different(_)));
+        }
+    }
+}
+
+#[test]
+fn before_and_now_are_counted() {
+    let mut counts = before::Counts::default();
+    for (text, was, is) in [
+        (&b""[..], &b""[..], &b""[..]),
+        (b"", MALFORMED, MALFORMED),
+        (b"", REPORT, b""),
+        (FIELD, REPORT, REPORT),
+        (FIELD, b"", b"(E0504 0 5 (walk 3 3))\n"),
+        (FIELD, b"", FULL),
+        (FIELD, b"", TOO_LONG),
+        (FIELD, TOO_LONG, b""),
+        (FIELD, FULL, FULL),
+    ] {
+        counts.add(&before_verdict(text, was, is));
+    }
+    assert_eq!(
+        counts.to_string(),
+        "texts 9; without a field of a signal: accepted 1, refused 1 (5: 1); with one: accepted \
+         with the same loops 1, with other loops 1, become 20 1, become 21 1, refused before 2 \
+         (20: 1, 21: 1); different 1"
+    );
 }
 
 const TIED: &[u8] = b"(module 0 bound)\n(kind 1 wire)\n(kind 2 wire)\n(kind 4 out)\n(kind 5 out)\n\
@@ -285,7 +523,7 @@ fn differences_are_shown_and_counted() {
     let expected = format!(
         "difference in one: {what} 20 4 none)\n{small}difference in three: {what} 0 4 none)\n\
          {small}these: texts 3, refused 0, left out 0, compared exactly 1, with ties 0, \
-         differences 2\n"
+         0 of these by rewriting, differences 2\n"
     );
     assert_eq!(String::from_utf8(out).unwrap(), expected);
 }
@@ -426,8 +664,9 @@ fn the_program_and_its_exit_status() {
     // the same program before and now; then one that fails on every text
     let (status, out, _) = program(&["--profile", "damaged", "--before", model, model]);
     assert_eq!(status, Some(0));
-    assert!(out.starts_with("damaged: texts 1000, accepted "));
-    assert!(out.ends_with("refused with 8 before 0, different 0\n"));
+    assert!(out.starts_with("damaged: texts 1000; without a field of a signal: accepted "));
+    assert!(out.contains("with other loops 0, become 20 0, become 21 0, refused before "));
+    assert!(out.ends_with("; different 0\n"));
     let failing = env!("CARGO_BIN_EXE_compare");
     for (before, now) in [(failing, model), (model, failing)] {
         let (status, out, _) = program(&[
@@ -440,7 +679,7 @@ fn the_program_and_its_exit_status() {
             now,
         ]);
         assert_eq!(status, Some(1));
-        assert!(out.ends_with("accepted 0, refused 0, refused with 8 before 0, different 3\n"));
+        assert!(out.ends_with("refused before 0; different 3\n"));
     }
     // `compare` without arguments is a checker that fails on every text
     let (status, out, _) = program(&["--count", "3", env!("CARGO_BIN_EXE_compare")]);

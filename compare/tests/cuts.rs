@@ -10,7 +10,8 @@ use compare::compare::rules::lines;
 use compare::compare::shrink::shrink;
 use compare::gen::rng::Rng;
 use compare::model::opened::{Node, Opened, Signal};
-use compare::{gen, model, oracle};
+use compare::oracle::{self, fields};
+use compare::{gen, model};
 use std::collections::{BTreeMap, BTreeSet};
 use std::{env, fmt, iter};
 
@@ -18,7 +19,9 @@ use std::{env, fmt, iter};
 const TEXTS: u64 = 1_000;
 const SEED: u64 = 8;
 /// The profiles whose texts have loops, and `tangle`.
-const KINDS: [&str; 6] = ["loops", "ties", "tangle", "dense", "small", "values"];
+const KINDS: [&str; 7] = [
+    "loops", "ties", "tangle", "dense", "small", "values", "fields",
+];
 /// Those in which a test has to see enough.
 const RICH: [&str; 3] = ["loops", "ties", "tangle"];
 /// Opened designs with more signals are passed over.
@@ -109,9 +112,11 @@ fn model_alone() -> Vec<(&'static str, Print)> {
     vec![("the model", Box::new(model::printed))]
 }
 
-/// What the original prints.
+/// What the original prints where it reads fields of signals too.
 fn original(text: &[u8]) -> Vec<u8> {
-    let lines = oracle::check(text).unwrap().into_iter();
+    let rewritten = fields::rewritten(text);
+    let read = rewritten.as_deref().unwrap_or(text);
+    let lines = oracle::check(read).unwrap().into_iter();
     lines.map(|l| l + "\n").collect::<String>().into_bytes()
 }
 

@@ -2,8 +2,8 @@
 
 use compare::cases::{read_cases, Case};
 use compare::gen::{text, vectors, PROFILES};
-use compare::model;
-use std::collections::HashSet;
+use compare::{model, oracle};
+use std::collections::{BTreeMap, HashSet};
 use std::path::Path;
 
 /// The text of case P1 as the scope has it.
@@ -71,7 +71,7 @@ fn what_was_made_before_changes_nothing() {
 
 #[test]
 fn the_profiles_are_these() {
-    let names = "small sites blocks loops ties values limits damaged dense bits";
+    let names = "small sites blocks loops ties values limits damaged dense bits fields";
     assert_eq!(PROFILES.join(" "), names);
     let different: HashSet<Option<Vec<u8>>> = PROFILES.iter().map(|p| text(p, 5, 3)).collect();
     assert_eq!(different.len(), PROFILES.len());
@@ -309,6 +309,221 @@ fn bits_texts_have_every_place_and_amount() {
     }
 }
 
+/// Text i of `fields` under seed 4. Each sixteenth is at a limit.
+fn fields_text(i: u64) -> String {
+    String::from_utf8(text("fields", 4, i).unwrap()).unwrap()
+}
+
+fn fields_texts() -> impl Iterator<Item = String> {
+    (0..3000).filter(|i| i % 16 != 15).map(fields_text)
+}
+
+/// Whether a field of this is an output of an instance: in `fields` these names are instances in
+/// every module.
+fn is_output(inner: &str) -> bool {
+    ["(n 8)", "(n 9)", "(n 10)"]
+        .iter()
+        .any(|name| inner == *name || inner.starts_with(&format!("(ix {name} ")))
+}
+
+const SORTS: [&str; 14] = [
+    "in",
+    "out",
+    "wire",
+    "reg",
+    "mem",
+    "no kind",
+    "output of an instance",
+    "field",
+    "index of a name",
+    "index of a form",
+    "if",
+    "all",
+    "one part",
+    "two parts",
+];
+
+/// What a field in `fields` is a field of.
+fn sort_of(inner: &str) -> &'static str {
+    if !inner.starts_with('(') {
+        return "number";
+    }
+    match parts(inner)[..] {
+        ["n", "0" | "1"] => "in",
+        ["n", "2" | "3"] => "out",
+        ["n", "4" | "5" | "6" | "7"] => "wire",
+        ["n", "11"] => "reg",
+        ["n", "12"] => "mem",
+        ["n", _] => "no kind",
+        ["f", inner, _] if is_output(inner) => "output of an instance",
+        ["f", ..] => "field",
+        ["ix", of, _] if of.starts_with("(n ") => "index of a name",
+        ["ix", ..] => "index of a form",
+        ["if", ..] => "if",
+        ["all", ..] => "all",
+        [_, _] => "one part",
+        _ => "two parts",
+    }
+}
+
+/// How many fields, outputs of instances aside, stand in a form and are of a sort.
+type FieldCounts = BTreeMap<(&'static str, &'static str), u64>;
+
+/// Counts the fields of a form by the innermost of these forms around them.
+fn count_fields(form: &str, place: &'static str, counts: &mut FieldCounts) {
+    const PLACES: [&str; 8] = [
+        "wire", "drive", "lv", "conn", "bits", "repeat", "constif", "const",
+    ];
+    if !form.starts_with('(') {
+        return;
+    }
+    let parts = parts(form);
+    let place = PLACES.into_iter().find(|p| *p == parts[0]).unwrap_or(place);
+    if parts[0] == "f" && !is_output(parts[1]) {
+        *counts.entry((place, sort_of(parts[1]))).or_default() += 1;
+    }
+    for part in &parts[1..] {
+        count_fields(part, place, counts);
+    }
+}
+
+#[test]
+fn fields_texts_have_fields_of_everything_in_every_place() {
+    let mut counts = FieldCounts::new();
+    for text in fields_texts() {
+        assert!(oracle::fields::rewritten(text.as_bytes()).is_some());
+        for line in text.lines() {
+            count_fields(line, "", &mut counts);
+        }
+    }
+    for place in ["wire", "drive", "lv", "conn"] {
+        for sort in SORTS {
+            let found = counts.get(&(place, sort)).copied().unwrap_or_default();
+            assert!(found >= 10, "{place}, {sort}: {found}");
+        }
+    }
+    for place in ["bits", "repeat", "constif", "const"] {
+        let there = counts.iter().filter(|((p, _), _)| *p == place);
+        let found: u64 = there.map(|(_, n)| n).sum();
+        assert!(found >= 100, "{place}: {found}");
+    }
+}
+
+/// The form with `(all)`, which reads nothing, for each field but outputs of instances.
+fn unread(form: &str) -> String {
+    if !form.starts_with('(') {
+        return form.to_string();
+    }
+    let parts = parts(form);
+    if parts[0] == "f" && !is_output(parts[1]) {
+        return "(all)".to_string();
+    }
+    let parts: Vec<String> = parts.into_iter().map(unread).collect();
+    format!("({})", parts.join(" "))
+}
+
+fn all_unread(text: &str) -> String {
+    text.lines().map(|l| unread(l) + "\n").collect()
+}
+
+/// The loops that the model reports of module `m`.
+fn loops_of(m: usize, text: &str) -> Vec<String> {
+    let printed = String::from_utf8(model::printed(text.as_bytes())).unwrap();
+    let head = format!("(E0504 {m} ");
+    let loops = printed.lines().filter(|l| l.starts_with(&head));
+    loops.map(str::to_string).collect()
+}
+
+/// Whether some module has other loops where the fields in all other modules are not read.
+fn through_summaries(text: &str) -> bool {
+    let modules: Vec<String> = text
+        .split("(module ")
+        .skip(1)
+        .map(|m| format!("(module {m}"))
+        .collect();
+    (0..modules.len()).any(|m| {
+        let kept = |k: usize| match k == m {
+            true => modules[k].clone(),
+            false => all_unread(&modules[k]),
+        };
+        let others_unread: String = (0..modules.len()).map(kept).collect();
+        loops_of(m, text) != loops_of(m, &others_unread)
+    })
+}
+
+/// Loops and other reports, the others in the order of their letters.
+fn by_loops(lines: Vec<String>) -> (Vec<String>, Vec<String>) {
+    let (loops, mut others): (Vec<String>, Vec<String>) =
+        lines.into_iter().partition(|l| l.starts_with("(E0504 "));
+    others.sort();
+    (loops, others)
+}
+
+#[test]
+fn fields_texts_have_loops_that_the_original_misses() {
+    let (mut missed, mut by_instances, mut by_summaries, mut without) = (0, 0, 0, 0);
+    let (mut accepted, mut tied) = (0, 0);
+    for text in fields_texts() {
+        let answer = model::answer(text.as_bytes(), model::PROGRAM_BUFFER);
+        if answer.number != 0 {
+            continue;
+        }
+        accepted += 1;
+        let lines = String::from_utf8(answer.text).unwrap();
+        let (loops, others) = by_loops(lines.lines().map(str::to_string).collect());
+        let (own, own_others) = by_loops(oracle::check(text.as_bytes()).unwrap());
+        assert_eq!(others, own_others, "{text}");
+        if model::ties(text.as_bytes()).contains(&true) {
+            tied += 1;
+            continue;
+        }
+        let new: Vec<&String> = loops.iter().filter(|l| !own.contains(l)).collect();
+        missed += usize::from(!new.is_empty());
+        by_instances += usize::from(new.iter().any(|l| l.contains("(u ")));
+        by_summaries += usize::from(through_summaries(&text));
+        without += usize::from(loops.is_empty());
+    }
+    assert!(accepted >= 2500, "{accepted} accepted");
+    assert!(tied < 250, "{tied} with ties");
+    assert!(missed >= 800, "{missed} with a loop by fields alone");
+    assert!(by_instances >= 150, "{by_instances} through an instance");
+    assert!(by_summaries >= 100, "{by_summaries} through a summary");
+    assert!(without >= 1000, "{without} without a loop");
+}
+
+/// The index of an instance under a field leaves INT.
+#[test]
+fn fields_texts_come_to_20_by_what_a_field_reads() {
+    let number = |text: &str| model::answer(text.as_bytes(), model::PROGRAM_BUFFER).number;
+    let by_fields = fields_texts()
+        .filter(|text| number(text) == 20 && number(&all_unread(text)) == 0)
+        .count();
+    assert!(by_fields >= 30, "{by_fields}");
+}
+
+#[test]
+fn fields_texts_are_at_limits_and_past_them() {
+    let mut counts: BTreeMap<(&str, u32), u64> = BTreeMap::new();
+    for text in (15..3000).step_by(16).map(fields_text) {
+        let limit = ["(repeat 5 0 51", "(repeat 5 0 256 ", "(inst ", "(reg "]
+            .into_iter()
+            .find(|head| text.contains(&format!("\n{head}")));
+        let number = model::answer(text.as_bytes(), model::PROGRAM_BUFFER).number;
+        *counts.entry((limit.unwrap(), number)).or_default() += 1;
+    }
+    for (limit, past) in [
+        ("(repeat 5 0 51", 20),
+        ("(repeat 5 0 256 ", 20),
+        ("(inst ", 20),
+        ("(reg ", 21),
+    ] {
+        for number in [0, past] {
+            let found = counts.get(&(limit, number)).copied().unwrap_or_default();
+            assert!(found >= 10, "{limit} {number}: {found}");
+        }
+    }
+}
+
 #[test]
 fn limits_at_the_limit_are_accepted_and_past_it_not() {
     let passed_only = [15, 16, 18];
@@ -374,6 +589,28 @@ fn the_model_gives_the_stored_answers() {
             "{}: the model prints\n{shown}",
             case.name
         );
+    }
+}
+
+/// A field reads what the name alone does: the stored loops are the same.
+#[test]
+fn loops_by_fields_are_stored_as_loops_by_names_are() {
+    let refusals = stored("refusals.cases");
+    let answer = |name: &str| &refusals.iter().find(|c| c.name == name).unwrap().answer;
+    assert_eq!(
+        answer("21-report-65536-by-fields"),
+        answer("21-report-65536")
+    );
+    let cases = stored("cases.cases");
+    let answer = |name: &str| &cases.iter().find(|c| c.name == name).unwrap().answer;
+    for (by_fields, by_names) in [
+        ("report-of-P1-with-fields", "P1"),
+        (
+            "walk-three-loops-share-steps-by-fields",
+            "walk-three-loops-share-steps",
+        ),
+    ] {
+        assert_eq!(answer(by_fields), answer(by_names));
     }
 }
 

@@ -2,26 +2,41 @@
 //! the premises hold from there on; a text for each premise that breaks it alone, and texts that
 //! meet them.
 
+use compare::compare::rules::loop_module;
 use compare::gen::rng::Rng;
 use compare::model::opened::{Node, Opened, Premises, Signal};
-use compare::{gen, model, oracle};
+use compare::oracle::{self, fields};
+use compare::{gen, model};
 use std::collections::{BTreeMap, BTreeSet};
 
 /// Opened designs with more signals are passed over.
 const SIGNALS: usize = 3_000;
 
-/// The modules of which the original reports a loop.
+/// What the original reports where it reads fields of signals too.
+fn reported(text: &[u8]) -> Vec<String> {
+    let rewritten = fields::rewritten(text);
+    oracle::check(rewritten.as_deref().unwrap_or(text)).unwrap()
+}
+
+/// The modules of which a loop is reported.
+fn modules_of_loops(reports: &[String]) -> BTreeSet<usize> {
+    reports.iter().filter_map(|r| loop_module(r)).collect()
+}
+
+/// The modules of which the original reports a loop where it reads fields of signals too.
 fn looped(text: &[u8]) -> BTreeSet<usize> {
-    let reports = oracle::check(text).unwrap();
-    let loops = reports.iter().filter_map(|r| r.strip_prefix("(E0504 "));
-    loops
-        .map(|r| r.split(' ').next().unwrap().parse().unwrap())
-        .collect()
+    modules_of_loops(&reported(text))
+}
+
+/// The same where it does not read them; none where the text has no such field.
+fn looped_without_fields(text: &[u8]) -> Option<BTreeSet<usize>> {
+    fields::rewritten(text)?;
+    Some(modules_of_loops(&oracle::check(text).unwrap()))
 }
 
 /// Accepted texts of the generator, each with its design.
 fn designs(count: u64) -> impl Iterator<Item = (Vec<u8>, Opened)> {
-    let profiles = ["small", "loops", "ties", "dense", "values"];
+    let profiles = ["small", "loops", "ties", "dense", "values", "fields"];
     profiles.into_iter().flat_map(move |profile| {
         (0..count).filter_map(move |i| {
             let text = gen::text(profile, 11, i).unwrap();
@@ -44,9 +59,11 @@ fn held(opened: &Opened) -> impl Iterator<Item = usize> + '_ {
 #[test]
 fn a_loop_is_reported_exactly_where_an_opened_design_has_one() {
     let (mut closed, mut open, mut elsewhere) = (0, 0, 0);
+    let (mut with_fields, mut through_fields) = (0, 0);
     for (text, opened) in designs(3_000) {
         let looped = looped(&text);
         let broken = !enough(opened.premises());
+        let unread = looped_without_fields(&text);
         for m in held(&opened) {
             let Some(signals) = opened.signals(m, SIGNALS) else {
                 continue;
@@ -60,15 +77,24 @@ fn a_loop_is_reported_exactly_where_an_opened_design_has_one() {
                 open += !closes as u32;
                 elsewhere += broken as u32;
             }
+            if let Some(unread) = &unread {
+                with_fields += 1;
+                through_fields += (closes && unread.is_disjoint(&opened.leads(m))) as u32;
+            }
         }
     }
     println!(
         "modules with instances: {}, in {closed} a walk closes, in {open} none; \
-         {elsewhere} of them in a text that breaks a premise elsewhere",
+         {elsewhere} of them in a text that breaks a premise elsewhere; modules of texts with \
+         fields of signals: {with_fields}, in {through_fields} walks close only through those",
         closed + open
     );
     assert!(closed > 2_000 && open > 1_000, "{closed} {open}");
     assert!(elsewhere > 300, "{elsewhere}");
+    assert!(
+        with_fields > 1_000 && through_fields > 50,
+        "{with_fields} {through_fields}"
+    );
 }
 
 #[test]
@@ -152,7 +178,7 @@ fn comes_to_rest(opened: &Opened, m: usize, signals: &BTreeSet<Signal>, shown: &
 
 #[test]
 fn without_a_loop_every_start_ends_in_one_state_at_rest() {
-    let (mut rested, mut elsewhere, mut loops_elsewhere) = (0, 0, 0);
+    let (mut rested, mut elsewhere, mut loops_elsewhere, mut with_fields) = (0, 0, 0, 0);
     for (text, opened) in designs(1_500) {
         let looped = looped(&text);
         let broken = !enough(opened.premises());
@@ -165,17 +191,19 @@ fn without_a_loop_every_start_ends_in_one_state_at_rest() {
                 rested += 1;
                 elsewhere += broken as u32;
                 loops_elsewhere += !looped.is_empty() as u32;
+                with_fields += fields::rewritten(&text).is_some() as u32;
             }
         }
     }
     println!(
         "modules of 5 to 60 signals that come to rest from two starts: {rested}; \
          {elsewhere} of them in a text that breaks a premise elsewhere, \
-         {loops_elsewhere} in one with a loop elsewhere"
+         {loops_elsewhere} in one with a loop elsewhere, {with_fields} in one with fields of signals"
     );
     assert!(rested > 1_000, "{rested}");
     assert!(elsewhere > 200, "{elsewhere}");
     assert!(loops_elsewhere > 200, "{loops_elsewhere}");
+    assert!(with_fields > 100, "{with_fields}");
 }
 
 const INSIDE_ITSELF: &str = "\
@@ -221,7 +249,7 @@ const ALL: Premises = Premises {
 /// The original and the model print these reports; the text, as a whole, meets just these premises.
 #[track_caller]
 fn checked(text: &str, reports: &[&str], premises: Premises) -> Opened {
-    assert_eq!(oracle::check(text.as_bytes()).unwrap(), reports);
+    assert_eq!(reported(text.as_bytes()), reports);
     let printed: String = reports.iter().map(|r| format!("{r}\n")).collect();
     assert_eq!(model::printed(text.as_bytes()), printed.into_bytes());
     let opened = model::opened(text.as_bytes()).unwrap();
@@ -401,6 +429,50 @@ fn within_all_premises_a_loop_through_an_instance_is_reported() {
     let opened = checked(LOOPED_INSTANCE, &[report], ALL);
     assert!(opened.closes(0, &opened.signals(0, SIGNALS).unwrap()));
     is_quiet(&opened, 1, LOOPED_INSTANCE);
+}
+
+/// The same text with a field of each thing that is read.
+fn with_fields(text: &str) -> String {
+    text.replace("(n 1))", "(f (n 1) 7))")
+        .replace("(n 2)", "(f (n 2) 8)")
+        .replace("(f (n 5) 3)", "(f (f (n 5) 3) 9)")
+}
+
+#[test]
+fn fields_are_read_as_what_they_are_fields_of() {
+    let quiet = with_fields(QUIET_INSTANCE);
+    let opened = checked(&quiet, &[], ALL);
+    let signals = ["[] 1", "[] 2", "[] (u 5 - 3)", "[0] 1", "[0] 3"];
+    assert_eq!(listed(&opened, 0), signals);
+    is_quiet(&opened, 0, &quiet);
+    let report = "(E0504 0 20 (walk (u 5 - 3) 2 (u 5 - 3)))";
+    let opened = checked(&with_fields(LOOPED_INSTANCE), &[report], ALL);
+    assert!(opened.closes(0, &opened.signals(0, SIGNALS).unwrap()));
+}
+
+/// A loop that the original does not see.
+#[test]
+fn a_loop_through_a_field_is_reported() {
+    let text = "(module 0 bound)\n(kind 3 wire)\n(wire 3 (f (n 3) 1) 10)\n";
+    let opened = checked(text, &["(E0504 0 10 (walk 3 3))"], ALL);
+    assert!(opened.closes(0, &opened.signals(0, SIGNALS).unwrap()));
+    assert_eq!(oracle::check(text.as_bytes()).unwrap(), [""; 0]);
+}
+
+#[test]
+fn an_index_of_an_instance_is_not_read_and_another_is() {
+    let text = "\
+(module 0 bound)
+(kind 3 wire)
+(kind 4 wire)
+(kind 5 inst)
+(kind 6 wire)
+(wire 3 (all (f (ix (n 7) (n 4)) 8) (f (f (ix (n 5) (n 6)) 1) 8) (f (ix (n 5) (if 1 2 (n 6))) 1)) 10)
+";
+    let opened = checked(text, &[], ALL);
+    let reads = opened.reads(0, &(vec![], Node::Sig(3))).into_iter();
+    let reads: Vec<String> = reads.map(|(_, node)| node.to_string()).collect();
+    assert_eq!(reads, ["4", "(u 5 2 1)"]);
 }
 
 #[test]

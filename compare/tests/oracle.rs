@@ -6,7 +6,7 @@ use std::path::PathBuf;
 use std::process::{Command, Output, Stdio};
 
 use compare::cases::{write_cases, Case};
-use compare::oracle;
+use compare::oracle::{self, fields};
 
 const P1: &str = "\
 (module 0 bound)
@@ -176,6 +176,30 @@ fn loops_through_instances() {
     );
 }
 
+/// The original does not read a field of a signal. Rewritten, it reads all that is in it.
+#[test]
+fn fields_of_signals() {
+    let text = |e: &str| {
+        format!("(module 0 bound)\n(kind 3 wire)\n(kind 5 inst)\n(reg 4 7)\n(wire 3 {e} 8)\n")
+    };
+    for e in [
+        "(f (n 3) 1)",
+        "(f (ix (n 7) (n 3)) 1)",
+        "(f (f (n 3) 1) 2)",
+        "(f (ix (ix (n 5) 0) (n 3)) 1)",
+        "(f (ix (n 3) (f (ix (n 5) (n 9)) 1)) 1)",
+    ] {
+        assert_reports(&text(e), &["(E0503 0 7 4 none)"]);
+        let rewritten = fields::rewritten(text(e).as_bytes()).unwrap();
+        let reports = ["(E0503 0 7 4 none)", "(E0504 0 8 (walk 3 3))"];
+        assert_reports(&String::from_utf8(rewritten).unwrap(), &reports);
+    }
+    for e in ["(f (n 5) 1)", "(f (ix (n 5) (n 3)) 1)", "(n 5)"] {
+        assert_reports(&text(e), &["(E0503 0 7 4 none)"]);
+        assert_eq!(fields::rewritten(text(e).as_bytes()), None);
+    }
+}
+
 /// A constant of one module is none of another.
 #[test]
 fn constants_stay_in_their_module() {
@@ -257,7 +281,7 @@ fn damaged_texts_do_no_harm() {
             .wrapping_add(1);
         (state >> 33) as usize % bound
     };
-    let mut read = 0;
+    let (mut read, mut rewritten) = (0, 0);
     for _ in 0..20_000 {
         let mut damaged = text.clone();
         for _ in 0..1 + below(3) {
@@ -273,12 +297,16 @@ fn damaged_texts_do_no_harm() {
             Ok(reports) => {
                 read += 1;
                 assert!(reports.iter().all(|line| line.starts_with("(E05")));
+                if let Some(text) = fields::rewritten(&damaged) {
+                    rewritten += 1;
+                    oracle::check(&text).expect("a text that is read is read rewritten");
+                }
             }
             Err(error) => assert!(!error.contains('\n'), "{error:?}"),
         }
     }
     // Most damage is seen; the few texts that it leaves whole must be checked to the end.
-    assert!(read > 100, "{read}");
+    assert!(read > 100 && rewritten > 50, "{read} {rewritten}");
 }
 
 #[track_caller]

@@ -30,6 +30,13 @@ pub fn comparable(lines: &[String], ties: &[bool]) -> Vec<String> {
     compared
 }
 
+/// The lines of reports other than loops.
+pub fn without_loops(lines: &[String]) -> Vec<String> {
+    let others = lines.iter().filter(|line| !line.starts_with(LOOP));
+    others.cloned().collect()
+}
+
+const LOOP: &str = "(E0504 ";
 const SOME_LOOP: &str = " some loop)";
 
 fn loop_or_not(line: &str, ties: &[bool]) -> String {
@@ -39,12 +46,9 @@ fn loop_or_not(line: &str, ties: &[bool]) -> String {
     }
 }
 
-fn loop_module(line: &str) -> Option<usize> {
-    line.strip_prefix("(E0504 ")?
-        .split(' ')
-        .next()?
-        .parse()
-        .ok()
+/// The module of a loop report.
+pub fn loop_module(line: &str) -> Option<usize> {
+    line.strip_prefix(LOOP)?.split(' ').next()?.parse().ok()
 }
 
 fn same_conflicts(a: &str, b: &str) -> bool {

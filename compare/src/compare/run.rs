@@ -3,7 +3,7 @@
 use super::options::Options;
 use super::rules::refusal;
 use super::shrink::shrink;
-use super::{before, judge, Against, Checker, Difference, Verdict};
+use super::{before, judge, Against, Checker, Difference, Outcome, Verdict};
 use crate::{cases, gen, model};
 use std::collections::BTreeMap;
 use std::fmt;
@@ -25,6 +25,8 @@ pub struct Counts {
     pub left_out: u64,
     pub exact: u64,
     pub tied: u64,
+    /// Those of `exact` and `tied` whose fields were rewritten for the original.
+    pub rewritten: u64,
     pub differences: u64,
 }
 
@@ -36,29 +38,35 @@ impl Counts {
             Verdict::LeftOut => self.left_out += 1,
             Verdict::Exact => self.exact += 1,
             Verdict::Tied => self.tied += 1,
+            Verdict::Rewritten { tied } => {
+                self.rewritten += 1;
+                self.exact += u64::from(!tied);
+                self.tied += u64::from(*tied);
+            }
             Verdict::Different(_) => self.differences += 1,
         }
     }
+}
 
-    /// How many are refused, and how many of them with each number.
-    pub fn shown_refused(&self) -> String {
-        let refused: u64 = self.refused.values().sum();
-        if refused == 0 {
-            return "0".to_string();
-        }
-        let by = self.refused.iter().map(|(n, c)| format!("{n}: {c}"));
-        format!("{refused} ({})", by.collect::<Vec<_>>().join(", "))
+/// How many are refused, and how many of them with each number.
+pub fn shown_refused(by_number: &BTreeMap<u32, u64>) -> String {
+    let refused: u64 = by_number.values().sum();
+    if refused == 0 {
+        return "0".to_string();
     }
+    let by = by_number.iter().map(|(n, c)| format!("{n}: {c}"));
+    format!("{refused} ({})", by.collect::<Vec<_>>().join(", "))
 }
 
 impl fmt::Display for Counts {
     fn fmt(&self, f: &mut fmt::Formatter) -> fmt::Result {
-        let (texts, refused, left_out) = (self.texts, self.shown_refused(), self.left_out);
-        let (exact, tied, differences) = (self.exact, self.tied, self.differences);
+        let (texts, refused, left_out) = (self.texts, shown_refused(&self.refused), self.left_out);
+        let (exact, tied, rewritten) = (self.exact, self.tied, self.rewritten);
         write!(
             f,
             "texts {texts}, refused {refused}, left out {left_out}, compared exactly {exact}, \
-             with ties {tied}, differences {differences}"
+             with ties {tied}, {rewritten} of these by rewriting, differences {}",
+            self.differences
         )
     }
 }
@@ -78,13 +86,13 @@ pub fn run(options: &Options, out: &mut dyn Write) -> Result<u64, String> {
     if let Some(before) = &options.before {
         before.try_start()?;
     }
-    let mut on_texts = |title: &str, texts: &mut dyn Iterator<Item = (String, Vec<u8>)>| {
-        let counts = match &options.before {
-            Some(before) => before::compare_all(title, texts, before, checker, out),
-            None => compare_all(title, texts, checker, options.against, out),
+    let mut on_texts =
+        |title: &str, texts: &mut dyn Iterator<Item = (String, Vec<u8>)>| match &options.before {
+            Some(before) => before::compare_all(title, texts, before, checker, out)
+                .map(|counts| counts.differences),
+            None => compare_all(title, texts, checker, options.against, out)
+                .map(|counts| counts.differences),
         };
-        counts.map(|counts| counts.differences)
-    };
     if let Some(file) = &options.cases {
         let bytes = std::fs::read(file).map_err(|e| format!("cannot read {file}: {e}"))?;
         let cases = cases::read_cases(&bytes).map_err(|e| format!("{file}: {e}"))?;
@@ -116,31 +124,38 @@ pub fn compare_all(
     against: Against,
     out: &mut dyn Write,
 ) -> Result<Counts, String> {
-    let counts = judge_all(texts, &mut |text| judge(checker, against, text), out)?;
+    let mut counts = Counts::default();
+    judge_all(
+        texts,
+        &mut |text| judge(checker, against, text),
+        &mut |verdict| counts.add(verdict),
+        out,
+    )?;
     writeln!(out, "{title}: {counts}").map_err(cannot_write)?;
     Ok(counts)
 }
 
 /// What says how a text comes out.
-pub type Judge<'a> = dyn FnMut(&[u8]) -> Verdict + 'a;
+pub type Judge<'a, O> = dyn FnMut(&[u8]) -> O + 'a;
 
-/// Counts how the texts come out, and shows the differences.
-pub fn judge_all(
+/// Has the texts judged and counted, and shows the differences.
+pub fn judge_all<O: Outcome>(
     texts: impl Iterator<Item = (String, Vec<u8>)>,
-    judge: &mut Judge,
+    judge: &mut Judge<O>,
+    count: &mut dyn FnMut(&O),
     out: &mut dyn Write,
-) -> Result<Counts, String> {
-    let mut counts = Counts::default();
+) -> Result<(), String> {
+    let mut differences = 0;
     for (name, text) in texts {
-        let verdict = judge(&text);
-        counts.add(&verdict);
-        if let Verdict::Different(found) = verdict {
-            let shown = counts.differences <= SHOWN;
-            let small = shown.then(|| smallest(judge, &text, &found));
-            show(out, &name, &found, small).map_err(cannot_write)?;
+        let outcome = judge(&text);
+        count(&outcome);
+        if let Some(found) = outcome.difference() {
+            differences += 1;
+            let small = (differences <= SHOWN).then(|| smallest(judge, &text, found));
+            show(out, &name, found, small).map_err(cannot_write)?;
         }
     }
-    Ok(counts)
+    Ok(())
 }
 
 pub fn cannot_write(e: io::Error) -> String {
@@ -148,7 +163,11 @@ pub fn cannot_write(e: io::Error) -> String {
 }
 
 /// A small text that still shows a difference of the same shape, and that difference.
-pub fn smallest(judge: &mut Judge, text: &[u8], found: &Difference) -> (Vec<u8>, Difference) {
+pub fn smallest<O: Outcome>(
+    judge: &mut Judge<O>,
+    text: &[u8],
+    found: &Difference,
+) -> (Vec<u8>, Difference) {
     let sought = shape(text, found);
     let begun = Instant::now();
     let mut last = found.clone();
@@ -156,9 +175,9 @@ pub fn smallest(judge: &mut Judge, text: &[u8], found: &Difference) -> (Vec<u8>,
         if begun.elapsed() > SHRINK_TIME {
             return false;
         }
-        match judge(candidate) {
-            Verdict::Different(found) if shape(candidate, &found) == sought => {
-                last = found;
+        match judge(candidate).difference() {
+            Some(found) if shape(candidate, found) == sought => {
+                last = found.clone();
                 true
             }
             _ => false,

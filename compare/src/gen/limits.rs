@@ -79,6 +79,7 @@ pub fn deep(n: usize, variant: usize) -> String {
         0 => format!("(wire 1 {} 10)", nest("(neg ", n - 1, "7", ")")),
         1 => format!("(const 3 {})", nest("(add 1 ", n - 1, "7", ")")),
         2 => format!("(on 5 {})", nest("(loop ", n - 2, "(set 2 7)", ")")),
+        4 => format!("(wire 1 {} 10)", nest("(f ", n - 2, "(n 1)", " 2)")),
         _ => format!("(wire 1 {} 10)", nest("(all (n 1) ", n - 2, "(all)", ")")),
     };
     format!("{head}{line}\n")
@@ -233,6 +234,52 @@ pub fn edges(n: usize, variant: usize) -> String {
         out.push_str(&format!("(inst 9 0 1 20 (conn 2 (n {k})))\n"));
     }
     out + CHILD
+}
+
+/// Reads of signal 6 by fields.
+pub const BY_A_FIELD: [&str; 4] = [
+    "(f (n 6) 1)",
+    "(f (f (n 6) 1) 2)",
+    "(f (ix (n 8) (n 6)) 1)",
+    "(f (if 0 (n 6) 1) 2)",
+];
+
+const FIELD_READERS: &str = "(module 0 bound)\n(kind 6 in)\n(kind 9 inst)\n";
+/// A field of instance output (9, variable 5, 3).
+const OF_AN_OUTPUT: &str = "(f (f (ix (n 9) (n 5)) 3) 4)";
+
+/// Module 0 has `n` nodes: wire 1 and what it reads by fields; `last` reads signal 6.
+pub fn nodes_by_fields(n: usize, last: &str) -> String {
+    format!(
+        "{FIELD_READERS}(kind 1 wire)\n(repeat 5 0 {} (wire 1 {OF_AN_OUTPUT} 10))\n(wire 1 {last} 20)\n",
+        n - 2
+    )
+}
+
+/// Module 0 has `n` different edges, 3,842 or more, all by fields; `last` reads signal 6.
+pub fn edges_by_fields(n: usize, last: &str) -> String {
+    let mut out = FIELD_READERS.to_string();
+    for w in 10..26 {
+        out.push_str(&format!("(kind {w} wire)\n"));
+    }
+    // 15 wires read 256 instance outputs; wire 25 reads as many as are left, and signal 6.
+    out.push_str("(repeat 5 0 256");
+    for w in 10..25 {
+        out.push_str(&format!(" (wire {w} {OF_AN_OUTPUT} {w})"));
+    }
+    let rest = n - 1 - 15 * 256;
+    out + &format!(")\n(repeat 5 0 {rest} (wire 25 {OF_AN_OUTPUT} 25))\n(wire 25 {last} 26)\n")
+}
+
+/// The text with a field of each name in place of the name, as `(f (n 7) 1)` for `(n 7)`.
+pub fn in_fields(text: &str) -> String {
+    let mut parts = text.split("(n ");
+    let mut out = parts.next().unwrap_or_default().to_string();
+    for part in parts {
+        let (name, rest) = part.split_once(')').unwrap_or((part, ""));
+        out.push_str(&format!("(f (n {name}) 1){rest}"));
+    }
+    out
 }
 
 /// Module 0 has `n` sites: of one output, of two, or of one that is poisoned.

@@ -3,7 +3,8 @@
 //! Every refusal here was worked out by hand from the scope (01) and the decisions on what
 //! it leaves open; the remark above an entry, or above a run of entries, is the sentence that
 //! decides. No checker computes any of these answers. Entries with `ok` are accepted, and their
-//! answer is the one of the Rust; for entries with `gives` it is stated too, and has to be that.
+//! answer is the one of the Rust, fields of signals read; for entries with `gives` it is stated
+//! too, and has to be that.
 
 // Tables, one entry a line.
 #[rustfmt::skip]
@@ -25,7 +26,7 @@ pub enum Answer {
     Refused(&'static str),
     /// Accepted, with these report lines.
     Reports(&'static str),
-    /// Accepted, with what the Rust reports.
+    /// Accepted, with what the Rust reports where fields of signals are read.
     Rust,
 }
 

@@ -9,7 +9,7 @@ const STATED: &str = include_str!("stated.txt");
 const SEED: u64 = 1;
 /// Texts of each profile in the sample.
 const SAMPLE: usize = 36;
-const SAMPLED: [&str; 5] = ["small", "sites", "blocks", "loops", "values"];
+const SAMPLED: [&str; 6] = ["small", "sites", "blocks", "loops", "values", "fields"];
 /// How often the Rust is asked before an answer counts as free of its hash order.
 const ASKED: usize = 12;
 
@@ -19,7 +19,8 @@ pub enum Held {
     Exactly,
     /// But for what the Rust leaves to the order of its hash tables.
     ByHand,
-    /// The Rust has to answer something else: a positive number is shifted right by 0.
+    /// The Rust has to answer something else: a positive number is shifted right by 0, or a loop
+    /// goes through a field that it does not read.
     Unlike,
 }
 
@@ -52,16 +53,18 @@ fn stated_cases() -> Result<Vec<Case>, String> {
 
 fn disagreement(s: &Stated) -> Option<String> {
     let Case { name, text, answer } = &s.case;
-    let rust = match rust_answer(text) {
-        Ok(rust) => rust,
+    let (own, rust) = match own_answer(text).and_then(|own| Ok((own, rust_answer(text)?))) {
+        Ok(answers) => answers,
         Err(why) => return Some(format!("{name}: {why}")),
     };
     let as_held = match s.held {
-        Held::Exactly => *answer == rust,
+        Held::Exactly => *answer == rust && rust == own,
         Held::ByHand => agree_but_for_ties(answer, &rust),
-        Held::Unlike => *answer != rust && model::shifted_by_zero(text),
+        Held::Unlike if model::shifted_by_zero(text) => *answer != rust,
+        Held::Unlike => *answer == rust && rust != own,
     };
-    (!as_held).then(|| format!("{name}\nstated:\n{}Rust:\n{}", show(answer), show(&rust)))
+    let [answer, rust, own] = [answer, &rust, &own].map(|a| show(a));
+    (!as_held).then(|| format!("{name}\nstated:\n{answer}Rust, fields read:\n{rust}Rust:\n{own}"))
 }
 
 fn show(bytes: &[u8]) -> String {
@@ -69,12 +72,36 @@ fn show(bytes: &[u8]) -> String {
 }
 
 /// The report lines of the Rust, each with its line feed.
-pub fn rust_answer(text: &[u8]) -> Result<Vec<u8>, String> {
+fn own_answer(text: &[u8]) -> Result<Vec<u8>, String> {
     let lines = oracle::check(text)?;
     Ok(lines
         .iter()
         .flat_map(|l| format!("{l}\n").into_bytes())
         .collect())
+}
+
+/// The report lines of the Rust with fields of signals read. But for loops they have to be its own.
+fn rust_answer(text: &[u8]) -> Result<Vec<u8>, String> {
+    let own = own_answer(text)?;
+    let Some(read) = oracle::fields::rewritten(text) else {
+        return Ok(own);
+    };
+    let answer = own_answer(&read)?;
+    if other_reports(&answer) != other_reports(&own) {
+        let (answer, own) = (show(&answer), show(&own));
+        return Err(format!(
+            "reports other than loops differ\nRust, fields read:\n{answer}Rust:\n{own}"
+        ));
+    }
+    Ok(answer)
+}
+
+/// All reports but loops, as a set: the Rust orders conflicts at one START by its hash order.
+fn other_reports(answer: &[u8]) -> Vec<String> {
+    let mut lines: Vec<String> = show(answer).lines().map(str::to_string).collect();
+    lines.retain(|line| !line.starts_with("(E0504 "));
+    lines.sort();
+    lines
 }
 
 /// Equal as sets, loops by module only: loop or no loop.
@@ -135,8 +162,8 @@ fn add_line(case: &mut Case, line: &str) {
     part.push(b'\n');
 }
 
-/// Texts of the profiles with the answers of the Rust. The model only says which of them the
-/// rules accept; where both have an answer they must agree.
+/// Texts of the profiles with the answers of the Rust, fields of signals read. The model only says
+/// which of them the rules accept; where both have an answer they must agree.
 fn generated_cases() -> Result<Vec<Case>, String> {
     let mut out = Vec::new();
     for profile in SAMPLED {
@@ -192,7 +219,8 @@ fn with_answer(profile: &str, seed: u64, i: u64, taken: usize) -> Result<Option<
     Ok(Some(Case { name, text, answer }))
 }
 
-/// The refusals as they are stated, and their accepted neighbours with the answers of the Rust.
+/// The refusals as they are stated, and their accepted neighbours with the answers of the Rust,
+/// fields of signals read.
 fn refusal_cases() -> Result<Vec<Case>, String> {
     refusals::all().into_iter().map(refusal_case).collect()
 }

@@ -390,7 +390,10 @@ fn expr_reads(dcx: &Dcx, e: &Expr, reads: &mut Vec<Node>) -> Result<(), Full> {
                 reads.push(Node::Sig(*name));
             }
         }
-        Expr::Field(base, out) => reads.extend(field_read(dcx, base, *out)?),
+        Expr::Field(base, out) => match instance(dcx, base) {
+            Some((inst, at)) => reads.extend(output_read(dcx, inst, at, *out)?),
+            None => expr_reads(dcx, base, reads)?,
+        },
         Expr::Unary(_, x) => expr_reads(dcx, x, reads)?,
         Expr::Index(x, y) | Expr::Binary(_, x, y) => {
             expr_reads(dcx, x, reads)?;
@@ -410,19 +413,21 @@ fn expr_reads(dcx: &Dcx, e: &Expr, reads: &mut Vec<Node>) -> Result<(), Full> {
     Ok(())
 }
 
-/// `(f (n I) P)` or `(f (ix (n I) E) P)`, I an inst, reads that output, or nothing at all if E has
-/// no value; E is not read. Any other `f` reads nothing.
-fn field_read(dcx: &Dcx, base: &Expr, out: Name) -> Result<Option<Node>, Full> {
+/// The instance and its index, where a field's inner expression is `(n I)` or `(ix (n I) E)`, I an
+/// inst. Every other field reads what its inner expression reads (U2).
+fn instance<'e>(dcx: &Dcx, base: &'e Expr) -> Option<(Name, Option<&'e Expr>)> {
     let (core, at) = match base {
-        Expr::Index(core, at) => (&**core, Some(at)),
+        Expr::Index(core, at) => (&**core, Some(&**at)),
         _ => (base, None),
     };
-    let Expr::Ident(inst) = *core else {
-        return Ok(None);
-    };
-    if dcx.module.kinds.get(&inst) != Some(&Kind::Inst) {
-        return Ok(None);
+    match *core {
+        Expr::Ident(name) if dcx.module.kinds.get(&name) == Some(&Kind::Inst) => Some((name, at)),
+        _ => None,
     }
+}
+
+/// That output of the instance, or nothing at all if the index has no value; it is not read.
+fn output_read(dcx: &Dcx, inst: Name, at: Option<&Expr>, out: Name) -> Result<Option<Node>, Full> {
     let index = match at {
         None => None,
         Some(e) => match eval(e, &dcx.table)? {

@@ -372,7 +372,7 @@ fn reads(module: &Module, table: &Table, exprs: &[&Expr]) -> Result<Vec<Node>, F
                     found.push(Node::Sig(*name));
                 }
             }
-            Expr::Field(base, out) => found.extend(output(module, table, base, *out)?),
+            Expr::Field(base, out) => found.extend(field(module, table, base, *out)?),
             Expr::Unary(_, x) => found.extend(reads(module, table, &[x])?),
             Expr::Index(x, y) | Expr::Binary(_, x, y) => {
                 found.extend(reads(module, table, &[x, y])?)
@@ -386,21 +386,23 @@ fn reads(module: &Module, table: &Table, exprs: &[&Expr]) -> Result<Vec<Node>, F
     Ok(found)
 }
 
-/// The instance output that a field reads.
-fn output(module: &Module, table: &Table, base: &Expr, out: Name) -> Result<Option<Node>, Full> {
-    let (inst, index) = match base {
-        Expr::Ident(inst) => (*inst, None),
-        Expr::Index(core, at) => match **core {
-            Expr::Ident(inst) if module.kinds.get(&inst) == Some(&Kind::Inst) => {
-                match eval(at, table)? {
-                    Some(v) => (inst, Some(v)),
-                    None => return Ok(None),
-                }
-            }
-            _ => return Ok(None),
-        },
-        _ => return Ok(None),
+/// What a field reads: of an instance, indexed or not, that output, and nothing where the index has
+/// no value; of anything else what that reads.
+fn field(module: &Module, table: &Table, base: &Expr, out: Name) -> Result<Vec<Node>, Full> {
+    let (core, at) = match base {
+        Expr::Index(core, at) => (&**core, Some(at)),
+        _ => (base, None),
     };
-    let is_inst = module.kinds.get(&inst) == Some(&Kind::Inst);
-    Ok(is_inst.then_some(Node::InstOut { inst, index, out }))
+    let inst = match core {
+        Expr::Ident(name) if module.kinds.get(name) == Some(&Kind::Inst) => *name,
+        _ => return reads(module, table, &[base]),
+    };
+    let index = match at {
+        None => None,
+        Some(e) => match eval(e, table)? {
+            None => return Ok(Vec::new()),
+            value => value,
+        },
+    };
+    Ok(vec![Node::InstOut { inst, index, out }])
 }

@@ -26,6 +26,7 @@ pub fn nodes_and_edges(out: &mut Vec<Entry>) {
     let edges = limits::edges(4096, 0);
     let lines = edges.lines().filter(|l| l.starts_with("(repeat")).collect::<String>();
     ok(out, "20-edges-4096-met-twice", format!("{edges}{lines}\n"));
+    nodes_and_edges_by_fields(out);
 }
 
 /// What heads or reads a node, and what does not.
@@ -41,11 +42,33 @@ fn nodes_that_are_none(out: &mut Vec<Entry>) {
     // "Where a summary's search begins is no node by itself": output 8 of a module of 512 nodes.
     let full = limits::nodes(512, 0) + "(port out 8 bit 30)\n(module 1 bound)\n(inst 9 - 0 5)\n";
     ok(out, "20-not-a-node-where-the-search-begins", full);
-    // Reads of a reg, of a field of a signal and of an instance without index value are none.
-    let kinds = "(kind 1 wire)\n(kind 2 reg)\n(kind 4 wire)\n";
-    let text = limits::nodes(512, 0).replacen("(kind 1 wire)\n", kinds, 1);
-    let more = "(wire 1 (all (n 2) (f (n 4) 1) (f (ix (n 9) (n 6)) 1)) 40)\n";
-    ok(out, "20-not-nodes-of-reads-that-are-none", text + more);
+    // Reads of a reg, of a name without kind and of an instance without index value are none, under
+    // a field too.
+    let text = limits::nodes(512, 0).replacen("(kind 1 wire)\n", "(kind 1 wire)\n(kind 2 reg)\n", 1);
+    let none = "(n 2) (n 6) (f (ix (n 9) (n 6)) 1)";
+    let more = format!("(wire 1 (all {none} (f (n 2) 1) (f (n 6) 1) (f (all {none}) 1)) 40)\n");
+    ok(out, "20-not-nodes-of-reads-that-are-none", text + &more);
+    // A field of a signal takes the 513th node; one of an output that is a node already takes none.
+    let text = limits::nodes(512, 0).replacen("(kind 1 wire)\n", "(kind 1 wire)\n(kind 4 wire)\n", 1);
+    no(out, "20-nodes-513-by-a-field-of-a-signal", text.clone() + "(wire 1 (f (n 4) 1) 40)\n", FULL);
+    ok(out, "20-nodes-512-by-a-field-of-a-node", text + "(wire 1 (f (f (ix (n 9) 7) 3) 1) 40)\n");
+}
+
+/// "An `f` form other than 01's two on an inst shall read everything that its inner expression
+/// reads": the last node and the last edge are there by such a read alone.
+fn nodes_and_edges_by_fields(out: &mut Vec<Entry>) {
+    let whats = ["a-field", "a-field-of-a-field", "the-index-of-a-field", "a-field-of-if"];
+    for (last, what) in limits::BY_A_FIELD.iter().zip(whats) {
+        ok(out, &format!("20-nodes-512-the-last-by-{what}"), limits::nodes_by_fields(512, last));
+        no(out, &format!("20-nodes-513-the-last-by-{what}"), limits::nodes_by_fields(513, last), FULL);
+        ok(out, &format!("20-edges-4096-the-last-by-{what}"), limits::edges_by_fields(4096, last));
+        no(out, &format!("20-edges-4097-the-last-by-{what}"), limits::edges_by_fields(4097, last), FULL);
+    }
+    // Each of the 4,096 edges once more, by a field.
+    let edges = limits::edges(4096, 0);
+    let lines = edges.lines().filter(|l| l.starts_with("(repeat")).collect::<String>();
+    let again = lines.replace("(f (ix (n 9) (n 5)) 3)", "(f (f (ix (n 9) (n 5)) 3) 4)");
+    ok(out, "20-edges-4096-met-twice-by-fields", format!("{edges}{again}\n"));
 }
 
 /// "1,024 sites, 512 pairs of name and block". "Sites and pairs count over the whole module,
@@ -79,6 +102,9 @@ pub fn triples(out: &mut Vec<Entry>) {
         ok(out, &format!("20-triples-1024-{what}"), limits::triples(1024, variant));
         no(out, &format!("20-triples-1025-{what}"), limits::triples(1025, variant), FULL);
     }
+    // The outputs reach their inputs by fields.
+    ok(out, "20-triples-1024-by-fields", limits::in_fields(&limits::triples(1024, 0)));
+    no(out, "20-triples-1025-by-fields", limits::in_fields(&limits::triples(1025, 0)), FULL);
     // "made when first needed": without an instance line there is no summary.
     let text = limits::triples(1025, 0).replacen("(inst 9 - 1 5)\n", "", 1);
     ok(out, "20-triples-1025-never-needed", text);
@@ -150,10 +176,16 @@ pub fn constants(out: &mut Vec<Entry>) {
     ok_line(out, "20-constant-val", "(val 1 -2147483648)\n(const 2 (n 1))");
 }
 
+/// Each of these texts evaluates a constant outside INT, BIG.
+fn evaluated(out: &mut Vec<Entry>, places: &[(&str, &str)]) {
+    for (name, text) in places {
+        line(out, &format!("20-in-{name}"), &text.replace("BIG", "(mul 65536 65536)"), FULL);
+    }
+}
+
 /// Where a constant is evaluated.
 pub fn constant_places(out: &mut Vec<Entry>) {
-    const BIG: &str = "(mul 65536 65536)";
-    for (name, text) in [
+    evaluated(out, &[
         // "then top-level `const` lines".
         ("const", "(const 1 BIG)"),
         // "both indexes of an output's LV always are", also where the other has no value.
@@ -176,21 +208,36 @@ pub fn constant_places(out: &mut Vec<Entry>) {
         // the module missing."
         ("x-of-a-missing-module", "(inst 1 BIG 9 5)"),
         ("x-of-an-empty-summary", "(inst 1 BIG 0 5)"),
-        // "An `f` index only where the expression is read and NAME is an inst."
-        ("f-index", "(kind 9 inst)\n(wire 1 (f (ix (n 9) BIG) 3) 5)"),
-        ("f-index-in-a-drive", "(kind 1 out)\n(kind 9 inst)\n(drive (lv 1 5) (f (ix (n 9) BIG) 3))"),
-        ("f-index-in-a-driven-wire", "(kind 1 wire)\n(kind 9 inst)\n(drive (lv 1 5) (f (ix (n 9) BIG) 3))"),
-        ("f-index-in-an-index", "(kind 1 wire)\n(kind 9 inst)\n(drive (lv 1 5 (f (ix (n 9) BIG) 3)) 0)"),
+    ]);
+    f_indexes(out);
+    evaluated(out, &[
         // The body of a repeat that runs once, and of one that runs.
         ("body-run-once", "(repeat 1 0 (n 9) (constif BIG (then) (else)))"),
         ("body-run", "(repeat 1 0 1 (constif BIG (then) (else)))"),
         // By the variable: 0 and 1 times 2,000,000,000 are in INT, 2 times is not.
         ("third-round", "(repeat 1 0 3 (constif (mul (n 1) 2000000000) (then) (else)))"),
-    ] {
-        line(out, &format!("20-in-{name}"), &text.replace("BIG", BIG), FULL);
-    }
+    ]);
     ok_line(out, "20-in-second-round", "(repeat 1 0 2 (constif (mul (n 1) 2000000000) (then) (else)))");
     constants_by_module(out);
+}
+
+fn f_indexes(out: &mut Vec<Entry>) {
+    evaluated(out, &[
+        // "An `f` index only where the expression is read and NAME is an inst."
+        ("f-index", "(kind 9 inst)\n(wire 1 (f (ix (n 9) BIG) 3) 5)"),
+        ("f-index-in-a-drive", "(kind 1 out)\n(kind 9 inst)\n(drive (lv 1 5) (f (ix (n 9) BIG) 3))"),
+        ("f-index-in-a-driven-wire", "(kind 1 wire)\n(kind 9 inst)\n(drive (lv 1 5) (f (ix (n 9) BIG) 3))"),
+        ("f-index-in-an-index", "(kind 1 wire)\n(kind 9 inst)\n(drive (lv 1 5 (f (ix (n 9) BIG) 3)) 0)"),
+        // A field of anything else reads "everything that its inner expression reads", and so evaluates
+        // the indexes of instances in it.
+        ("f-index-in-a-field", "(kind 9 inst)\n(wire 1 (f (f (ix (n 9) BIG) 3) 4) 5)"),
+        ("f-index-in-a-field-of-a-field", "(kind 9 inst)\n(wire 1 (f (f (f (ix (n 9) BIG) 3) 4) 4) 5)"),
+        ("f-index-in-a-field-of-all", "(kind 9 inst)\n(wire 1 (f (all 0 (f (ix (n 9) BIG) 3)) 4) 5)"),
+        ("f-index-in-the-index-of-a-field", "(kind 9 inst)\n(wire 1 (f (ix (n 8) (f (ix (n 9) BIG) 3)) 4) 5)"),
+        ("f-index-in-a-field-in-a-drive", "(kind 1 out)\n(kind 9 inst)\n(drive (lv 1 5) (f (f (ix (n 9) BIG) 3) 4))"),
+        ("f-index-in-a-field-in-an-index", "(kind 1 out)\n(kind 9 inst)\n(drive (lv 1 5 (f (f (ix (n 9) BIG) 3) 4)) 0)"),
+        ("f-index-in-a-field-in-an-index-of-a-wire", "(kind 1 wire)\n(kind 9 inst)\n(drive (lv 1 5 (f (f (ix (n 9) BIG) 3) 4)) 0)"),
+    ]);
 }
 
 fn constants_by_module(out: &mut Vec<Entry>) {
@@ -202,6 +249,8 @@ fn constants_by_module(out: &mut Vec<Entry>) {
     let child = "(module 1 bound)\n(kind 2 in)\n(kind 3 out)\n(port out 3 bit 1)\n(drive (lv 3 2) (n 2))\n";
     let host = "(kind 9 inst)\n(inst 9 - 1 5 (conn 2 (f (ix (n 9) (mul 65536 65536)) 3)))";
     no(out, "20-in-f-index-of-a-connection", format!("(module 0 bound)\n{host}\n{child}"), FULL);
+    let host = "(kind 9 inst)\n(inst 9 - 1 5 (conn 2 (f (f (ix (n 9) (mul 65536 65536)) 3) 4)))";
+    no(out, "20-in-f-index-in-a-field-of-a-connection", format!("(module 0 bound)\n{host}\n{child}"), FULL);
 }
 
 /// "21 the report text is longer than the lent buffer"; the program's has 65,536 bytes.
@@ -210,6 +259,9 @@ pub fn twenty_one(out: &mut Vec<Entry>) {
     ok(out, "21-report-65536", limits::report(65_536));
     no(out, "21-report-65537", limits::report(65_537), "(refused 21 0)");
     no(out, "21-report-65600", limits::report(65_600), "(refused 21 0)");
+    // All loops go through fields.
+    ok(out, "21-report-65536-by-fields", limits::in_fields(&limits::report(65_536)));
+    no(out, "21-report-65537-by-fields", limits::in_fields(&limits::report(65_537)), "(refused 21 0)");
     // "20 goes before 21."
     let both = limits::report(65_537) + "(const 1 (mul 65536 65536))\n";
     no(out, "21-after-20", both, FULL);

@@ -76,11 +76,12 @@ fn operators_in_places(out: &mut Vec<Entry>) {
         ("in-low-bound", "(repeat 1 (shl 1 2) 9)", ""),
         ("in-high-bound", "(repeat 1 0 (shl 1 2))", ""),
         ("in-condition", "(constif (shl 1 2) (then) (else))", ""),
-        // Name 9 has no kind: "Any other `f` reads nothing."
+        // Name 9 has no kind, and the indexes have no names: the fields read nothing.
         ("in-f-index", "(wire 1 (f (ix (n 9) (shl 1 2)) 3) 5)", ""),
         ("in-f-index-of-a-connection", "(inst 1 - 0 5 (conn 2 (f (ix (n 9) (shl 1 2)) 3)))", ""),
         ("in-f-index-of-a-right-side", "(drive (lv 1 5) (f (ix (n 9) (shl 1 2)) 3))", ""),
         ("in-f-index-inside-all", "(wire 1 (all 1 (add 2 (f (ix (n 9) (shl 1 2)) 3))) 5)", ""),
+        // Wire 9 is read, and reads nothing itself.
         ("in-f-index-of-a-wire", "(kind 9 wire)\n(wire 1 (f (ix (n 9) (shl 1 2)) 3) 5)", ""),
     ] {
         gives(out, &format!("operators-{name}"), text, reports);

@@ -94,7 +94,7 @@ pub fn three(out: &mut Vec<Entry>) {
 
 /// "to 32 brackets deep", "or 33 deep".
 fn three_deep(out: &mut Vec<Entry>) {
-    for (variant, what) in ["wire", "const", "loop", "all"].iter().enumerate() {
+    for (variant, what) in ["wire", "const", "loop", "all", "fields"].iter().enumerate() {
         ok(out, &format!("3-deep-32-{what}"), limits::deep(32, variant));
         no(out, &format!("3-deep-33-{what}"), limits::deep(33, variant), "(refused 3 4)");
     }
