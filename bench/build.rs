@@ -6,8 +6,8 @@ use std::{env, process};
 /// Where the archives are looked for, seen from this folder, if DRIVERCHECK_ARCHIVES names no other.
 const DEFAULT_ARCHIVES: &str = "../target/staticlib";
 
-/// The crates whose archives are linked. Each has a module of its own in `src`.
-const CRATES: [&str; 4] = ["consteval_c", "drivers_c", "graph_c", "lines_c"];
+/// The crates whose archives are linked: the parts that are timed by themselves, and the whole check.
+const CRATES: [&str; 2] = ["bench_c", "drivers_c"];
 
 fn main() {
     if let Err(message) = link() {

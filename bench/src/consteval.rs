@@ -1,4 +1,4 @@
-//! The evaluator: the archive of `consteval_c`, the original and exact arithmetic, with one kind of
+//! The evaluator: the archive `bench_c`, the original and exact arithmetic, with one kind of
 //! answer for the three.
 
 pub mod archive;

@@ -1,4 +1,4 @@
-//! The search for cycles: the archive of `graph_c` and the original, on the same heads and reads.
+//! The search for cycles: the archive `bench_c` and the original, on the same heads and reads.
 
 pub mod archive;
 pub mod make;

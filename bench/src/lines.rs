@@ -1,4 +1,4 @@
-//! The reader: the archive of `lines_c`, and texts to time it on.
+//! The reader: the archive `bench_c`, and texts to time it on.
 
 pub mod archive;
 pub mod make;

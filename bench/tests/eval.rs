@@ -1,4 +1,4 @@
-//! The archive of `consteval_c` on grids and on random expressions: the same answer as exact
+//! The archive `bench_c` on grids and on random expressions: the same answer as exact
 //! arithmetic everywhere, and as the original but for the differences that are stated; an answer on
 //! any bytes.
 

@@ -1,4 +1,4 @@
-//! The archive of `graph_c` on random graphs: the same loop reports, in order, as the original's
+//! The archive `bench_c` on random graphs: the same loop reports, in order, as the original's
 //! `find_cycles`; and its limits.
 
 use bench::graph::archive::{Full, Graph};

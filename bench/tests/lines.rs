@@ -1,4 +1,4 @@
-//! The archive of `lines_c` against the model, which was written from the scope with a reader
+//! The archive `bench_c` against the model, which was written from the scope with a reader
 //! of its own: number and line of every refusal 1 to 7, and which texts are well formed.
 
 use bench::lines::make::{depth, SHAPES};

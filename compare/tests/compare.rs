@@ -314,13 +314,14 @@ const FULL: &[u8] = b"(refused 20 0)\n";
 const TOO_LONG: &[u8] = b"(refused 21 0)\n";
 
 #[test]
-fn before_and_now_print_the_same_bytes_where_no_field_of_a_signal_is() {
+fn before_and_now_print_the_same_bytes() {
     let outputs = b"(module 0 bound)\n(kind 6 inst)\n(wire 3 (f (ix (n 6) 0) 1) 5)\n";
     for text in [
         &b""[..],
         b"(module 0 bound)\n",
         outputs,
         b"(f (n 3) 1)\n(x\n",
+        FIELD,
     ] {
         let same = |printed| before_verdict(text, printed, printed);
         assert_eq!(same(REPORT), before::Verdict::Accepted);
@@ -347,67 +348,6 @@ fn before_and_now_print_the_same_bytes_where_no_field_of_a_signal_is() {
 }
 
 #[test]
-fn where_a_field_of_a_signal_is_only_loops_may_differ() {
-    let looped = b"(E0503 0 1 4 none)\n(E0504 0 5 (walk 3 3))\n";
-    let otherwise = b"(E0503 0 1 4 none)\n(E0504 0 5 (walk 3 2 3))\n(E0504 0 6 (walk 2 2))\n";
-    let verdict = |was: &[u8], is: &[u8]| before_verdict(FIELD, was, is);
-    assert_eq!(verdict(b"", b""), before::Verdict::SameLoops);
-    assert_eq!(verdict(REPORT, REPORT), before::Verdict::SameLoops);
-    assert_eq!(verdict(looped, looped), before::Verdict::SameLoops);
-    assert_eq!(verdict(REPORT, looped), before::Verdict::OtherLoops);
-    assert_eq!(verdict(looped, otherwise), before::Verdict::OtherLoops);
-    assert_eq!(verdict(otherwise, looped), before::Verdict::OtherLoops);
-    for (was, is) in [
-        (REPORT, &b"(E0504 0 5 (walk 3 3))\n"[..]),
-        (b"", REPORT),
-        (REPORT, b"(E0503 0 2 4 none)\n(E0504 0 5 (walk 3 3))\n"),
-        // the same lines, but in another order or not all ended
-        (
-            b"(E0503 0 1 4 none)\n(E0503 0 1 5 none)\n",
-            b"(E0503 0 1 5 none)\n(E0503 0 1 4 none)\n",
-        ),
-        (REPORT, &looped[..looped.len() - 1]),
-        (REPORT, b"(E0503 0 1 4 none)\n(E0504 0 5 (walk \xff))\n"),
-        (REPORT, b"(E0503 0 1 4 none)\n(unread)\n"),
-        // a module that had a loop has one still
-        (looped, REPORT),
-        (looped, b"(E0503 0 1 4 none)\n(E0504 1 5 (walk 3 3))\n"),
-    ] {
-        is_unlike_before(FIELD, was, is);
-    }
-}
-
-#[test]
-fn where_a_field_of_a_signal_is_20_and_21_may_come() {
-    let verdict = |was: &[u8], is: &[u8]| before_verdict(FIELD, was, is);
-    assert_eq!(verdict(REPORT, FULL), before::Verdict::Become20);
-    assert_eq!(verdict(REPORT, TOO_LONG), before::Verdict::Become21);
-    assert_eq!(verdict(FULL, FULL), before::Verdict::RefusedBefore(20));
-    for is in [REPORT, b"", FULL, TOO_LONG] {
-        assert_eq!(verdict(TOO_LONG, is), before::Verdict::RefusedBefore(21));
-    }
-    assert_eq!(
-        verdict(MALFORMED, MALFORMED),
-        before::Verdict::RefusedBefore(5)
-    );
-    for (was, is) in [
-        (REPORT, MALFORMED),
-        (REPORT, b"(refused 20 1)\n"),
-        (REPORT, b"(refused 20 0)"),
-        (FULL, REPORT),
-        (FULL, TOO_LONG),
-        (FULL, MALFORMED),
-        (TOO_LONG, MALFORMED),
-        (TOO_LONG, &REPORT[..REPORT.len() - 1]),
-        (MALFORMED, b"(refused 5 3)\n"),
-        (MALFORMED, REPORT),
-        (MALFORMED, FULL),
-    ] {
-        is_unlike_before(FIELD, was, is);
-    }
-}
-
-#[test]
 fn a_program_that_fails_before_or_now_is_different() {
     for text in [b"", FIELD] {
         let mut fails = |_: &[u8]| Err("no answer".to_string());
@@ -430,18 +370,13 @@ fn before_and_now_are_counted() {
         (b"", REPORT, b""),
         (FIELD, REPORT, REPORT),
         (FIELD, b"", b"(E0504 0 5 (walk 3 3))\n"),
-        (FIELD, b"", FULL),
-        (FIELD, b"", TOO_LONG),
-        (FIELD, TOO_LONG, b""),
         (FIELD, FULL, FULL),
     ] {
         counts.add(&before_verdict(text, was, is));
     }
     assert_eq!(
         counts.to_string(),
-        "texts 9; without a field of a signal: accepted 1, refused 1 (5: 1); with one: accepted \
-         with the same loops 1, with other loops 1, become 20 1, become 21 1, refused before 2 \
-         (20: 1, 21: 1); different 1"
+        "texts 6; the same bytes: accepted 2, refused 2 (5: 1, 20: 1); different 2"
     );
 }
 

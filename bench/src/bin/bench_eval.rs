@@ -1,4 +1,4 @@
-//! Evaluations a second of the archive of `consteval_c` and of the original, on the same
+//! Evaluations a second of the archive `bench_c` and of the original, on the same
 //! expressions.
 
 use bench::consteval::make::{Maker, MOODS};

@@ -1,4 +1,4 @@
-//! Times of the search for cycles: the archive of `graph_c` and the original's `find_cycles`, on the
+//! Times of the search for cycles: the archive `bench_c` and the original's `find_cycles`, on the
 //! same graphs.
 //!
 //! `bench_graph` prints the table; `bench_graph ROW` runs each of the four jobs of a row once, for a

@@ -1,4 +1,4 @@
-//! Nanoseconds a byte of the archive of `lines_c` on texts of 32,768 bytes, flat and nested.
+//! Nanoseconds a byte of the archive `bench_c` on texts of 32,768 bytes, flat and nested.
 //!
 //! `bench_lines --once NAME` reads the text of that name once, for a tool that counts instructions.
 

@@ -12,7 +12,7 @@ const fn row(name: &'static str, text: fn() -> Vec<u8>) -> Row {
     Row { name, text }
 }
 
-pub const ROWS: [Row; 12] = [
+pub const ROWS: [Row; 13] = [
     row("P1", || P1.to_vec()),
     row("ordinary, 1 KB", || ordinary(1, 0)),
     row("ordinary, 8 KB", || ordinary(6, 0)),
@@ -23,6 +23,7 @@ pub const ROWS: [Row; 12] = [
     row("4,096 edges", || limits::edges(4096, 0).into_bytes()),
     row("4,096 edges, 32 KB", || edges()),
     row("1,024 sites", || sites()),
+    row("256 outputs of 4 sites", || sites_in_turn()),
     row("32 modules nested", || nested()),
     row("65,000 bytes of reports", || {
         limits::report(65_000).into_bytes()
@@ -115,6 +116,18 @@ fn edges() -> Vec<u8> {
 fn sites() -> Vec<u8> {
     let mut text = "(module 0 bound)\n(kind 1 out)\n(port out 1 (bits 1024) 5)\n".to_string();
     (0..1024).for_each(|bit| text += &format!("(drive (lv 1 {} {bit}) 0)\n", 10 + bit));
+    text.into_bytes()
+}
+
+/// 256 outputs, each driven in four bits: the first bit of every output, then the second of every output, and so on. One is declared
+/// a bit wide, since a line with a width would make the text too long.
+fn sites_in_turn() -> Vec<u8> {
+    let mut text = "(module 0 bound)\n".to_string();
+    (0..256).for_each(|name| text += &format!("(kind {name} out)\n"));
+    (0..256).for_each(|name| text += &format!("(port out {name} bit 5)\n"));
+    for bit in 0..4 {
+        (0..256).for_each(|name| text += &format!("(drive (lv {name} 6 {bit}) 0)\n"));
+    }
     text.into_bytes()
 }
 

@@ -1,6 +1,10 @@
 // A file of stored cases: records with nothing between them, each a line `(case NAME TEXTLEN ANSWERLEN)`, so many bytes of text and so
 // many of answer.
+use lines::bytes::Class;
 use lines::bytes::at8;
+use lines::bytes::class_of;
+use lines::bytes::is_feed;
+use lines::bytes::is_open;
 use lines::parse::Number;
 use lines::parse::word_at;
 use lines::parts::part_end;
@@ -34,7 +38,7 @@ pub fn first(s: &[u8], n: usize) -> &[u8]
 fn is_case(s: &[u8]) -> bool
     ensures { λ r. ⌜ r ≡ caseKey (now (s .entry)) ⌝ }
 {
-    if at8(s, 0) != b'(' {
+    if !is_open(at8(s, 0)) {
         return false;
     }
     let w = word_at(s, 1);
@@ -67,13 +71,15 @@ fn sized(s: &[u8], name: usize, body: usize, text: u64, answer: u64) -> Record
 fn closed(s: &[u8], name: usize, at: usize, text: u64, answer: u64) -> Record
     ensures { λ r. ⌜ r ≡ closed (now (s .entry)) name at text answer ⌝ }
 {
-    if at8(s, at) != b')' {
-        return Record::Bad;
+    match class_of(at8(s, at)) {
+        Class::Close => {
+            if !is_feed(at8(s, at + 1)) {
+                return Record::Bad;
+            }
+            sized(s, name, at + 2, text, answer)
+        }
+        _ => Record::Bad,
     }
-    if at8(s, at + 1) != b'\n' {
-        return Record::Bad;
-    }
-    sized(s, name, at + 2, text, answer)
 }
 
 // A record whose name ends here.

@@ -6,7 +6,8 @@ use mathlib.Core.List.{List, [], _∷_}
 use mathlib.Core.Option.{Option, some, none}
 use Prim.Native.Nat.{ℕ, suc, _+_, _*_, _-_, _≤_, _<_}
 use native.Mathlib.Omega.{arith}
-use lib.ListN.{length, take, drop, getD, getElem?}
+use lib.Dec.{ltb}
+use lib.ListN.{length, take, drop, getD, set, getElem?}
 use borrow.Author.Tests.{le-ltb, eq-eqb}
 use Rattle.spec.specs.Bytes.{Bytes}
 use Rattle.spec.specs.Syntax.{Inst, Item, inst, Header, Module}
@@ -18,9 +19,12 @@ use Rattle.spec.specs.Edge.{Summary, Head, place-value, inst-edges}
 use Rattle.spec.specs.Summary.{Kept, kept-summary, triples, triple-limit, module-summary}
 use Rattle.spec.proofs.Reading.{reading}
 use Rattle.graph.specs.Stands.{Stands}
-use Rattle.consteval.specs.Worth.{names-of}
+use Rattle.consteval.specs.Worth.{names-of, worth, number-of}
+use Rattle.consteval.specs.declared.Value.{Value as Answer}
+use Rattle.consteval.specs.declared.Value.the-variants.{Known, Missing, Outside}
 use Rattle.edges.specs.Reads.{KindsOf, HeadAll}
-use Rattle.edges.specs.Lines.{summary-at, IndexIs, ModuleIs, InstHeads}
+use Rattle.edges.specs.Lines.{summary-at, inst-index, inst-module, InstHeads}
+use Rattle.edges.proofs.OutputLaws.{index-is, module-is}
 use Rattle.runs.specs.Run.{ShowsItem, RunOf}
 use Rattle.runs.specs.Text.{ModuleAt, items-run}
 use Rattle.walk.specs.Walk.{Got, full, going, Walked, walk-items, State, begin, Answered, answered, Asking, ask-walk, own-step, line-step, walking}
@@ -29,10 +33,11 @@ use Rattle.steps.specs.declared.Head.the-variants as head
 use Rattle.steps.specs.Modules.{NamesAre}
 use Rattle.steps.specs.declared.modules.Named as N
 use Rattle.steps.specs.declared.modules.Named.the-variants as named
-use Rattle.summary.specs.Keeps.{Keeps, Says, Made, pairs-of, first-of, count-of}
+use Rattle.steps.proofs.StepLaws.{is-refused, not-refused}
+use Rattle.summary.specs.Keeps.{Keeps, state-of, Says, Made, pairs-of, first-of, count-of}
 use Rattle.summary.specs.declared.State as S
 use Rattle.summary.specs.declared.State.the-variants as states
-use Rattle.summary.proofs.Table.{kept-pairs}
+use Rattle.summary.proofs.Table.{state-says, kept-pairs, began}
 use Rattle.collect.specs.declared.Walked as W
 use Rattle.collect.specs.declared.Walked.the-variants as walks
 use Rattle.collect.specs.declared.Asked as A
@@ -41,6 +46,12 @@ use Rattle.collect.specs.Cycle.{Tabled, PartOf, Mode, mode, World, Singl
 use Rattle.collect.proofs.Turns.{ask-missing, ask-kept, ask-busy, ask-outside, ask-stops, ask-over, ask-made}
 use Rattle.collect.proofs.Ways.{outside-index, unasked-full, heads-done, heads-over}
 use Rattle.collect.proofs.Tables.{kinds-here, module-here, run-here, found, missing, few}
+
+-- 20 is the number of a value outside INT
+pub outside-number : (v : Answer) → ltb 0 (number-of v) ≡ is-outside (worth v)
+outside-number (Known x) = refl
+outside-number Missing = refl
+outside-number Outside = refl
 
 -- ---- an instance
 
@@ -61,16 +72,16 @@ module _ (fuel : ℕ) (text kinds mods : List ℕ) (count : ℕ) (x : Bytes) (de
     as-inst : stepping (w .item) ≡ stepping (inst the)
     as-inst = ap stepping (G .head .1)
 
-    module _ (v : Value) (index : IndexIs v x depth (names-of names used)) where
+    module _ (v : Value) (index : v ≡ inst-index x depth (names-of names used)) where
       at-place : v ≡ place-value (names-of names used) (the .place)
-      at-place = index the shown
+      at-place = index ∙ index-is x depth (names-of names used) the shown
 
       pub index-outside : is-outside v ≡ true → stepping (w .item) ≡ full
       index-outside e =
           as-inst
           ∙ outside-index fuel mo text own (w .header) (w .busy) (names-of names used) the (w .state) (G .holding .owned) (ap is-outside (sym at-place) ∙ e)
 
-      module _ (inside : is-outside v ≡ false) (m : ℕ) (is : (d : ℕ) → ModuleIs m x d) where
+      module _ (inside : is-outside v ≡ false) (m : ℕ) (is : m ≡ inst-module x) where
         inside-place : is-outside (place-value (names-of names used) (the .place)) ≡ false
         inside-place = ap is-outside (sym at-place) ∙ inside
 
@@ -78,7 +89,7 @@ module _ (fuel : ℕ) (text kinds mods : List ℕ) (count : ℕ) (x : Bytes) (de
         asks n = ask-walk fuel (decode text) (w .busy) (w .state .kept) n
 
         the-module : m ≡ the .«module»
-        the-module = is depth the shown
+        the-module = is ∙ module-is x depth the shown
 
         pub summary-full : asks m ≡ full → stepping (w .item) ≡ full
         summary-full e =
@@ -151,12 +162,12 @@ module _ (text kinds mods : List ℕ) (count m : ℕ) (k : List ℕ) (kept : Kep
         back asked.Empty k
         (answered [] kept, ask-missing (fuel - 1) (decode text) busy kept m (missing text kinds mods count m t h), refl, keeps)
 
-    module _ (there : m < count) (s : S.State) (says : (kept : Kept) (busy : List ℕ) → Keeps k kept busy → m < 32 → Says s k m kept busy) where
+    module _ (there : m < count) (s : S.State) (is : s ≡ state-of k m) where
       small : m < 32
       small = let h = few text kinds mods count t in omega arith
 
       said : (y : S.State) → s ≡ y → Says y k m kept busy
-      said y e = subst (λ (z : S.State). Says z k m kept busy) e (says kept busy keeps small)
+      said y e = subst (λ (z : S.State). Says z k m kept busy) (sym is ∙ e) (state-says keeps m small)
 
       abbrev it : (x : Module) × (getElem? (decode text) m ≡ some x)
       it = found text kinds mods count m t there
@@ -196,16 +207,16 @@ module _ (text kinds mods : List ℕ) (count m : ℕ) (k : List ℕ) (kept : Kep
       tells y e = subst (λ (z : N.Named). NamesAre z names (name-table (own-vals this) this)) e (are this (module-here text kinds mods count m this t is-there))
 
       pub make-outside : r ≡ named.Outside → asking (suc fuel) ≡ full
-      make-outside e = ask-outside fuel (decode text) busy kept m this is-there new free (tells named.Outside e)
+      make-outside e = ask-outside fuel (decode text) busy kept m this is-there new free (is-refused _ (tells named.Outside e .0))
 
       module _ (used : ℕ) (in-use : r ≡ named.Used used) (g₀ own₀ k₁ : List ℕ) (zeros : Stands g₀ [])
-          (begun : (kept : Kept) (busy : List ℕ) → Keeps k kept busy → m < 32 → kept-summary kept m ≡ none → Keeps k₁ kept (m ∷ busy))
+          (begun : k₁ ≡ set k m 1)
           (run : Bytes) (runs : run ≡ items-run text mods m) (base : ℕ) (based : base ≡ getD mods (m * 4 + 2) 0 - 1) (ks : List ℕ) (cut : ks ≡ take 256 (drop (m * 256) kinds)) where
         abbrev world : World
         world = record { header = this .header; items = this .items; state = begin kept; busy = m ∷ busy }
 
         table-in : name-table (own-vals this) this .out ≡ false
-        table-in = tells (named.Used used) in-use .1
+        table-in = not-refused _ (tells (named.Used used) in-use .0)
 
         kinds-told : KindsOf ks (this .header)
         kinds-told = subst (λ (y : List ℕ). KindsOf y (this .header)) (sym cut) (kinds-here text kinds mods count m this t is-there)
@@ -220,8 +231,8 @@ module _ (text kinds mods : List ℕ) (count m : ℕ) (k : List ℕ) (kept : Kep
               run = run-of;
               part = subst (λ (y : Bytes). PartOf text base y) (sym runs) (subst (λ (b : ℕ). PartOf text b (items-run text mods m)) (sym based) (run-here text kinds mods count m this t is-there .1));
               told = kinds-told;
-              room = tells (named.Used used) in-use .2;
-              holding = record { owned = tt; stands = zeros; keeps = begun kept busy keeps low new };
+              room = tells (named.Used used) in-use .1 .1;
+              holding = record { owned = tt; stands = zeros; keeps = began keeps m low new begun };
             }
 
         abbrev walked-by : Names → Got (Walked State)
@@ -232,7 +243,7 @@ module _ (text kinds mods : List ℕ) (count m : ℕ) (k : List ℕ) (kept : Kep
             → Ends v (mode false false) text own′ g′ k′ (w .busy) (walk-of fuel text (mode false false) w (names-of names used) 4096)) where
           walks-as : Ends v (mode false false) text own′ g′ k′ (m ∷ busy) (walked-by (name-table (own-vals this) this .names))
           walks-as =
-              subst (λ (ns : Names). Ends v (mode false false) text own′ g′ k′ (m ∷ busy) (walked-by ns)) (tells (named.Used used) in-use .0)
+              subst (λ (ns : Names). Ends v (mode false false) text own′ g′ k′ (m ∷ busy) (walked-by ns)) (tells (named.Used used) in-use .1 .0)
               (subst
               (λ (step : Names → Item → State → Got State). Ends v (mode false false) text own′ g′ k′ (m ∷ busy) (walk-items (this .items) step (names-of names used) 4096 (begin kept)))
               (λ j. λ ns i st. unbound (ask-walk fuel (decode text) (m ∷ busy)) (this .header) false (this .bound) ns i st j)

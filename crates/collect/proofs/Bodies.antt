@@ -20,16 +20,17 @@ use Rattle.graph.proofs.Stands.{stands-within}
 use Rattle.consteval.specs.Worth.{signed, names-of, room, pushed}
 use Rattle.consteval.proofs.FillLaws.{pushed-length}
 use Rattle.consteval.proofs.TableLaws.{names-pushed}
-use Rattle.runs.specs.Run.{third-end, Run, ShowsItem, RunOf}
+use Rattle.runs.specs.Run.{first-end, second-end, Run, ShowsItem, RunOf}
 use Rattle.runs.specs.Run as run
 use Rattle.runs.proofs.Inside.{InRepeat, in-repeat, in-const-if, piece-length}
 use Rattle.walk.specs.Walk.{Got, full, then-go, Walked, Walks, walk-rounds, walk-repeat, walk-inner, walk-items, State, ask-walk}
-use Rattle.steps.specs.Steps.{TimesAre, ChosenIs, taken}
+use Rattle.steps.specs.Steps.{body-at, value-between, times-of, RoundsFit, TimesAre, branch-of, taken, ChosenIs}
 use Rattle.steps.specs.declared.Head.the-variants as head
 use Rattle.steps.specs.declared.Times as T
 use Rattle.steps.specs.declared.Times.the-variants as times
 use Rattle.steps.specs.declared.Chosen as C
 use Rattle.steps.specs.declared.Chosen.the-variants as chosen
+use Rattle.steps.proofs.StepLaws.{is-refused, not-refused, times-are, body-is, branch-is}
 use Rattle.steps.proofs.Ways.{repeat-never, repeat-once, repeat-rounds, inner-repeat, inner-const-if, next-value}
 use Rattle.collect.specs.declared.Walked as W
 use Rattle.collect.specs.declared.Walked.the-variants as walks
@@ -130,19 +131,19 @@ module _ (fuel : ℕ) (mo : Mode) (text kinds mods : List ℕ) (count : ℕ) (x 
   abbrev walks-body : (w : Single) → Repeated w → Walks State
   walks-body w G = λ names′ left′ st′. walk-items (body-of w G) (step-of fuel text mo (w .header) (w .busy)) names′ left′ st′
 
-  module _ (r : T.Times) (told : (n : ℕ) (low high : Expr) (is : Items) → ShowsItem x depth (repeat n low high is)
-      → TimesAre r left₀ n (value (names-of names₀ used) low) (value (names-of names₀ used) high)) where
+  module _ (r : T.Times) (told : (r ≡ times-of x depth (names-of names₀ used) left₀)
+      × RoundsFit r (value-between x (first-end x) (second-end x) depth (names-of names₀ used))) where
     told-as : (t : T.Times) → r ≡ t → (w : Single) (G : Repeated w)
         → TimesAre t left₀ (G .head .0) (value (names-of names₀ used) (G .head .1)) (value (names-of names₀ used) (G .head .2))
     told-as t e w G =
         subst (λ (y : T.Times). TimesAre y left₀ (G .head .0) (value (names-of names₀ used) (G .head .1)) (value (names-of names₀ used) (G .head .2))) e
-        (told (G .head .0) (G .head .1) (G .head .2) (G .head .3) (shown w G))
+        (times-are x depth (names-of names₀ used) left₀ r (told .0) (told .1) (G .head .0) (G .head .1) (G .head .2) (G .head .3) (shown w G))
 
     pub bounds-outside : r ≡ times.Outside → (w : Single) → Repeated w → one w ≡ full
     bounds-outside e w G =
         as-item w G
         ∙ repeat-full fuel mo text own₀ g₀ k₀ (w .header) (w .busy) (names-of names₀ used) left₀ (w .state) (G .holding) (G .head .0) (G .head .1) (G .head .2) (G .head .3)
-        (told-as times.Outside e w G)
+        (is-refused _ (told-as times.Outside e w G .0))
 
     abbrev repeats : (w : Single) → Repeated w → Got (Walked State)
     repeats w G =
@@ -158,18 +159,18 @@ module _ (fuel : ℕ) (mo : Mode) (text kinds mods : List ℕ) (count : ℕ) (x 
     no-round e w G =
         let t = told-as times.Never e w G in (
           w .state,
-          one-repeats w G (t .0)
+          one-repeats w G (not-refused _ (t .0))
               ∙ repeat-never (walks-body w G) (G .head .0) (names-of names₀ used) left₀ (w .state) (value (names-of names₀ used) (G .head .1)) (value (names-of names₀ used) (G .head .2)) (t .1),
           G .holding,
         )
 
-    module _ (a : ℕ) (at-body : (d n : ℕ) (low high : Expr) (is : Items) → ShowsItem x d (repeat n low high is) → a ≡ third-end x) (within : a ≤ length x) (body : Bytes) (cut : body ≡ drop a x) where
+    module _ (a : ℕ) (at-body : a ≡ body-at x) (body : Bytes) (cut : body ≡ drop a x) where
       abbrev inner : (w : Single) → Repeated w → World
       inner w G = record { header = w .header; items = body-of w G; state = w .state; busy = w .busy }
 
       body-run : (w : Single) (G : Repeated w) → RunOf (depth - 1) body (body-of w G)
       body-run w G =
-          let e = at-body depth (G .head .0) (G .head .1) (G .head .2) (G .head .3) (shown w G) in
+          let e = at-body ∙ body-is x depth (G .head .0) (G .head .1) (G .head .2) (G .head .3) (shown w G) in
           subst (λ (y : Bytes). RunOf (depth - 1) y (body-of w G)) (sym (cut ∙ ap (λ (n : ℕ). drop n x) e)) (in-it w G .body)
 
       -- the body is walked with so many names
@@ -179,7 +180,7 @@ module _ (fuel : ℕ) (mo : Mode) (text kinds mods : List ℕ) (count : ℕ) (x 
           record {
             tabled = G .tabled;
             run = body-run w G;
-            part = subst (λ (y : Bytes). PartOf text (from + a) y) (sym cut) (part-drop text from x (G .part) a within);
+            part = subst (λ (y : Bytes). PartOf text (from + a) y) (sym cut) (part-drop text from x (G .part) a (omega arith));
             told = G .told;
             room = fits;
             holding = G .holding;
@@ -194,17 +195,17 @@ module _ (fuel : ℕ) (mo : Mode) (text kinds mods : List ℕ) (count : ℕ) (x 
           let d = in-it w G .deeper in
           let m = G .room in
           let q =
-          one-repeats w G (t .0)
+          one-repeats w G (not-refused _ (t .0))
           ∙ repeat-once (walks-body w G) (G .head .0) (names-of names₀ used) left₀ (w .state) (value (names-of names₀ used) (G .head .1)) (value (names-of names₀ used) (G .head .2)) (t .1)
           in
           subst (λ (y : Got (Walked State)). Ends b mo text own′ g′ k′ (w .busy) y) (sym q) (f (inner w G) (given-body used w G (omega arith)))
 
       module _ (n low total : ℕ) (rounds-told : r ≡ times.Rounds n low total) where
         pub never-short : left₀ < total → (w : Single) → Repeated w → one w ≡ full
-        never-short h w G = let t = told-as (times.Rounds n low total) rounds-told w G in let q = t .3 in absurd (omega arith)
+        never-short h w G = let t = told-as (times.Rounds n low total) rounds-told w G in let q = t .1 .2 in absurd (omega arith)
 
         pub never-wide : 4294967295 - low < total → (w : Single) → Repeated w → one w ≡ full
-        never-wide h w G = let t = told-as (times.Rounds n low total) rounds-told w G in let q = t .4 in absurd (omega arith)
+        never-wide h w G = let t = told-as (times.Rounds n low total) rounds-told w G in let q = t .1 .3 in absurd (omega arith)
 
         -- the rounds are walked, with one name more than are used
         pub rounds-done : (b : W.Walked) (own′ g′ k′ : List ℕ)
@@ -216,9 +217,9 @@ module _ (fuel : ℕ) (mo : Mode) (text kinds mods : List ℕ) (count : ℕ) (x 
             let d = in-it w G .deeper in
             let m = G .room in
             let q =
-            one-repeats w G (t .0)
-            ∙ repeat-rounds (walks-body w G) (G .head .0) (names-of names₀ used) left₀ (w .state) (value (names-of names₀ used) (G .head .1)) (value (names-of names₀ used) (G .head .2)) (t .1) .0
-            ∙ ap (λ (v : ℕ). walk-rounds (walks-body w G) v (signed low) total (names-of names₀ used) (left₀ - total) (w .state)) (sym (t .2))
+            one-repeats w G (not-refused _ (t .0))
+            ∙ repeat-rounds (walks-body w G) (G .head .0) (names-of names₀ used) left₀ (w .state) (value (names-of names₀ used) (G .head .1)) (value (names-of names₀ used) (G .head .2)) (t .1 .0) .0
+            ∙ ap (λ (v : ℕ). walk-rounds (walks-body w G) v (signed low) total (names-of names₀ used) (left₀ - total) (w .state)) (sym (t .1 .1))
             in
             subst (λ (y : Got (Walked State)). Ends b mo text own′ g′ k′ (w .busy) y) (sym q)
             (f (inner w G) (given-body (used + 1) w G (omega arith)))
@@ -373,26 +374,26 @@ module _ (fuel : ℕ) (mo : Mode) (text kinds mods : List ℕ) (count : ℕ) (x 
       ap (λ (i : Item). then-go (step-of fuel text mo (w .header) (w .busy) (names-of names₀ used) i (w .state))
       (λ s. walk-inner i (step-of fuel text mo (w .header) (w .busy)) (names-of names₀ used) left₀ s)) (G .head .3)
 
-  module _ (r : C.Chosen) (told : (c : Expr) (is js : Items) → ShowsItem x depth (const-if c is js) → ChosenIs r x depth (value (names-of names₀ used) c) is js) where
+  module _ (r : C.Chosen) (told : r ≡ branch-of x depth (names-of names₀ used)) where
     chosen-as : (t : C.Chosen) → r ≡ t → (w : Single) (G : Branching w) → ChosenIs t x depth (value (names-of names₀ used) (G .head .0)) (G .head .1) (G .head .2)
     chosen-as t e w G =
         subst (λ (y : C.Chosen). ChosenIs y x depth (value (names-of names₀ used) (G .head .0)) (G .head .1) (G .head .2)) e
-        (told (G .head .0) (G .head .1) (G .head .2) (shown-if w G))
+        (branch-is x depth (names-of names₀ used) r told (G .head .0) (G .head .1) (G .head .2) (shown-if w G))
 
     pub test-outside : r ≡ chosen.Outside → (w : Single) → Branching w → branches w ≡ full
     test-outside e w G =
         as-branch w G
         ∙ branch-outside fuel mo text own₀ g₀ k₀ (w .header) (w .busy) (names-of names₀ used) left₀ (w .state) (G .holding) (G .head .0) (G .head .1) (G .head .2)
-        (chosen-as chosen.Outside e w G)
+        (is-refused _ (chosen-as chosen.Outside e w G .0))
 
     module _ (a b : ℕ) (runs : r ≡ chosen.Run a b) where
       begins : (w : Single) → Branching w → a < length x
       begins w G =
           let t = chosen-as (chosen.Run a b) runs w G in
-          let n = run-some _ _ (t .3 .run) in
+          let n = run-some _ _ (t .1 .2 .run) in
           let m = piece-length x a b in
-          let q = t .1 in
-          let p = t .2 in
+          let q = t .1 .0 in
+          let p = t .1 .1 in
           omega arith
 
       pub branch-some : length x ≤ a → (w : Single) → Branching w → branches w ≡ full
@@ -406,7 +407,7 @@ module _ (fuel : ℕ) (mo : Mode) (text kinds mods : List ℕ) (count : ℕ) (x 
           let t = chosen-as (chosen.Run a b) runs w G in
           let q =
           as-branch w G
-          ∙ branch-walk fuel mo text own₀ g₀ k₀ (w .header) (w .busy) (names-of names₀ used) left₀ (w .state) (G .holding) (G .head .0) (G .head .1) (G .head .2) (t .0)
+          ∙ branch-walk fuel mo text own₀ g₀ k₀ (w .header) (w .busy) (names-of names₀ used) left₀ (w .state) (G .holding) (G .head .0) (G .head .1) (G .head .2) (not-refused _ (t .0))
           in
           let m = G .room in
           let p = begins w G in
@@ -414,7 +415,7 @@ module _ (fuel : ℕ) (mo : Mode) (text kinds mods : List ℕ) (count : ℕ) (x 
           (f (record { header = w .header; items = taken (value (names-of names₀ used) (G .head .0)) (G .head .1) (G .head .2); state = w .state; busy = w .busy })
           (record {
             tabled = G .tabled;
-            run = subst (λ (z : Bytes). RunOf (depth - 2) z (taken (value (names-of names₀ used) (G .head .0)) (G .head .1) (G .head .2))) (sym cut) (t .3);
+            run = subst (λ (z : Bytes). RunOf (depth - 2) z (taken (value (names-of names₀ used) (G .head .0)) (G .head .1) (G .head .2))) (sym cut) (t .1 .2);
             part = subst (λ (z : Bytes). PartOf text (from + a + 1) z) (sym cut) (part-piece text from x (G .part) a b (omega arith));
             told = G .told;
             room = omega arith;

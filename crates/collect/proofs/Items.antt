@@ -15,9 +15,10 @@ use Rattle.consteval.specs.Worth.{names-of}
 use Rattle.runs.specs.Run.{ShowsItem, form-length}
 use Rattle.runs.proofs.Items.{item-end, FirstOf, first-of-run}
 use Rattle.walk.specs.Walk.{Got, full, Walked, State, ask-walk}
-use Rattle.steps.specs.Steps.{HeadIs}
+use Rattle.steps.specs.Steps.{head-of, HeadIs}
 use Rattle.steps.specs.declared.Head as H
 use Rattle.steps.specs.declared.Head.the-variants as head
+use Rattle.steps.proofs.HeadLaws.{head-is}
 use Rattle.collect.specs.declared.Walked as W
 use Rattle.collect.specs.declared.Walked.the-variants as walks
 use Rattle.collect.specs.Cycle.{PartOf, Mode, World, Single, Given, OneGiven, Ends, RoundsWithin, OwnKept, Stepped, Framed, PlainEnds, step-of, walk-of, one-of}
@@ -173,7 +174,7 @@ module _ (fuel : ℕ) (mo : Mode) (text kinds mods : List ℕ) (count : ℕ) (s 
 
 -- ---- one item, by its head
 
-module _ (fuel : ℕ) (mo : Mode) (text kinds mods : List ℕ) (count : ℕ) (x : Bytes) (from depth : ℕ) (ks names : List ℕ) (used left : ℕ) (own g k : List ℕ) (r : H.Head) (told : (i : Item) (d : ℕ) → ShowsItem x d i → HeadIs r i) where
+module _ (fuel : ℕ) (mo : Mode) (text kinds mods : List ℕ) (count : ℕ) (x : Bytes) (from depth : ℕ) (ks names : List ℕ) (used left : ℕ) (own g k : List ℕ) (r : H.Head) (told : r ≡ head-of x) where
   abbrev Is : H.Head → Single → Type 0
   Is h w = OneGiven h mo text kinds mods count x from depth ks names used own g k w
 
@@ -186,7 +187,7 @@ module _ (fuel : ℕ) (mo : Mode) (text kinds mods : List ℕ) (count : ℕ) (x 
       record {
         tabled = G .tabled;
         shows = G .shows;
-        head = subst (λ (y : H.Head). HeadIs y (w .item)) e (told (w .item) depth (G .shows));
+        head = subst (λ (y : H.Head). HeadIs y (w .item)) (sym told ∙ e) (head-is x (w .item) depth (G .shows));
         part = G .part;
         told = G .told;
         room = G .room;

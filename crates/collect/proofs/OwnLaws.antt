@@ -19,6 +19,7 @@ use Rattle.walk.specs.Walk.{full, no-own, own-walk, walk-module}
 use Rattle.steps.specs.Modules.{name-places, named-by, table-by, NamesAre}
 use Rattle.steps.specs.declared.modules.Named.{Named}
 use Rattle.steps.specs.declared.modules.Named.the-variants as named
+use Rattle.steps.proofs.StepLaws.{is-refused, not-refused}
 use Rattle.items.specs.Held.{Held}
 use Rattle.collect.specs.declared.Walked as W
 use Rattle.collect.specs.declared.Walked.the-variants as walks
@@ -47,7 +48,7 @@ module _ {text kinds mods : List ℕ} {count m : ℕ} {names own g k : List ℕ}
   -- what filling the name table leaves
   module _ (names′ : List ℕ) (r : Named) (f : (j : Module) → ModuleAt text mods m j → name-places ≤ length names → NamesAre r names′ (name-table (own-vals j) j)) where
     pub own-outside : r ≡ named.Outside → own-walk (decode text) x kept ≡ full
-    own-outside e = walk-out (subst (λ (n : Named). NamesAre n names′ T) e (f x here (C .named)))
+    own-outside e = walk-out (is-refused _ (subst (λ (n : Named). NamesAre n names′ T) e (f x here (C .named)) .0))
 
     module _ {used : ℕ} (e : r ≡ named.Used used) (own′ g′ : List ℕ) (held : length own ≡ places → (t : Bytes) → Held t own′ no-own)
         (empty : graph-places ≤ length g → Stands g′ []) where
@@ -59,9 +60,9 @@ module _ {text kinds mods : List ℕ} {count m : ℕ} {names own g k : List ℕ}
           record {
             tabled = C .tabled;
             there = C .there;
-            inside = filled .1;
-            named = filled .0;
-            room = filled .2;
+            inside = not-refused _ (filled .0);
+            named = filled .1 .0;
+            room = filled .1 .1;
             held = held (C .owned) text;
             stands = empty (C .graphed);
             keeps = C .keeps;
@@ -78,7 +79,7 @@ module _ {text kinds mods : List ℕ} {count m : ℕ} {names own g k : List ℕ}
         own-left {left} q names″ framed =
             let ends : Ends (walks.Left left) (mode true (x .bound)) text own″ g″ k″ [] (own-walk (decode text) x kept) =
             subst (λ (y : W.Walked). Ends y (mode true (x .bound)) text own″ g″ k″ [] (own-walk (decode text) x kept)) q (walk x kept given) in
-            (ends .0, ends .1, ends .2, names-framed used names′ names″ framed ∙ filled .0)
+            (ends .0, ends .1, ends .2, names-framed used names′ names″ framed ∙ filled .1 .0)
 
 -- ---- what the slices become
 

@@ -19,7 +19,8 @@ use Rattle.edges.specs.Lines.{WireHeads, DriveHeads, InstHeads}
 use Rattle.runs.specs.Run.{ShowsItem}
 use Rattle.steps.specs.Steps.{plain}
 use Rattle.items.specs.Held.{OwnAfter}
-use Rattle.items.specs.Lines.{OwnLine, OutsideIs}
+use Rattle.items.specs.Lines.{OwnLine, drive-outside, OutsideIs}
+use Rattle.items.proofs.LineLaws.{outside-means}
 use Rattle.walk.specs.Walk.{full, going, unless, Own, own-line, over-own, own-step, line-step}
 use Rattle.collect.specs.Cycle.{Mode, mode, walking-of, OwnIs, state-of, PlainEnds}
 use Rattle.collect.specs.Plain.{LineHeads, PlainLine}
@@ -154,12 +155,15 @@ module _ (x : Bytes) (from d : ℕ) (ks : List ℕ) (checking bound : Bool) (nam
 
   -- in a summary's walk
   module _ (summary : checking ≡ false) where
-    pub outside-refused : (r : Bool) → r ≡ true → OutsideIs r x d ks names → PlainLine false x from d ks checking bound names own g own g
-    outside-refused r e f = subst (λ (b : Bool). PlainLine false x from d ks b bound names own g own g) (sym summary)
-        (λ text i p t st header k o h hs s ask kept. step-outside ask (walking-of (mode false bound) header) names i (state-of o hs kept) (sym (f i p t header k) ∙ e))
+    told : (r : Bool) → r ≡ drive-outside x d ks names → OutsideIs r x d ks names
+    told r q i p t header k = q ∙ outside-means x d ks names i p t header k
 
-    pub outside-headed : (r : Bool) → r ≡ false → OutsideIs r x d ks names → (q : Bool) (g′ : List ℕ) → LineHeads q x d ks names g g′
+    pub outside-refused : (r : Bool) → r ≡ true → r ≡ drive-outside x d ks names → PlainLine false x from d ks checking bound names own g own g
+    outside-refused r e f = subst (λ (b : Bool). PlainLine false x from d ks b bound names own g own g) (sym summary)
+        (λ text i p t st header k o h hs s ask kept. step-outside ask (walking-of (mode false bound) header) names i (state-of o hs kept) (sym (told r f i p t header k) ∙ e))
+
+    pub outside-headed : (r : Bool) → r ≡ false → r ≡ drive-outside x d ks names → (q : Bool) (g′ : List ℕ) → LineHeads q x d ks names g g′
         → PlainLine q x from d ks checking bound names own g own g′
     outside-headed r e f q g′ l = subst (λ (b : Bool). PlainLine q x from d ks b bound names own g own g′) (sym summary)
         (λ text i p t st header k o h hs s.
-        headed (mode false bound) text own g′ header names i o o hs t (sym (f i p t header k) ∙ e) (own-none bound header names i o) h q (l i p t header k hs s))
+        headed (mode false bound) text own g′ header names i o o hs t (sym (told r f i p t header k) ∙ e) (own-none bound header names i o) h q (l i p t header k hs s))

@@ -9,7 +9,7 @@ use lib.ListN.{length, take, drop, getD, replicate}
 use Rattle.spec.specs.Bytes.{Bytes}
 use Rattle.spec.specs.Syntax.{Item, Items, Header}
 use Rattle.spec.specs.Refusal.{refusal, well-formed, decode}
-use Rattle.spec.specs.Cleared.{Cleared}
+use Rattle.spec.specs.Cleared.{Cleared, by-number}
 use Rattle.spec.specs.Value.{Names}
 use Rattle.spec.specs.Edge.{Head}
 use Rattle.spec.specs.Summary.{Kept}
@@ -120,10 +120,20 @@ abbrev pub turns-of : ℕ → Bytes → Mode → World → (n low rounds : ℕ) 
 turns-of fuel text mo w n low rounds names left =
     walk-rounds (λ names′ left′ st. walk-items (w .items) (step-of fuel text mo (w .header) (w .busy)) names′ left′ st) n (signed low) rounds names left (w .state)
 
+-- 01, Refused because of the state: the number that the whole check gives where a walk is full; 0 where it goes on
+abbrev pub walk-number : W.Walked → ℕ
+walk-number (walks.Left l) = 0
+walk-number walks.Full = 20
+
+-- 01, The collected item: of the rounds, those that a walk leaves; 0 where it is full
+abbrev pub rounds-left : W.Walked → ℕ
+rounds-left (walks.Left l) = l
+rounds-left walks.Full = 0
+
 -- 01, The collected item; Refused because of the state: what a walk leaves: the rounds left and the state, or it is full
 abbrev pub Ends : W.Walked → Mode → (text own g k : List ℕ) → List ℕ → Got (Walked State) → Type 0
-Ends (walks.Left l) mo text own g k busy x = (st : State) × (x ≡ going (walked l st)) × Holding mo text own g k busy st
-Ends walks.Full mo text own g k busy x = x ≡ full
+Ends r mo text own g k busy x =
+    by-number (walk-number r) ((st : State) × (x ≡ going (walked (rounds-left r) st)) × Holding mo text own g k busy st) (x ≡ full)
 
 -- 01, The collected item: the rounds left never grow
 abbrev pub RoundsWithin : W.Walked → ℕ → Type 0
@@ -138,8 +148,7 @@ OwnKept false own own′ = own′ ≡ own
 -- 01, Refused because of the state; Worthless checks: the tables that a walk fills, whatever was lent: where it is full every place is 0; where it is
 -- not, `OwnKept` is what is said with no condition, and `Ends` says the rest
 abbrev pub WalkLeaves : W.Walked → Bool → (own own′ g′ k′ : List ℕ) → Type 0
-WalkLeaves (walks.Left l) checking own own′ g′ k′ = OwnKept checking own own′
-WalkLeaves walks.Full checking own own′ g′ k′ = Cleared own′ × Cleared g′ × Cleared k′
+WalkLeaves r checking own own′ g′ k′ = by-number (walk-number r) (OwnKept checking own own′) (Cleared own′ × Cleared g′ × Cleared k′)
 
 -- 01, The collected item: the variable's old value returns afterwards: the names that are used stay as they are, full or not; what stands behind them
 -- is free
@@ -171,8 +180,13 @@ AskedFor asked.Empty k m busy x = (a : Answered) × (x ≡ going a) × (a .summa
 AskedFor asked.Kept k m busy x = (a : Answered) × (x ≡ going a) × Alike (pairs-of k m) (a .summary) × Keeps k (a .kept) busy × (m < 32)
 AskedFor asked.Full k m busy x = x ≡ full
 
+-- 01, Refused because of the state: the number that the whole check gives where a summary asked for is not made, since a limit is passed or a constant is
+-- outside INT; else 0
+abbrev pub asked-number : A.Asked → ℕ
+asked-number asked.Empty = 0
+asked-number asked.Kept = 0
+asked-number asked.Full = 20
+
 -- 01, Refused because of the state; Worthless checks: where a limit is passed or a constant is outside INT, every place of the table of summaries is 0
 abbrev pub AskLeaves : A.Asked → List ℕ → Type 0
-AskLeaves asked.Empty k = Unit {0}
-AskLeaves asked.Kept k = Unit {0}
-AskLeaves asked.Full k = Cleared k
+AskLeaves r k = by-number (asked-number r) (Unit {0}) (Cleared k)

@@ -12,7 +12,7 @@ use Rattle.spec.specs.Decode.{depth-limit}
 use Rattle.spec.specs.Refusal.{decode}
 use Rattle.spec.specs.Value.{own-vals, name-table}
 use Rattle.spec.specs.Summary.{Kept}
-use Rattle.spec.specs.Cleared.{Cleared}
+use Rattle.spec.specs.Cleared.{Cleared, by-number}
 use Rattle.consteval.specs.Worth.{names-of}
 use Rattle.graph.specs.Stands.{graph-places, Stands}
 use Rattle.sites.specs.Own.{places}
@@ -35,14 +35,6 @@ pub record ModuleGiven (text kinds mods : List ℕ) (count m : ℕ) (names own g
   pub graphed : graph-places ≤ length g
   pub keeps : Keeps k kept []
 
--- 01, The value; The collected item; The site; The block; The edge: the module's name table, the rounds left, and the state of the walk, which the
--- words hold: own tables, graph and summaries; or the walk is full. What stands behind the names that are used,
--- behind the count of a table or the places of a graph, and in the table of conflicts, is free.
-abbrev pub Collects : Collected → (text names own g k : List ℕ) → Module → Got (Walked State) → Type 0
-Collects (collected.Left used left) text names own g k x y =
-    (st : State) × (y ≡ going (walked left st)) × Holding (mode true (x .bound)) text own g k [] st × (names-of names used ≡ name-table (own-vals x) x .names)
-Collects collected.Full text names own g k x y = y ≡ full
-
 -- 01, Refused because of the state: the number that the whole check gives where a module is full; 0 where there is none yet
 abbrev pub number-of : Collected → ℕ
 number-of (collected.Left used left) = 0
@@ -53,12 +45,25 @@ abbrev pub left-of : Collected → ℕ
 left-of (collected.Left used left) = left
 left-of collected.Full = 0
 
+-- 01, The value: how many names the module's table has; 0 where the module is full
+abbrev pub used-of : Collected → ℕ
+used-of (collected.Left used left) = used
+used-of collected.Full = 0
+
+-- 01, The value; The collected item; The site; The block; The edge: the module's name table, the rounds left, and the state of the walk, which the
+-- words hold: own tables, graph and summaries; or the walk is full. What stands behind the names that are used,
+-- behind the count of a table or the places of a graph, and in the table of conflicts, is free.
+abbrev pub Collects : Collected → (text names own g k : List ℕ) → Module → Got (Walked State) → Type 0
+Collects r text names own g k x y =
+    by-number (number-of r)
+    ((st : State) × (y ≡ going (walked (left-of r) st)) × Holding (mode true (x .bound)) text own g k [] st × (names-of names (used-of r) ≡ name-table (own-vals x) x .names))
+    (y ≡ full)
+
 -- 01, The value; Refused because of the state: where the number is not 20 the names in use are those that filling the table from the lines of module m
 -- gives; else every place is 0
 abbrev pub NamesAfter : Collected → (text mods : List ℕ) → ℕ → (names names′ : List ℕ) → Type 0
-NamesAfter (collected.Left used left) text mods m names names′ =
-    (named-by text mods m names ≡ named.Used used) × Framed used (table-by text mods m names) names′
-NamesAfter collected.Full text mods m names names′ = Cleared names′
+NamesAfter r text mods m names names′ =
+    by-number (number-of r) ((named-by text mods m names ≡ named.Used (used-of r)) × Framed (used-of r) (table-by text mods m names) names′) (Cleared names′)
 
 -- 01, Worthless checks; Refused because of the state: what every slice that is lent to be written becomes, whatever it held: it keeps its length,
 -- and where the number is 20 each place of it is 0. Elsewhere `Collects` says what own tables, graph and summaries hold; where `ModuleGiven` does not

@@ -6,9 +6,8 @@ ghost use mathlib.Core.Path.{_≡_};
 ghost use Prim.Native.Nat.{_+_, _-_, _*_};
 ghost use lib.ListN.{getD, take, drop};
 ghost use lib.Dec.{ltb};
-ghost use Rattle.spec.specs.Value.{is-outside};
 ghost use Rattle.spec.specs.Cleared.{Cleared};
-ghost use Rattle.consteval.specs.Worth.{worth};
+ghost use Rattle.consteval.specs.Worth.{number-of};
 
 // How many names a module has at most.
 const NAMES: usize = 256;
@@ -38,7 +37,7 @@ pub fn is_bound(mods: &[u32], m: u32) -> bool
 
 // Is the value outside INT?
 pub fn is_outside(v: Value) -> bool
-    ensures { λ r. ⌜ r ≡ is-outside (worth v) ⌝ }
+    ensures { λ r. ⌜ r ≡ ltb 0 (number-of v) ⌝ }
 {
     match v {
         Value::Known(_) => false,

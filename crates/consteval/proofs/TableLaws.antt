@@ -17,8 +17,7 @@ use Rattle.spec.specs.Refusal.{lines, decode-lines, in-int, line-in-range, item
 use Rattle.spec.specs.Value.{Value, known, missing, outside, Names, within, value, Table, val-names, with-value, const-names, name-table, own-vals}
 use Rattle.spec.specs.Constants.{InInt, AllInInt}
 use Rattle.spec.proofs.Constants.{constants}
-use Rattle.lines.specs.Numbers.{biased}
-use Rattle.consteval.specs.Worth.{signed, pairs, names-of, room, pushed}
+use Rattle.consteval.specs.Worth.{signed, pairs, names-of, room, pushed, biased}
 use Rattle.consteval.specs.Fill.{held, val-of-line, const-of-item, const-of-line, Filling, by-entry, vals-of, consts-of, then-consts, fill-of, headers-of, items-of, all-in-range, Right, Fills}
 use Rattle.consteval.proofs.ArithLaws.{signed-low, signed-high}
 use Rattle.consteval.proofs.FillLaws.{pushed-length, put-in, put-full}

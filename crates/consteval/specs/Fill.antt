@@ -12,10 +12,10 @@ use Rattle.spec.specs.Syntax.{Item, Items, port, wire, reg, mem, const, drive, 
 use Rattle.spec.specs.Decode.{decode-line}
 use Rattle.spec.specs.Refusal.{lines, decode-lines, line-in-range}
 use Rattle.spec.specs.Value.{Value, known, missing, outside, Names, within, value, Table, name-table, own-vals}
-use Rattle.lines.specs.Numbers.{biased}
+use Rattle.spec.specs.Cleared.{by-number}
 use Rattle.lines.specs.declared.words.Word.{Word}
 use Rattle.lines.specs.declared.words.Word.the-variants.{N as N-word, F as F-word, Ix as Ix-word, If as If-word, All as All-word, Neg as Neg-word, Not as Not-word, Clog2 as Clog2-word, Add as Add-word, Sub as Sub-word, Mul as Mul-word, Eq as Eq-word, Ne as Ne-word, Lt as Lt-word, Le as Le-word, Gt as Gt-word, Ge as Ge-word, And as And-word, Or as Or-word, Shl as Shl-word, Shr as Shr-word, Band as Band-word, Bor as Bor-word, Bxor as Bxor-word, True as True-word, False as False-word, Bit as Bit-word, Opaque as Opaque-word, Bits as Bits-word, Signed as Signed-word, Lv as Lv-word, Set as Set-word, Default as Default-word, Loop as Loop-word, When as When-word, Then as Then-word, Else as Else-word, Conn as Conn-word, Dash as Dash-word, Port as Port-word, Wire as Wire-word, Reg as Reg-word, Mem as Mem-word, Const as Const-word, Drive as Drive-word, On as On-word, Inst as Inst-word, Repeat as Repeat-word, ConstIf as ConstIf-word, In as In-word, Out as Out-word, Module as Module-word, Kind as Kind-word, Val as Val-word, Bound as Bound-word, Unbound as Unbound-word, Other as Other-word}
-use Rattle.consteval.specs.Worth.{names-of, room, pushed}
+use Rattle.consteval.specs.Worth.{names-of, room, pushed, biased}
 use Rattle.consteval.specs.declared.fill.Filled.{Filled}
 use Rattle.consteval.specs.declared.fill.Filled.the-variants.{Used, Outside as Left, Short, Bad as Wrong}
 use Rattle.consteval.specs.declared.fill.Entry.{Entry}
@@ -188,14 +188,32 @@ unfoldable pub all-in-range : List Line → Bool
 all-in-range [] = true
 all-in-range (l ∷ ls) = line-in-range l && all-in-range ls
 
+-- 01, Refused because of the state: 20 where a constant is outside INT or the table is too small, 0 where it is filled; `Bad` is no answer of lines
+-- in range, and counts as 20 too
+abbrev pub number-of : Filled → ℕ
+number-of (Used n) = 0
+number-of Left = 20
+number-of Short = 20
+number-of Wrong = 20
+
+-- 01, The value: how many pairs are used; 0 where the number is 20
+abbrev pub used-of : Filled → ℕ
+used-of (Used n) = n
+used-of Left = 0
+used-of Short = 0
+used-of Wrong = 0
+
+-- 01, Refused because of the state: why the number is 20: a constant is outside INT, or there are more names than places for pairs
+abbrev pub Stopped : Filled → List ℕ → Table → Type 0
+Stopped (Used n) t T = ⊥
+Stopped Left t T = T .out ≡ true
+Stopped Short t T = length t / 2 < length (T .names)
+Stopped Wrong t T = ⊥
+
 -- 01, The value; Refused because of the state: an answer and the table that is left, against the specification's name table: the used pairs, which
--- have their places, are its names, and no constant is outside INT; or one is; or it has more names than there are places for pairs; `Bad` is no
--- answer
+-- have their places, are its names, and no constant is outside INT; or the number is 20
 abbrev pub Right : Filled → List ℕ → Table → Type 0
-Right (Used n) t T = (names-of t n ≡ T .names) × (T .out ≡ false) × (n ≤ length t / 2)
-Right Left t T = T .out ≡ true
-Right Short t T = length t / 2 < length (T .names)
-Right Wrong t T = ⊥
+Right r t T = by-number (number-of r) ((names-of t (used-of r) ≡ T .names) × (T .out ≡ false) × (used-of r ≤ length t / 2)) (Stopped r t T)
 
 -- 01, The value; Refused because of the state: the theorem: of lines in range the table is the name table of their module, a constant is outside INT,
 -- or the table is too small

@@ -3,8 +3,8 @@
 -- To a reader: definitions that contracts of this and other crates cite; each such contract is proved; check_drivers' own promise cites none of them.
 use mathlib.Core.Bool.{Bool, true, false}
 use mathlib.Core.List.{List, [], _∷_}
-use Prim.Native.Nat.{ℕ, zero, suc, _+_, _/_, min}
-use lib.IntN.{ℤ, subℕ}
+use Prim.Native.Nat.{ℕ, zero, suc, _+_, _-_, _/_, min}
+use lib.IntN.{ℤ, pos, negsuc, subℕ}
 use lib.ListN.{length, getD, set}
 use lib.Dec.{ltb}
 use Rattle.spec.specs.Syntax.{Unary, neg, not, clog2, Binary, add, sub, mul, eq, ne, lt, le, gt, ge, and, or, shl, shr, band, bor, bxor}
@@ -24,11 +24,22 @@ use Rattle.consteval.specs.declared.shape.Shape.the-variants.{Name, If, 
 abbrev pub signed : ℕ → ℤ
 signed x = subℕ x 2147483648
 
+-- 01, The value: a whole number in INT as the number that holds it, 2147483648 above it
+abbrev pub biased : ℤ → ℕ
+biased (pos n) = n + 2147483648
+biased (negsuc n) = 2147483648 - suc n
+
 -- 01, Forms for specific places; The value; Refused because of the state: the value of each answer: a whole number, none, or outside INT
 abbrev pub worth : Answer → Value
 worth (Known x) = known (signed x)
 worth Missing = missing
 worth Outside = outside
+
+-- 01, Refused because of the state: 20 where the value is outside INT, else 0
+abbrev pub number-of : Answer → ℕ
+number-of (Known x) = 0
+number-of Missing = 0
+number-of Outside = 20
 
 -- 01, The value: the name table of the first k pairs, each a name and what holds its value; they stand the newest last, and are given the newest
 -- first

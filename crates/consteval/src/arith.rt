@@ -83,7 +83,7 @@ fn mul(x: u32, y: u32) -> Value
 }
 
 // How many bits address n items, at least 1.
-pub fn clog2_bits(n: u32) -> u32
+fn clog2_bits(n: u32) -> u32
     ensures { λ r. ⌜ r ≡ clog2-bits n ⌝ }
 {
     if n < 2 {

@@ -2,6 +2,9 @@
 use crate::Value;
 use crate::arith;
 use crate::names;
+use lines::bytes::Class;
+use lines::bytes::class_of;
+use lines::bytes::is_minus;
 use lines::numbers;
 use lines::parts;
 use lines::parts::Pair;
@@ -43,10 +46,13 @@ fn end_of(s: &[u8], at: usize) -> usize
 {
     let mut i = at;
     while i < s.len() {
-        if s[i] == 10 {
-            return i;
+        match class_of(s[i]) {
+            Class::Feed => return i,
+            _ => {
+                i += 1;
+                continue;
+            }
         }
-        i += 1;
     }
     i
 }
@@ -119,7 +125,7 @@ fn role_of(w: Word) -> Role
 fn whole(s: &[u8]) -> Value
     ensures { λ r. ⌜ worth r ≡ within (integer (now (s .entry))) ⌝ }
 {
-    if parts::byte(s, 0) == b'-' {
+    if is_minus(parts::byte(s, 0)) {
         return arith::negative(numbers::value(parts::rest(s, 1)));
     }
     arith::positive(numbers::value(s))

@@ -1,5 +1,6 @@
 // The value of a constant expression, under a name table.
 use crate::shape::Shape;
+use lines::bytes::is_open;
 use lines::numbers;
 use lines::parts;
 use lines::parts::Pair;
@@ -54,7 +55,7 @@ pub fn eval(e: &[u8], depth: u32, names: &[u32], used: usize) -> Value
     if depth == 0 {
         return atom(e);
     }
-    if parts::byte(e, 0) != b'(' {
+    if !is_open(parts::byte(e, 0)) {
         return atom(e);
     }
     let h = parts::part_end(e, 1);

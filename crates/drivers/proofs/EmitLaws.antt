@@ -9,9 +9,8 @@ use lib.Seq.{sets, sets-eq}
 use borrow.Author.Tests.{le-leb}
 use Rattle.spec.specs.Bytes.{Bytes}
 use Rattle.spec.specs.Report.{Report, show-reports, show-report}
-use Rattle.report.specs.Line.{line, report-of, put-by, placed}
+use Rattle.report.specs.Line.{line, report-of, Written, put-by, placed}
 use Rattle.report.specs.declared.Report as report
-use Rattle.report.specs.declared.Put.{Put}
 use Rattle.report.specs.declared.Put.the-variants as put
 use Rattle.report.proofs.Laws.{sets-append, line-length}
 use Rattle.drivers.specs.declared.emit.Place.{Place}
@@ -41,8 +40,8 @@ module _ {write : Bool} {old : Bytes} {p : Place} {s : Bytes} {k n : ℕ} {q : P
         written = λ t. absurd (true≢false (sym t ∙ w));
       }
 
-  pub wrote : {r : Put} {new : Bytes} → write ≡ true → length new ≡ length old → put-by r new ≡ placed old (p .at) s → Appends write old p s k new q
-  wrote {r} {new} w size f i =
+  pub wrote : {a b : ℕ} {new : Bytes} → write ≡ true → length new ≡ length old → _≡_ {A = Written} (record { number = a; end = b; buffer = new }) (placed old (p .at) s) → Appends write old p s k new q
+  wrote {a} {b} {new} w size f i =
       record {
         at = omega arith;
         count = count i;
@@ -60,14 +59,14 @@ module _ {write : Bool} {old : Bytes} {p : Place} {s : Bytes} {n : ℕ} {q : Pla
     pub piece-counted : write ≡ false → Appends write old p s 0 old q
     piece-counted = counted e at (λ i h. omega arith) (λ i. omega (arith, i .end, i .reports))
 
-    pub piece-wrote : {r : Put} {new : Bytes} → write ≡ true → length new ≡ length old → put-by r new ≡ placed old (p .at) s → Appends write old p s 0 new q
+    pub piece-wrote : {a b : ℕ} {new : Bytes} → write ≡ true → length new ≡ length old → _≡_ {A = Written} (record { number = a; end = b; buffer = new }) (placed old (p .at) s) → Appends write old p s 0 new q
     piece-wrote = wrote e at (λ i h. omega arith) (λ i. omega (arith, i .end, i .reports))
 
   module _ (some : 0 < length s) (one : p .reports < q .at → q .reports ≡ p .reports + 1) (few : p .reports ≤ q .at → q .reports ≤ q .at) where
     pub line-counted : write ≡ false → Appends write old p s 1 old q
     line-counted = counted e at (λ i h. one (omega (arith, i .end, i .reports))) (λ i. few (omega (arith, i .end, i .reports)))
 
-    pub line-wrote : {r : Put} {new : Bytes} → write ≡ true → length new ≡ length old → put-by r new ≡ placed old (p .at) s → Appends write old p s 1 new q
+    pub line-wrote : {a b : ℕ} {new : Bytes} → write ≡ true → length new ≡ length old → _≡_ {A = Written} (record { number = a; end = b; buffer = new }) (placed old (p .at) s) → Appends write old p s 1 new q
     line-wrote = wrote e at (λ i h. one (omega (arith, i .end, i .reports))) (λ i. few (omega (arith, i .end, i .reports)))
 
 -- a report's line is that of the one report

@@ -11,6 +11,7 @@ use Rattle.spec.specs.Bytes.{Bytes}
 use Rattle.spec.specs.Syntax.{name-bound, Module}
 use Rattle.spec.specs.Refusal.{decode}
 use Rattle.spec.specs.Summary.{Kept}
+use Rattle.spec.specs.Cleared.{by-number}
 use Rattle.spec.specs.Check.{Lent, Slice, Exit}
 use Rattle.spec.specs.Check as check
 use Rattle.graph.specs.Stands.{graph-places}
@@ -42,22 +43,38 @@ pub record Checking (text kinds mods : List ℕ) (count m : ℕ) (names own g w 
   pub there : getElem? (decode text) m ≡ some x
   pub keeps : Keeps k kept []
 
+-- 01, The report: where the first report goes: the beginning of the buffer, with no report before
+abbrev pub first-place : Place
+first-place = record { at = 0; reports = 0 }
+
+-- 01, Refused because of the state: 20 where a limit is passed or a constant is outside INT; 0 where every module was checked
+abbrev pub number-of : Checked → ℕ
+number-of (checks.Done q rounds) = 0
+number-of checks.Full = 20
+
+-- 01, The report: the place behind the last report; the beginning of the buffer where the number is 20
+abbrev pub place-of : Checked → Place
+place-of (checks.Done q rounds) = q
+place-of checks.Full = first-place
+
+-- 01, The collected item: the rounds taken; 0 where the number is 20
+abbrev pub rounds-of : Checked → ℕ
+rounds-of (checks.Done q rounds) = rounds
+rounds-of checks.Full = 0
+
 -- 01, Refused because of the state; The report: what the check of a module, or of several, leaves: its reports behind the place p, its rounds, and
 -- the summaries kept; or a limit is passed or a constant is outside INT, and then, where p is a place of the buffer, one that is only counted for
 -- is as it was, and one that is written is free, and so are the words k. The other tables are free in both cases: the whole call sets them to 0.
 abbrev pub Tallied : Checked → Bool → Bytes → Place → Bytes → List ℕ → Got Tally → Type 0
-Tallied (checks.Done q rounds) write old p new k x =
-    (t : Tally) × (x ≡ going t) × Emits write old p (t .reports) new q × (rounds ≡ t .rounds) × Keeps k (t .kept) []
-Tallied checks.Full write old p new k x = (x ≡ full) × (Within old p → write ≡ false → new ≡ old)
+Tallied r write old p new k x =
+    by-number (number-of r)
+    ((t : Tally) × (x ≡ going t) × Emits write old p (t .reports) new (place-of r) × (rounds-of r ≡ t .rounds) × Keeps k (t .kept) [])
+    ((x ≡ full) × (Within old p → write ≡ false → new ≡ old))
 
 -- 01, The collected item: each module has 4,096 rounds: its check takes no more
 abbrev pub FewRounds : Checked → Type 0
 FewRounds (checks.Done q rounds) = rounds ≤ 4096
 FewRounds checks.Full = Unit {0}
-
--- 01, The report: where the first report goes: the beginning of the buffer, with no report before
-abbrev pub first-place : Place
-first-place = record { at = 0; reports = 0 }
 
 -- 01, Refused because of the state: the answer, with the report buffer at exit
 abbrev pub answer-of : Answer → Bytes → check.Answer

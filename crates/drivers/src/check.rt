@@ -3,6 +3,7 @@ use crate::emit::Place;
 use crate::groups;
 use crate::groups::Covered;
 use collect::Collected;
+use lines::reader;
 use lines::tables;
 use lines::tables::Read;
 use steps::modules;

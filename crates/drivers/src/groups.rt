@@ -4,6 +4,7 @@ use crate::emit::Place;
 use crate::loops;
 use consteval::Value;
 use consteval::arith;
+use lines::bytes::is_open;
 use lines::parts;
 use report::Detail;
 use report::Report;
@@ -120,7 +121,7 @@ fn width_of(t: &[u8], names: &[u32], used: usize) -> Value
     if c == b'b' {
         return arith::truth(true);
     }
-    if c != b'(' {
+    if !is_open(c) {
         return Value::Missing;
     }
     let h = parts::part_end(t, 1);

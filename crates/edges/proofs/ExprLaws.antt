@@ -1,12 +1,13 @@
 -- What an expression is, by the first bytes that show it, and what its parts read.
 -- Assumes nothing.
 use mathlib.Core.Path.{_≡_, refl, sym, _∙_, ap}
-use mathlib.Core.Bool.{Bool, true, false, or-false}
+use mathlib.Core.Bool.{Bool, true, false, _&&_, or-false, true≢false}
 use mathlib.Core.List.{List, [], _∷_, _++_, append-nil}
 use mathlib.Core.Option.{Option, some, none}
 use Prim.Native.Nat.{ℕ, zero, suc, _≤_, _<_, min}
 use native.Mathlib.Omega.{arith}
 use lib.ListN.{drop, getD}
+use lib.Dec.{eqb}
 use Rattle.spec.specs.Bytes.{Bytes, bytes, number, show-number, show-rest, show-form}
 use Rattle.spec.specs.Syntax.{Kind, reg-kind, mem-kind, inst-kind, neg, not, clog2, add, sub, mul, eq, ne, lt, le, gt, ge, and, or, shl, shr, band, bor, bxor, Expr, Exprs, lit, truth, name, field, index, if-else, unary, binary, all, Header}
 use Rattle.spec.specs.Show.{show-expr, show-exprs}
@@ -14,18 +15,19 @@ use Rattle.spec.specs.Refusal.{expr-in-range, expr-depth}
 use Rattle.spec.specs.Value.{Names}
 use Rattle.spec.specs.Site.{kind-of}
 use Rattle.spec.specs.Edge.{Node, signal, Head, Reads, no-reads, and-reads, expr-reads, exprs-reads, name-reads}
-use Rattle.spec.proofs.Numbers.{Digits, number-digits, number-show}
+use Rattle.spec.proofs.Nodes.{and-parts}
+use Rattle.spec.proofs.Numbers.{Digits, number-digits, number-show, if-case}
 use Rattle.spec.proofs.Parts.{Part, word-part, number-part}
 use Rattle.graph.specs.Stands.{Heading, Read}
 use Rattle.graph.specs.declared.Added as A
 use Rattle.graph.specs.declared.Added.the-variants as added
 use Rattle.edges.specs.Reads.{kind-word, KindsOf, ReadAll}
-use Rattle.edges.specs.Shows.{ShowsExpr, NameRead, NamedBy}
+use Rattle.edges.specs.Shows.{ShowsExpr, NameRead, begins, as-name, name-of, NamedBy}
 use Rattle.edges.proofs.ReadLaws.{read-none, read-one}
 use Rattle.runs.proofs.Inside.{placed}
 use Rattle.edges.specs.declared.Named.the-variants as named
 use Rattle.lines.specs.Parts.{part-end, piece, next-end}
-use borrow.Author.Tests.{ltb-true}
+use borrow.Author.Tests.{ltb-true, eqb-true, eq-eqb, ne-eqb, lt-ltb, le-ltb}
 
 -- 01, The edge: the parts of a form that are read one behind the other: all of them; of a name and of an `f`, which have ways of their own, none
 unfoldable pub children : Expr → Exprs
@@ -142,53 +144,90 @@ module _ (kinds : List ℕ) (m : ℕ) (g : List ℕ) (from : ℕ) {k : ℕ} (q :
     pub name-full : a ≡ added.Full → NameRead false m kinds g g′ from
     name-full e = signal-read false (λ j f. let x : _≡_ {A = ℕ} 0 1 = cc in absurd (omega arith)) (λ f. refl)
 
+-- ---- `begins`
+
+module _ (x : Bytes) (a b : ℕ) where
+  pub begins-closed : (getD x 0 0 ≡ 40 → ⊥) → false ≡ begins x a b
+  unfolding begins
+  begins-closed f = rw (ne-eqb (getD x 0 0) 40 f, begins)
+
+  module _ (e : getD x 0 0 ≡ 40) where
+    pub begins-other : (getD x 1 0 ≡ a → ⊥) → false ≡ begins x a b
+    unfolding begins
+    begins-other f = rw (eq-eqb (getD x 0 0) 40 e, ne-eqb (getD x 1 0) a f, begins)
+
+    pub begins-last : getD x 1 0 ≡ a → {c : ℕ} → c ≡ getD x 2 0 → eqb c b ≡ begins x a b
+    unfolding begins
+    begins-last f q = rw (eq-eqb (getD x 0 0) 40 e, eq-eqb (getD x 1 0) a f, q, begins)
+
+  -- the three bytes
+  pub begins-parts : begins x a b ≡ true → (getD x 0 0 ≡ 40) × (getD x 1 0 ≡ a) × (getD x 2 0 ≡ b)
+  unfolding begins
+  begins-parts e =
+      let p = and-parts (eqb (getD x 0 0) 40) (eqb (getD x 1 0) a && eqb (getD x 2 0) b) e in
+      let q = and-parts (eqb (getD x 1 0) a) (eqb (getD x 2 0) b) (p .1) in
+      (eqb-true (getD x 0 0) 40 (p .0), eqb-true (getD x 1 0) a (q .0), eqb-true (getD x 2 0) b (q .1))
+
 -- ---- one law for each way of `name_of`
 
-name-here : (s : Bytes) (d m : ℕ) → ShowsExpr s d (name m) → {a : ℕ} → a ≡ part-end s 3 → {t : Bytes} → t ≡ piece s 2 a → {v : ℕ} → v ≡ min (number t) 4294967296
-    → (v ≡ m) × (m < 256)
+name-large : (n : ℕ) → 4294967295 < n → as-name n ≡ named.Not
+name-large n l = rw (lt-ltb 4294967295 n l, as-name)
+
+name-small : (n : ℕ) → n ≤ 4294967295 → as-name n ≡ named.Is n
+name-small n l = rw (le-ltb 4294967295 n l, as-name)
+
+module _ (x : Bytes) {b : Bool} (qb : b ≡ begins x 110 32) where
+  pub no-name : b ≡ false → named.Not ≡ name-of x
+  unfolding name-of
+  no-name e = rw (sym qb ∙ e, name-of)
+
+  module _ (e : b ≡ true) {a : ℕ} (qa : a ≡ part-end x 3) {t : Bytes} (qt : t ≡ piece x 2 a) {v : ℕ} (qv : v ≡ min (number t) 4294967296) where
+    by-number : name-of x ≡ as-name (number t)
+    unfolding name-of
+    by-number = rw (sym qb ∙ e, qt, qa, name-of)
+
+    pub no-word : 4294967295 < v → named.Not ≡ name-of x
+    no-word l = sym (by-number ∙ name-large (number t) (omega arith))
+
+    pub a-word : v ≤ 4294967295 → named.Is v ≡ name-of x
+    a-word l = let h : v ≡ number t = omega arith in ap named.Is h ∙ sym (by-number ∙ name-small (number t) (omega arith))
+
+-- the name that bytes show
+name-begins : (m : ℕ) → begins (show-expr (name m)) 110 32 ≡ true
+unfolding begins show-expr show-form show-rest
+name-begins m = refl
+
+name-here : (x : Bytes) (d m : ℕ) → ShowsExpr x d (name m) → (number (piece x 2 (part-end x 3)) ≡ m) × (m < 256)
 unfolding show-expr show-form show-rest expr-in-range next-end
-name-here s d m p {a} qa {t} qt {v} qv =
-    let e : drop 2 s ≡ 32 ∷ show-number m ++ show-rest [] = ap (drop 2) (p .shown) in
-    let q = placed s 2 32 [] (number-part m) e in
-    let u : t ≡ show-number m = qt ∙ ap (piece s 2) qa ∙ q .here in
-    let k : number t ≡ m = ap number u ∙ number-show m in
-    let l = ltb-true m 256 (p .ranged) in
-    (omega arith, l)
+name-here x d m p =
+    let e : drop 2 x ≡ 32 ∷ show-number m ++ show-rest [] = ap (drop 2) (p .shown) in
+    let q = placed x 2 32 [] (number-part m) e in
+    (ap number (q .here) ∙ number-show m, ltb-true m 256 (p .ranged))
 
-module _ (s : Bytes) where
-  -- its first bytes are not those of a name
-  no-name : (i c : ℕ) → ((n : ℕ) → getD (show-expr (name n)) i 0 ≡ c) → (getD s i 0 ≡ c → ⊥) → (y : Expr) (d : ℕ) → ShowsExpr s d y → NamedBy named.Not y
-  no-name i c h f y d p n e = f (ap (λ (z : Bytes). getD z i 0) (p .shown ∙ ap show-expr e) ∙ h n)
+pub name-is : (x : Bytes) (d : ℕ) (y : Expr) → ShowsExpr x d y → NamedBy (name-of x) y
+unfolding name-of
+name-is x d y p = if-case (λ v. NamedBy v y) (begins x 110 32) (as-name (number (piece x 2 (part-end x 3)))) named.Not yes no
+  where
+    shows : (m : ℕ) → y ≡ name m → ShowsExpr x d (name m)
+    shows m q = record { shown = p .shown ∙ ap show-expr q; deep = rw q at (p .deep); ranged = rw q at (p .ranged) }
 
-  pub not-open : (getD s 0 0 ≡ 40 → ⊥) → (y : Expr) (d : ℕ) → ShowsExpr s d y → NamedBy named.Not y
-  unfolding show-expr show-form
-  not-open = no-name 0 40 (λ n. refl)
+    no : begins x 110 32 ≡ false → (m : ℕ) → y ≡ name m → ⊥
+    no e m q = true≢false (sym (name-begins m) ∙ ap (λ (z : Bytes). begins z 110 32) (sym (shows m q .shown)) ∙ e)
 
-  pub not-n : (getD s 1 0 ≡ 110 → ⊥) → (y : Expr) (d : ℕ) → ShowsExpr s d y → NamedBy named.Not y
-  unfolding show-expr show-form
-  not-n = no-name 1 110 (λ n. refl)
-
-  pub not-alone : (getD s 2 0 ≡ 32 → ⊥) → (y : Expr) (d : ℕ) → ShowsExpr s d y → NamedBy named.Not y
-  unfolding show-expr show-form show-rest
-  not-alone = no-name 2 32 (λ n. refl)
-
-  module _ {a : ℕ} (qa : a ≡ part-end s 3) {t : Bytes} (qt : t ≡ piece s 2 a) {v : ℕ} (qv : v ≡ min (number t) 4294967296) where
-    -- no name has such a number
-    pub not-small : 4294967295 < v → (y : Expr) (d : ℕ) → ShowsExpr s d y → NamedBy named.Not y
-    not-small l y d p n e =
-        let h = name-here s d n (record { shown = p .shown ∙ ap show-expr e; deep = rw e at (p .deep); ranged = rw e at (p .ranged) }) qa qt qv in
-        omega arith
-
-    -- they are: the number behind them is the name
-    pub is-name : getD s 0 0 ≡ 40 → getD s 1 0 ≡ 110 → getD s 2 0 ≡ 32 → (y : Expr) (d : ℕ) → ShowsExpr s d y → NamedBy (named.Is v) y
-    is-name b n f y d p = go (told y)
+    yes : begins x 110 32 ≡ true → NamedBy (as-name (number (piece x 2 (part-end x 3)))) y
+    yes e = go (told y)
       where
-        here : (i : ℕ) → getD s i 0 ≡ getD (show-expr y) i 0
-        here i = ap (λ (z : Bytes). getD z i 0) (p .shown)
+        here : (i : ℕ) → getD (show-expr y) i 0 ≡ getD x i 0
+        here i = ap (λ (z : Bytes). getD z i 0) (sym (p .shown))
 
-        go : Told y → y ≡ name v
-        go (an-atom h r) = absurd (h (sym (here 0) ∙ b))
-        go (a-field e m q x z u) = absurd (omega (arith, here 1))
-        go (a-form word q x h k l r) = absurd (h (sym (here 1) ∙ n) (sym (here 2) ∙ f))
-        go (a-name m q x z u) =
-            q ∙ ap name (sym (name-here s d m (record { shown = p .shown ∙ ap show-expr q; deep = rw q at (p .deep); ranged = rw q at (p .ranged) }) qa qt qv .0))
+        b : (getD x 0 0 ≡ 40) × (getD x 1 0 ≡ 110) × (getD x 2 0 ≡ 32)
+        b = begins-parts x 110 32 e
+
+        go : Told y → NamedBy (as-name (number (piece x 2 (part-end x 3)))) y
+        go (an-atom h r) = absurd (h (here 0 ∙ b .0))
+        go (a-field f m q u z w) = absurd (omega (arith, here 1, b .1))
+        go (a-form word q u h k l r) = absurd (h (here 1 ∙ b .1) (here 2 ∙ b .2))
+        go (a-name m q u z w) =
+            let h = name-here x d m (shows m q) in
+            let l = h .1 in
+            rw (h .0, name-small m (omega arith)) q

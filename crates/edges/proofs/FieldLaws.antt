@@ -1,7 +1,7 @@
 -- What an `f` is of: one law for each way of `indexed_name` and `field_of`.
 -- Assumes nothing.
 use mathlib.Core.Path.{_≡_, refl, sym, _∙_, ap, subst}
-use mathlib.Core.Bool.{Bool, true, false}
+use mathlib.Core.Bool.{Bool, true, false, true≢false}
 use mathlib.Core.List.{List, [], _∷_}
 use Prim.Native.Nat.{ℕ, zero, suc, _-_, _≤_, max}
 use native.Mathlib.Omega.{arith}
@@ -10,17 +10,18 @@ use Rattle.spec.specs.Bytes.{Bytes, show-rest, show-form}
 use Rattle.spec.specs.Syntax.{neg, not, clog2, add, sub, mul, eq, ne, lt, le, gt, ge, and, or, shl, shr, band, bor, bxor, Expr, lit, truth, name, field, index, if-else, unary, binary, all, Header}
 use Rattle.spec.specs.Show.{show-expr}
 use Rattle.spec.specs.Refusal.{expr-in-range, expr-depth}
-use Rattle.spec.specs.Edge.{FieldOf, an-inst, an-inst-at, no-inst, field-of}
+use Rattle.spec.specs.Edge.{is-inst, FieldOf, an-inst, an-inst-at, no-inst, field-of}
 use Rattle.spec.proofs.Nodes.{and-parts}
+use Rattle.spec.proofs.Numbers.{if-case}
 use Rattle.spec.proofs.Shown.{expr-shown}
 use Rattle.lines.specs.Parts.{part-end, piece, next-end, follows}
 use Rattle.edges.specs.declared.Named as N
 use Rattle.edges.specs.declared.Named.the-variants as named
 use Rattle.edges.specs.declared.FieldOf.the-variants as of
 use Rattle.edges.specs.Reads.{KindsOf}
-use Rattle.edges.specs.Shows.{ShowsExpr, NamedBy, IndexedBy, IsInst, FieldOfIs}
+use Rattle.edges.specs.Shows.{ShowsExpr, begins, name-of, indexed-name, inst-by, NamedBy, IndexedBy, FieldOfIs}
 use Rattle.runs.proofs.Inside.{placed}
-use Rattle.edges.proofs.ExprLaws.{number-first}
+use Rattle.edges.proofs.ExprLaws.{number-first, begins-parts, name-is}
 
 pub getD-drop-here : (l : Bytes) (i : ℕ) → getD (drop i l) 0 0 ≡ getD l i 0
 getD-drop-here [] zero = refl
@@ -63,11 +64,9 @@ ix-told (all es) e f g = absurd (omega arith)
 first-part : {a b c d : Expr} → index a b ≡ index c d → a ≡ c
 first-part e = cc
 
-pub as-not : (v : N.Named) → v ≡ named.Not → (y : Expr) → NamedBy v y → NamedBy named.Not y
-as-not v e y h = rw e at h
-
-pub as-is : (v : N.Named) (i : ℕ) → v ≡ named.Is i → (y : Expr) → NamedBy v y → y ≡ name i
-as-is v i e y h = rw e at h
+-- what the answer of `name_of` says of an expression that is shown
+pub named-as : (x : Bytes) (v u : N.Named) → v ≡ name-of x → v ≡ u → (d : ℕ) (y : Expr) → ShowsExpr x d y → NamedBy u y
+named-as x v u q e d y s = subst (λ z. NamedBy z y) (sym q ∙ e) (name-is x d y s)
 
 -- ---- an index that is shown
 
@@ -90,40 +89,42 @@ index-parts x d qa y z s =
 
 -- ---- one law for each way of `indexed_name`
 
-module _ (x : Bytes) where
-  -- its first bytes are not those of an index
-  no-index : (i c : ℕ) → ((a b : Expr) → getD (show-expr (index a b)) i 0 ≡ c) → (getD x i 0 ≡ c → ⊥) → (y : Expr) (d : ℕ) → ShowsExpr x d y → IndexedBy named.Not y
-  no-index i c h f y d s n e q = f (ap (λ (z : Bytes). getD z i 0) (s .shown ∙ ap show-expr q) ∙ h (name n) e)
+module _ (x : Bytes) {b : Bool} (qb : b ≡ begins x 105 120) where
+  pub no-index : b ≡ false → named.Not ≡ indexed-name x
+  unfolding indexed-name
+  no-index e = rw (sym qb ∙ e, indexed-name)
 
-  pub index-closed : (getD x 0 0 ≡ 40 → ⊥) → (y : Expr) (d : ℕ) → ShowsExpr x d y → IndexedBy named.Not y
-  unfolding show-expr show-form
-  index-closed = no-index 0 40 (λ a b. refl)
+  pub index-name : b ≡ true → {a : ℕ} → a ≡ part-end x 4 → {u : Bytes} → u ≡ piece x 3 a → {v : N.Named} → v ≡ name-of u → v ≡ indexed-name x
+  unfolding indexed-name
+  index-name e qa qu qv = qv ∙ rw (sym qb ∙ e, qu, qa, indexed-name)
 
-  pub index-not-i : (getD x 1 0 ≡ 105 → ⊥) → (y : Expr) (d : ℕ) → ShowsExpr x d y → IndexedBy named.Not y
-  unfolding show-expr show-form
-  index-not-i = no-index 1 105 (λ a b. refl)
+-- the name that bytes show an index of
+index-begins : (a b : Expr) → begins (show-expr (index a b)) 105 120 ≡ true
+unfolding begins show-expr show-form
+index-begins a b = refl
 
-  pub index-not-x : (getD x 2 0 ≡ 120 → ⊥) → (y : Expr) (d : ℕ) → ShowsExpr x d y → IndexedBy named.Not y
-  unfolding show-expr show-form
-  index-not-x = no-index 2 120 (λ a b. refl)
+pub indexed-is : (x : Bytes) (d : ℕ) (y : Expr) → ShowsExpr x d y → IndexedBy (indexed-name x) y
+unfolding indexed-name
+indexed-is x d y s = if-case (λ v. IndexedBy v y) (begins x 105 120) (name-of (piece x 3 (part-end x 4))) named.Not yes no
+  where
+    no : begins x 105 120 ≡ false → (n : ℕ) (e : Expr) → y ≡ index (name n) e → ⊥
+    no f n e q = true≢false (sym (index-begins (name n) e) ∙ ap (λ (z : Bytes). begins z 105 120) (sym (s .shown ∙ ap show-expr q)) ∙ f)
 
-  -- they are: what it is of is the name, if it is one
-  pub index-name : getD x 0 0 ≡ 40 → getD x 1 0 ≡ 105 → getD x 2 0 ≡ 120 → {a : ℕ} → a ≡ part-end x 4 → {u : Bytes} → u ≡ piece x 3 a → (v : N.Named)
-      → ((y : Expr) (d : ℕ) → ShowsExpr u d y → NamedBy v y) → (y : Expr) (d : ℕ) → ShowsExpr x d y → IndexedBy v y
-  index-name b₀ b₁ b₂ {a} qa {u} qu v says y d s = go v (says (t .0) (d - 1) (rw (← qu) at (index-parts x d qa (t .0) (t .1) shown .first)))
-    where
-      here : (i : ℕ) → getD (show-expr y) i 0 ≡ getD x i 0
-      here i = sym (ap (λ (z : Bytes). getD z i 0) (s .shown))
+    yes : begins x 105 120 ≡ true → IndexedBy (name-of (piece x 3 (part-end x 4))) y
+    yes f = go (name-of (piece x 3 (part-end x 4))) (name-is (piece x 3 (part-end x 4)) (d - 1) (t .0) (index-parts x d refl (t .0) (t .1) (subst (λ z. ShowsExpr x d z) (t .2) s) .first))
+      where
+        here : (i : ℕ) → getD (show-expr y) i 0 ≡ getD x i 0
+        here i = ap (λ (z : Bytes). getD z i 0) (sym (s .shown))
 
-      t : (a : Expr) × (b : Expr) × (y ≡ index a b)
-      t = ix-told y (here 0 ∙ b₀) (here 1 ∙ b₁) (here 2 ∙ b₂)
+        b : (getD x 0 0 ≡ 40) × (getD x 1 0 ≡ 105) × (getD x 2 0 ≡ 120)
+        b = begins-parts x 105 120 f
 
-      shown : ShowsExpr x d (index (t .0) (t .1))
-      shown = subst (λ z. ShowsExpr x d z) (t .2) s
+        t : (a : Expr) × (b : Expr) × (y ≡ index a b)
+        t = ix-told y (here 0 ∙ b .0) (here 1 ∙ b .1) (here 2 ∙ b .2)
 
-      go : (v : N.Named) → NamedBy v (t .0) → IndexedBy v y
-      go (named.Is i) h = (t .1, t .2 ∙ ap (λ (z : Expr). index z (t .1)) h)
-      go named.Not h = λ n e q. h n (first-part (sym (t .2) ∙ q))
+        go : (v : N.Named) → NamedBy v (t .0) → IndexedBy v y
+        go (named.Is i) h = (t .1, t .2 ∙ ap (λ (z : Expr). index z (t .1)) h)
+        go named.Not h = λ n e q. h n (first-part (sym (t .2) ∙ q))
 
 -- ---- one law for each way of `field_of`
 
@@ -152,11 +153,11 @@ no-inst-of (all es) f g hs = refl
 abbrev if-inst : Bool → FieldOf → FieldOf
 if-inst b f = elim b as (λ _. FieldOf) [ true ↦ f | false ↦ no-inst ]
 
-module _ (x : Bytes) (kinds : List ℕ) (v : N.Named) (says : (y : Expr) (d : ℕ) → ShowsExpr x d y → NamedBy v y) where
-  module _ {i : ℕ} (e : v ≡ named.Is i) (b : Bool) (h : IsInst b i kinds) where
+module _ (x : Bytes) (kinds : List ℕ) (v : N.Named) (is : v ≡ name-of x) where
+  module _ {i : ℕ} (e : v ≡ named.Is i) (b : Bool) (h : b ≡ inst-by kinds i) where
     of-name : {c : Bool} → b ≡ c → (y : Expr) (d : ℕ) → ShowsExpr x d y → (header : List Header) → KindsOf kinds header → field-of header y ≡ if-inst c (an-inst i)
     unfolding field-of
-    of-name q y d s header w = rw (as-is v i e y (says y d s)) (ap (λ (z : Bool). if-inst z (an-inst i)) (sym (h header w) ∙ q))
+    of-name q y d s header w = rw (named-as x v (named.Is i) is e d y s) (ap (λ (z : Bool). if-inst z (an-inst i)) (ap is-inst (sym (w i)) ∙ sym h ∙ q))
 
     pub of-inst : b ≡ true → FieldOfIs (of.Inst i) x kinds
     of-inst q = of-name q
@@ -164,14 +165,17 @@ module _ (x : Bytes) (kinds : List ℕ) (v : N.Named) (says : (y : Expr) (d : �
     pub of-signal : b ≡ false → FieldOfIs of.Other x kinds
     of-signal q = of-name q
 
-  module _ (u : N.Named) (says′ : (y : Expr) (d : ℕ) → ShowsExpr x d y → IndexedBy u y) where
-    module _ {i : ℕ} (e : u ≡ named.Is i) (b : Bool) (h : IsInst b i kinds) where
+  module _ (u : N.Named) (indexes : u ≡ indexed-name x) where
+    indexed-as : (z : N.Named) → u ≡ z → (d : ℕ) (y : Expr) → ShowsExpr x d y → IndexedBy z y
+    indexed-as z e d y s = subst (λ w. IndexedBy w y) (sym indexes ∙ e) (indexed-is x d y s)
+
+    module _ {i : ℕ} (e : u ≡ named.Is i) (b : Bool) (h : b ≡ inst-by kinds i) where
       indexed : (y : Expr) (d : ℕ) → ShowsExpr x d y → (z : Expr) × (y ≡ index (name i) z)
-      indexed y d s = rw e at (says′ y d s)
+      indexed y d s = indexed-as (named.Is i) e d y s
 
       of-index : {c : Bool} → b ≡ c → (y z : Expr) → y ≡ index (name i) z → (header : List Header) → KindsOf kinds header → field-of header y ≡ if-inst c (an-inst-at i z)
       unfolding field-of
-      of-index q y z f header w = rw f (ap (λ (k : Bool). if-inst k (an-inst-at i z)) (sym (h header w) ∙ q))
+      of-index q y z f header w = rw f (ap (λ (k : Bool). if-inst k (an-inst-at i z)) (ap is-inst (sym (w i)) ∙ sym h ∙ q))
 
       pub of-inst-at : b ≡ true → FieldOfIs (of.InstAt i) x kinds
       of-inst-at q y d s header w = let t = indexed y d s in (t .0, t .1, of-index q y (t .0) (t .1) header w)
@@ -180,4 +184,4 @@ module _ (x : Bytes) (kinds : List ℕ) (v : N.Named) (says : (y : Expr) (d : �
       of-signal-at q y d s header w = let t = indexed y d s in of-index q y (t .0) (t .1) header w
 
     pub of-other : v ≡ named.Not → u ≡ named.Not → FieldOfIs of.Other x kinds
-    of-other e f y d s header w = no-inst-of y (as-not v e y (says y d s)) (rw f at (says′ y d s)) header
+    of-other e f y d s header w = no-inst-of y (named-as x v named.Not is e d y s) (indexed-as named.Not f d y s) header

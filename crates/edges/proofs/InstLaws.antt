@@ -10,9 +10,7 @@ use lib.ListN.{getD}
 use lib.Dec.{ltb}
 use lib.IntN.{ℤ, negsuc}
 use borrow.Author.Tests.{ltb-true}
-use Rattle.spec.specs.Syntax.{Header}
 use Rattle.spec.specs.Value.{Value}
-use Rattle.spec.specs.Site.{kind-of}
 use Rattle.spec.specs.Edge.{Node, inst-out, Head, is-inst, indexed-reads}
 use Rattle.graph.specs.Table.{unbiased}
 use Rattle.graph.specs.Stands.{Heading, Read}
@@ -21,8 +19,8 @@ use Rattle.graph.specs.declared.Added.the-variants as added
 use Rattle.consteval.specs.Worth.{signed, worth}
 use Rattle.consteval.specs.declared.Value.{Value as Answer}
 use Rattle.consteval.specs.declared.Value.the-variants.{Known, Missing, Outside}
-use Rattle.edges.specs.Reads.{kind-word, KindsOf}
-use Rattle.edges.specs.Shows.{one-read, NodesRead, IsInst}
+use Rattle.edges.specs.Reads.{kind-word}
+use Rattle.edges.specs.Shows.{one-read, NodesRead, inst-by}
 use Rattle.edges.proofs.ReadLaws.{read-none, read-one, read-out}
 
 -- the whole number that a word holds, in both crates
@@ -52,14 +50,11 @@ large-kind (suc (suc (suc (suc (suc zero))))) h = absurd (omega arith)
 large-kind (suc (suc (suc (suc (suc (suc k)))))) h = refl
 
 module _ (kinds : List ℕ) (i : ℕ) {k : ℕ} (q : k ≡ getD kinds i 0) where
-  kind-here : (header : List Header) → KindsOf kinds header → kind-word k ≡ kind-of header i
-  kind-here header w = ap kind-word q ∙ w i
+  pub inst-not : k < 6 → false ≡ inst-by kinds i
+  inst-not l = sym (small-kind k l) ∙ ap (λ (z : ℕ). is-inst (kind-word z)) q
 
-  pub inst-not : k < 6 → IsInst false i kinds
-  inst-not l header w = sym (small-kind k l) ∙ ap is-inst (kind-here header w)
-
-  pub inst-here : 6 ≤ k → IsInst true i kinds
-  inst-here l header w = sym (large-kind k l) ∙ ap is-inst (kind-here header w)
+  pub inst-here : 6 ≤ k → true ≡ inst-by kinds i
+  inst-here l = sym (large-kind k l) ∙ ap (λ (z : ℕ). is-inst (kind-word z)) q
 
 module _ (g : List ℕ) (from : ℕ) where
   module _ (m : Node) (a : A.Added) (g′ : List ℕ) (read : (hs : List Head) (n : Node) (start : ℕ) (rs : List Node) → Heading g hs n start rs from → Read a g′ hs n start rs from m) where

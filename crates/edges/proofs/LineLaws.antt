@@ -4,12 +4,12 @@ use mathlib.Core.Path.{_≡_, refl, sym, _∙_, ap}
 use mathlib.Core.Bool.{Bool, true, false, _&&_}
 use mathlib.Core.List.{List, [], _∷_, _++_}
 use mathlib.Core.Option.{Option}
-use Prim.Native.Nat.{ℕ, zero, suc, _-_, _≤_, _<_, min, max}
+use Prim.Native.Nat.{ℕ, zero, suc, _-_, _≤_, _<_, max}
 use native.Mathlib.Omega.{arith}
 use lib.ListN.{drop, getD}
 use lib.Dec.{ltb}
 use borrow.Author.Tests.{ltb-true}
-use Rattle.spec.specs.Bytes.{Bytes, number, show-number, show-rest, show-form}
+use Rattle.spec.specs.Bytes.{Bytes, show-number, show-rest, show-form}
 use Rattle.spec.specs.Syntax.{Kind, Expr, Exprs, Index, whole, at-bit, high-low, LValue, wire, drive, Header}
 use Rattle.spec.specs.Show.{show-expr, show-index, show-lvalue, show-item}
 use Rattle.spec.specs.Refusal.{expr-in-range, exprs-in-range, index-in-range, item-in-range, expr-depth, exprs-depth, index-depth, item-depth}
@@ -26,7 +26,7 @@ use Rattle.graph.specs.declared.Added.the-variants as added
 use Rattle.lines.specs.Parts.{piece}
 use Rattle.edges.specs.Reads.{kind-word, KindsOf, ReadAll, HeadAll}
 use Rattle.edges.specs.Shows.{ShowsExpr, ShowsExprs, ExprRead, PartsRead}
-use Rattle.edges.specs.Lines.{WireHeads, DriveHeads}
+use Rattle.edges.specs.Lines.{WireHeads, DriveHeads, number-at}
 use Rattle.edges.proofs.ReadLaws.{read-then, read-stops, head-one, head-full, heads-none}
 use Rattle.edges.proofs.ExprLaws.{and-none}
 use Rattle.edges.proofs.PartLaws.{EndsAt, Ended, ended, ended-next, number-here, both-true}
@@ -44,8 +44,8 @@ as-full v e g hs {m} {n} {s} {t} p q h =
 
 -- ---- `wire_heads`
 
-module _ (x : Bytes) (d : ℕ) {a : ℕ} (fa : EndsAt x 5 a) {b : ℕ} (fb : EndsAt x a b) {m : ℕ} (qm : m ≡ min (number (piece x 5 a)) 4294967295)
-    {c : ℕ} (fc : EndsAt x b c) {t : ℕ} (qt : t ≡ min (number (piece x b c)) 4294967295) (kinds : List ℕ) (names : Names) (g : List ℕ) where
+module _ (x : Bytes) (d : ℕ) {a : ℕ} (fa : EndsAt x 5 a) {b : ℕ} (fb : EndsAt x a b) {m : ℕ} (qm : m ≡ number-at x 5 a)
+    {c : ℕ} (fc : EndsAt x b c) {t : ℕ} (qt : t ≡ number-at x b c) (kinds : List ℕ) (names : Names) (g : List ℕ) where
   -- what the code found is what the line shows
   record WireParts (n : ℕ) (e : Expr) (start : ℕ) : Type 0 where
     name : signal m ≡ signal n
@@ -132,7 +132,7 @@ drives-high (suc (suc (suc (suc zero)))) lv q l = refl
 drives-high (suc (suc (suc (suc (suc zero))))) lv q l = refl
 drives-high (suc (suc (suc (suc (suc (suc k)))))) lv q l = refl
 
-module _ (x : Bytes) (d : ℕ) {a : ℕ} (fa : EndsAt x 6 a) {u : Bytes} (qu : u ≡ piece x 6 a) {b : ℕ} (fb : EndsAt u 3 b) {m : ℕ} (qm : m ≡ min (number (piece u 3 b)) 4294967295)
+module _ (x : Bytes) (d : ℕ) {a : ℕ} (fa : EndsAt x 6 a) {u : Bytes} (qu : u ≡ piece x 6 a) {b : ℕ} (fb : EndsAt u 3 b) {m : ℕ} (qm : m ≡ number-at u 3 b)
     (kinds : List ℕ) {k : ℕ} (qk : k ≡ getD kinds m 0) (names : Names) (g : List ℕ) where
   -- what the code found is what the line shows
   record DriveParts (lv : LValue) (e : Expr) : Type 0 where
@@ -188,7 +188,7 @@ module _ (x : Bytes) (d : ℕ) {a : ℕ} (fa : EndsAt x 6 a) {u : Bytes} (qu : u
   pub drive-high : 3 < k → DriveHeads true x d kinds names g g
   drive-high l = drive-none (λ lv q. drives-high k lv q l)
 
-  module _ (low : 2 ≤ k) (high : k ≤ 3) {c : ℕ} (fc : EndsAt u b c) {t : ℕ} (qt : t ≡ min (number (piece u b c)) 4294967295)
+  module _ (low : 2 ≤ k) (high : k ≤ 3) {c : ℕ} (fc : EndsAt u b c) {t : ℕ} (qt : t ≡ number-at u b c)
       (v : A.Added) (g₁ : List ℕ) (headed : (hs : List Head) → Stands g hs → Headed v g₁ hs (signal m) t) where
     start-here : (lv : LValue) (e : Expr) → ShowsItem x d (drive lv e) → Ended u b c (show-number (lv .start)) (show-index (lv .index))
     start-here lv e s = ended-next u b (show-index (lv .index)) (number-part (lv .start)) (drive-parts lv e s .start-at) fc

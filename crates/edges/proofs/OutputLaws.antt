@@ -4,18 +4,18 @@ use mathlib.Core.Path.{_≡_, refl, sym, _∙_, ap}
 use mathlib.Core.Bool.{Bool, true, false, _&&_, _||_, true≢false}
 use mathlib.Core.List.{List, [], _∷_, _++_}
 use mathlib.Core.Option.{some, none}
-use Prim.Native.Nat.{ℕ, suc, _+_, _-_, _≤_, _<_, min, max}
+use Prim.Native.Nat.{ℕ, suc, _+_, _-_, _≤_, _<_, max}
 use native.Mathlib.Omega.{arith}
 use lib.ListN.{drop, getD}
 use lib.Dec.{ltb}
 use lib.IntN.{ℤ}
-use borrow.Author.Tests.{ltb-true}
-use Rattle.spec.specs.Bytes.{Bytes, number, show-number, show-rest, show-form}
+use borrow.Author.Tests.{ltb-true, eq-eqb, ne-eqb}
+use Rattle.spec.specs.Bytes.{Bytes, show-number, show-rest, show-form}
 use Rattle.spec.specs.Syntax.{Expr, lit, truth, name, field, index, if-else, unary, binary, all, Place, single, at, Conn, Inst, inst, Header}
 use Rattle.spec.specs.Show.{show-expr, show-place, show-conns, show-item}
 use Rattle.spec.specs.Decode.{decode-expr}
 use Rattle.spec.specs.Refusal.{expr-in-range, place-in-range, conns-in-range, inst-in-range, item-in-range, expr-depth, place-depth, conns-depth, item-depth}
-use Rattle.spec.specs.Value.{Value, Names, value}
+use Rattle.spec.specs.Value.{Value, missing, Names, value}
 use Rattle.spec.specs.Edge.{Node, inst-out, Reads, no-reads, and-reads, expr-reads, Head, Heads, one-head, Summary, reaches, conn-reads, index-of, place-value, has-output, output-heads, inst-edges}
 use Rattle.spec.proofs.Nodes.{and-parts}
 use Rattle.spec.proofs.Numbers.{Digits, number-digits}
@@ -32,11 +32,11 @@ use Rattle.consteval.specs.declared.Value.the-variants.{Known, Missing, Outside
 use Rattle.lines.specs.Parts.{part-end, piece, follows}
 use Rattle.edges.specs.Reads.{KindsOf, ReadAll, HeadAll}
 use Rattle.edges.specs.Shows.{ExprRead}
-use Rattle.edges.specs.Lines.{IndexIs, ModuleIs, ShowsConn, ShowsConns, ConnRead, ConnsRead, OutputHead, InstHeads}
+use Rattle.edges.specs.Lines.{place-end, module-end, number-at, index-value, inst-index, inst-module, IndexIs, ModuleIs, ShowsConn, ShowsConns, ConnRead, ConnsRead, OutputHead, InstHeads}
 use Rattle.edges.proofs.ReadLaws.{read-none, read-then, read-stops, head-one, head-full, heads-none, heads-then, heads-stop}
 use Rattle.edges.proofs.ExprLaws.{and-none}
 use Rattle.edges.proofs.InstLaws.{same-word}
-use Rattle.edges.proofs.PartLaws.{EndsAt, ends-in, Ended, ended, ended-next, number-here, follows-byte, both-true}
+use Rattle.edges.proofs.PartLaws.{EndsAt, Ended, ended, ended-next, ended-after, number-here, follows-byte, both-true}
 use Rattle.edges.proofs.LineLaws.{as-headed, as-full}
 
 -- ---- the parts of an `inst` line
@@ -97,37 +97,54 @@ no-dash (unary o a) e = omega arith
 no-dash (binary o a b) e = omega arith
 no-dash (all es) e = omega arith
 
+-- an index that there is not, and one that is evaluated
+index-none : (u : Bytes) (d : ℕ) (names : Names) → getD u 0 0 ≡ 45 → index-value u d names ≡ missing
+unfolding index-value
+index-none u d names e = rw (eq-eqb (getD u 0 0) 45 e, index-value)
+
+index-some : (u : Bytes) (d : ℕ) (names : Names) → (getD u 0 0 ≡ 45 → ⊥) → index-value u d names ≡ value names (decode-expr d u)
+unfolding index-value
+index-some u d names f = rw (ne-eqb (getD u 0 0) 45 f, index-value)
+
 module _ (x : Bytes) (d : ℕ) (names : Names) {a : ℕ} (fa : EndsAt x 5 a) {b : ℕ} (fb : EndsAt x a b) {u : Bytes} (qu : u ≡ piece x a b) where
-  -- it has none
-  pub index-dash : getD u 0 0 ≡ 45 → {v : Answer} → v ≡ Missing → IndexIs (worth v) x d names
-  unfolding place-value show-place
-  index-dash e {v} f i s = go (i .place) (qu ∙ place-at x d i s fa fb .here)
-    where
-      go : (p : Place) → u ≡ show-place p → worth v ≡ place-value names p
-      go single q = ap worth f
-      go (at y) q = absurd (no-dash y (ap (λ (z : Bytes). getD z 0 0) (sym q) ∙ e))
+  by-place : index-value u (d - 1) names ≡ inst-index x d names
+  unfolding inst-index
+  by-place = rw (qu, fb, fa)
 
-  -- it is evaluated
-  pub index-value : (getD u 0 0 ≡ 45 → ⊥) → {l : ℕ} → l ≡ d - 1 → (v : Answer) → worth v ≡ value names (decode-expr l u) → IndexIs (worth v) x d names
-  unfolding place-value show-place place-depth item-depth
-  index-value f {l} ql v e i s = go (i .place) (qu ∙ place-at x d i s fa fb .here) deep
-    where
-      deep : place-depth (i .place) ≤ d - 1
-      deep = let h : suc (max (place-depth (i .place)) (conns-depth (i .conns))) ≤ d = s .deep in omega arith
+  pub index-dash : getD u 0 0 ≡ 45 → missing ≡ inst-index x d names
+  index-dash e = sym (index-none u (d - 1) names e) ∙ by-place
 
-      go : (p : Place) → u ≡ show-place p → place-depth p ≤ d - 1 → worth v ≡ place-value names p
-      go single q h = absurd (f (ap (λ (z : Bytes). getD z 0 0) q))
-      go (at y) q h = e ∙ ap (λ (z : Bytes). value names (decode-expr l z)) q ∙ ap (value names) (expr-shown y .back l (omega arith))
+  pub index-evaluated : (getD u 0 0 ≡ 45 → ⊥) → {l : ℕ} → l ≡ d - 1 → {v : Value} → v ≡ value names (decode-expr l u) → v ≡ inst-index x d names
+  index-evaluated f ql e = e ∙ rw ql (sym (index-some u (d - 1) names f) ∙ by-place)
 
-pub module-here : (x : Bytes) {a : ℕ} → EndsAt x 5 a → {b : ℕ} → EndsAt x a b → {c : ℕ} → EndsAt x b c → {m : ℕ} → m ≡ min (number (piece x b c)) 4294967295 → (d : ℕ) → ModuleIs m x d
-module-here x fa {b} fb {c} fc qm d i s =
-    let r = ranged x d i s fa fb .module-small in
-    number-here x b c (i .«module») (module-at x d i s fa fb fc) (omega arith) qm
+-- the index that a line shows
+pub index-is : (x : Bytes) (d : ℕ) (names : Names) → IndexIs (inst-index x d names) x d names
+unfolding inst-index place-value show-place place-depth item-depth
+index-is x d names i s = ap (λ (u : Bytes). index-value u (d - 1) names) (place-at x d i s refl refl .here) ∙ go (i .place) deep
+  where
+    deep : place-depth (i .place) ≤ d - 1
+    deep = let h : suc (max (place-depth (i .place)) (conns-depth (i .conns))) ≤ d = s .deep in omega arith
+
+    go : (p : Place) → place-depth p ≤ d - 1 → index-value (show-place p) (d - 1) names ≡ place-value names p
+    go single h = index-none (show-place single) (d - 1) names refl
+    go (at y) h = index-some (show-expr y) (d - 1) names (no-dash y) ∙ ap (value names) (expr-shown y .back (d - 1) h)
+
+-- `inst_module`
+pub module-here : (x : Bytes) {a : ℕ} → EndsAt x 5 a → {b : ℕ} → EndsAt x a b → {c : ℕ} → EndsAt x b c → {m : ℕ} → m ≡ number-at x b c → m ≡ inst-module x
+unfolding inst-module
+module-here x fa fb fc q = q ∙ rw (fc, fb, fa)
+
+-- the module that a line shows
+pub module-is : (x : Bytes) (d : ℕ) → ModuleIs (inst-module x) x d
+unfolding inst-module
+module-is x d i s =
+    let r = ranged x d i s refl refl .module-small in
+    number-here x (place-end x) (module-end x) (i .«module») (module-at x d i s refl refl refl) (omega arith) refl
 
 -- ---- `conn_read`
 
 module _ (o : ℕ) (s : Summary) (t : Bytes) (d : ℕ) (kinds : List ℕ) (names : Names) (g : List ℕ) (from : ℕ)
-    {a : ℕ} (fa : EndsAt t 5 a) {m : ℕ} (qm : m ≡ min (number (piece t 5 a)) 4294967295) {v : Bool} (qv : v ≡ reaches o m s) where
+    {a : ℕ} (fa : EndsAt t 5 a) {m : ℕ} (qm : m ≡ number-at t 5 a) {v : Bool} (qv : v ≡ reaches o m s) where
   -- the parts of a connection
   record ConnParts (y : Conn) : Type 0 where
     port-here : m ≡ y .port
@@ -192,7 +209,7 @@ module _ (o : ℕ) (s : Summary) (x : Bytes) (a d : ℕ) (kinds : List ℕ) (nam
       → ShowsConn t d y × ShowsConns (drop b x) d cs
   unfolding show-conns conns-in-range conns-depth
   conn-first y cs h qb qt =
-      let i = ended-next x a (show-conns cs) (conn-shown y .part) (h .shown) (ends-in x a qb) in
+      let i = ended-after x a (show-conns cs) (conn-shown y .part) (h .shown) qb in
       let r = and-parts (ltb (y .port) 256 && expr-in-range (y .signal)) (conns-in-range cs) (h .ranged) in
       let l : max (suc (expr-depth (y .signal))) (conns-depth cs) ≤ suc d = h .deep in
       (record { shown = qt ∙ i .here; deep = omega arith; ranged = both-true (r .0) refl }, record { shown = i .follows; deep = omega arith; ranged = r .1 })
@@ -243,8 +260,8 @@ module _ (i o : ℕ) (v : Answer) where
 
 module _ (o : ℕ) (z : Value) (s : Summary) (x : Bytes) (d : ℕ) (kinds : List ℕ) (names : Names) (g : List ℕ)
     {a : ℕ} (fa : EndsAt x 5 a) {b : ℕ} (fb : EndsAt x a b) {c : ℕ} (fc : EndsAt x b c) {e : ℕ} (fe : EndsAt x c e)
-    {m : ℕ} (qm : m ≡ min (number (piece x 5 a)) 4294967295) {nd : Node} (qn : nd ≡ inst-out m (index-of z) o)
-    {t : ℕ} (qt : t ≡ min (number (piece x c e)) 4294967295)
+    {m : ℕ} (qm : m ≡ number-at x 5 a) {nd : Node} (qn : nd ≡ inst-out m (index-of z) o)
+    {t : ℕ} (qt : t ≡ number-at x c e)
     (v : A.Added) (g₁ : List ℕ) (headed : (hs : List Head) → Stands g hs → Headed v g₁ hs nd t) where
   node-here : (i : Inst) → ShowsItem x d (inst i) → nd ≡ inst-out (i .name) (index-of z) o
   node-here i h =

@@ -8,7 +8,7 @@ use Prim.Native.Nat.{ℕ, suc, _+_, _-_, _≤_, _<_, min}
 use native.Mathlib.Omega.{arith}
 use lib.ListN.{length, drop, getD, length-drop}
 use lib.Dec.{eqb, ltb}
-use borrow.Author.Tests.{ltb-true}
+use borrow.Author.Tests.{ltb-true, lt-ltb, le-ltb}
 use Rattle.spec.specs.Bytes.{Bytes, number, show-number, show-rest, show-form}
 use mathlib.Core.Option.{none}
 use Rattle.spec.specs.Syntax.{Expr, Exprs, lit, truth, name, field, index, if-else, unary, binary, all, Header}
@@ -28,23 +28,25 @@ use Rattle.edges.specs.declared.Named.the-variants as named
 use Rattle.edges.specs.Reads.{ReadAll}
 use Rattle.edges.specs.declared.FieldOf as F
 use Rattle.edges.specs.declared.FieldOf.the-variants as of
-use Rattle.edges.specs.Shows.{ShowsExpr, ShowsExprs, NodesRead, one-read, NameRead, NamedBy, FieldOfIs, FieldRead, ExprRead, PartsRead}
+use Rattle.edges.specs.Shows.{ShowsExpr, ShowsExprs, NodesRead, one-read, NameRead, name-of, FieldOfIs, FieldRead, ExprRead, PartsRead}
+use Rattle.edges.specs.Lines.{end-behind, number-at}
 use Rattle.edges.proofs.ReadLaws.{read-none, read-then, read-stops}
 use Rattle.edges.proofs.ExprLaws.{Told, an-atom, a-name, a-field, a-form, told, children}
-use Rattle.edges.proofs.FieldLaws.{getD-drop-here, as-not, as-is, index-parts}
+use Rattle.edges.proofs.FieldLaws.{getD-drop-here, named-as, index-parts}
 
 -- ---- `next_end` and `number_at`
 
 -- a is where `next_end` says that the part behind the byte at e ends
 abbrev pub EndsAt : Bytes → ℕ → ℕ → Type 0
-EndsAt s e a = (b : ℕ) (t : Bytes) → drop e s ≡ b ∷ t → a ≡ next-end s e
+EndsAt s e a = a ≡ end-behind s e
 
-pub ends-in : (s : Bytes) (e : ℕ) {a : ℕ} → a ≡ part-end s (e + 1) → EndsAt s e a
-unfolding next-end
-ends-in s e q b t h = q
+pub ends-in : (s : Bytes) (e : ℕ) → e < length s → {a : ℕ} → a ≡ part-end s (e + 1) → EndsAt s e a
+unfolding end-behind next-end
+ends-in s e l q = q ∙ rw (lt-ltb e (length s) l, end-behind)
 
-pub ends-past : (s : Bytes) (e : ℕ) → length s ≤ e → {a : ℕ} → EndsAt s e a
-ends-past s e l b t h = absurd (omega (arith, length-drop e s, ap length h))
+pub ends-past : (s : Bytes) (e : ℕ) → length s ≤ e → EndsAt s e e
+unfolding end-behind
+ends-past s e l = rw (le-ltb e (length s) l, end-behind)
 
 module _ {t u : Bytes} (e : t ≡ u) {v : ℕ} (q : v ≡ min (number t) 4294967296) where
   pub number-large : 4294967295 < v → 4294967295 ≡ min (number u) 4294967295
@@ -58,19 +60,27 @@ pub record Ended (s : Bytes) (e a : ℕ) (x : Bytes) (xs : List Bytes) : Type 0 
   pub here : piece s e a ≡ x
   pub follows : drop a s ≡ show-rest xs
 
-pub ended : (s : Bytes) (e b : ℕ) {x : Bytes} {k : ℕ} (xs : List Bytes) → Part x k → drop e s ≡ b ∷ x ++ show-rest xs → {a : ℕ} → EndsAt s e a → Ended s e a x xs
-ended s e b {x} xs p q f =
+ended-at : (s : Bytes) (e b : ℕ) {x : Bytes} {k : ℕ} (xs : List Bytes) → Part x k → drop e s ≡ b ∷ x ++ show-rest xs → {a : ℕ} → a ≡ next-end s e → Ended s e a x xs
+ended-at s e b xs p q w =
     let h = placed s e b xs p q in
-    let w = f b (x ++ show-rest xs) q in
     record { here = ap (piece s e) w ∙ h .here; follows = ap (λ (n : ℕ). drop n s) w ∙ h .follows }
+
+pub ended : (s : Bytes) (e b : ℕ) {x : Bytes} {k : ℕ} (xs : List Bytes) → Part x k → drop e s ≡ b ∷ x ++ show-rest xs → {a : ℕ} → EndsAt s e a → Ended s e a x xs
+unfolding next-end
+ended s e b xs p q f = ended-at s e b xs p q (f ∙ sym (ends-in s e (omega (arith, length-drop e s, ap length q)) refl))
 
 -- the same for a part behind another
 pub ended-next : (s : Bytes) (e : ℕ) {x : Bytes} {k : ℕ} (xs : List Bytes) → Part x k → drop e s ≡ show-rest (x ∷ xs) → {a : ℕ} → EndsAt s e a → Ended s e a x xs
 unfolding show-rest
 ended-next s e xs p q f = ended s e 32 xs p q f
 
+-- the same where another part is known to follow
+pub ended-after : (s : Bytes) (e : ℕ) {x : Bytes} {k : ℕ} (xs : List Bytes) → Part x k → drop e s ≡ show-rest (x ∷ xs) → {a : ℕ} → a ≡ part-end s (e + 1) → Ended s e a x xs
+unfolding show-rest next-end
+ended-after s e xs p q f = ended-at s e 32 xs p q f
+
 -- a number that is shown there, and small enough
-pub number-here : (s : Bytes) (e a n : ℕ) {xs : List Bytes} → Ended s e a (show-number n) xs → n < 4294967295 → {v : ℕ} → v ≡ min (number (piece s e a)) 4294967295 → v ≡ n
+pub number-here : (s : Bytes) (e a n : ℕ) {xs : List Bytes} → Ended s e a (show-number n) xs → n < 4294967295 → {v : ℕ} → v ≡ number-at s e a → v ≡ n
 number-here s e a n h l q = omega (arith, ap number (h .here) ∙ number-show n)
 
 -- whether a part follows, by the byte there
@@ -85,7 +95,7 @@ module _ (e : Bytes) (d : ℕ) (kinds : List ℕ) (names : Names) (g : List ℕ)
     inner : ShowsExpr u d y
     out : p ≡ m
 
-  field-parts : {b : ℕ} → EndsAt e a b → {p : ℕ} → p ≡ min (number (piece e a b)) 4294967295 → (y : Expr) (m : ℕ) → ShowsExpr e (suc d) (field y m) → Field y m p
+  field-parts : {b : ℕ} → EndsAt e a b → {p : ℕ} → p ≡ number-at e a b → (y : Expr) (m : ℕ) → ShowsExpr e (suc d) (field y m) → Field y m p
   unfolding show-expr show-form show-rest expr-depth expr-in-range
   field-parts {b} fb {p} qp y m s =
       let q : drop 2 e ≡ 32 ∷ show-expr y ++ show-rest (show-number m ∷ []) = ap (drop 2) (s .shown) in
@@ -96,7 +106,7 @@ module _ (e : Bytes) (d : ℕ) (kinds : List ℕ) (names : Names) (g : List ℕ)
       let j : suc (expr-depth y) ≤ suc d = s .deep in
       record { inner = record { shown = qu ∙ h .here; deep = omega arith; ranged = l .0 }; out = number-here e a b m i (omega arith) qp }
 
-  module _ {b : ℕ} (fb : EndsAt e a b) {p : ℕ} (qp : p ≡ min (number (piece e a b)) 4294967295) (v : F.FieldOf) (says : FieldOfIs v u kinds) where
+  module _ {b : ℕ} (fb : EndsAt e a b) {p : ℕ} (qp : p ≡ number-at e a b) (v : F.FieldOf) (says : FieldOfIs v u kinds) where
     -- what is read, by what it is of
     reads-of : (f : FieldOf) (y : Expr) (m : ℕ) → Field y m p → (header : List Header) → field-of header y ≡ f → expr-reads (field y m) header names ≡ field-reads names f p (expr-reads y header names)
     unfolding expr-reads
@@ -178,15 +188,15 @@ module _ (e : Bytes) (d : ℕ) (kinds : List ℕ) (names : Names) (g : List ℕ)
       go (a-field y m q z u v) = absurd (no z)
       go (a-form c p q h i l r) = absurd (no (ap (λ (z : Bytes). getD z 0 0) q))
 
-  module _ (v : N.Named) (says : (y : Expr) (c : ℕ) → ShowsExpr e c y → NamedBy v y) where
+  module _ (v : N.Named) (is : v ≡ name-of e) where
     -- a name
     pub expr-name : {m : ℕ} → v ≡ named.Is m → (r : Bool) (g′ : List ℕ) → NameRead r m kinds g g′ from → ExprRead r e d kinds names g g′ from
     unfolding expr-reads
-    expr-name {m} q r g′ f x s header w hs n start rs k = rw (as-is v m q x (says x d s)) (f header w hs n start rs k)
+    expr-name {m} q r g′ f x s header w hs n start rs k = rw (named-as e v (named.Is m) is q d x s) (f header w hs n start rs k)
 
     module _ (o : getD e 0 0 ≡ 40) (q : v ≡ named.Not) where
       no-name : (x : Expr) → ShowsExpr e d x → (m : ℕ) → x ≡ name m → ⊥
-      no-name x s = as-not v q x (says x d s)
+      no-name x s = named-as e v named.Not is q d x s
 
       deeper : (x : Expr) → ShowsExpr e d x → 0 < d
       unfolding expr-depth
@@ -242,7 +252,7 @@ module _ (s : Bytes) (a d : ℕ) (kinds : List ℕ) (names : Names) (from : ℕ)
       → ShowsExpr t d y × ShowsExprs (drop b s) d es
   unfolding show-expr exprs-in-range exprs-depth
   part-first y es h qb qt =
-      let i = ended-next s a (show-exprs es) (expr-shown y .part) (h .shown) (ends-in s a qb) in
+      let i = ended-after s a (show-exprs es) (expr-shown y .part) (h .shown) qb in
       let r = and-parts (expr-in-range y) (exprs-in-range es) (h .ranged) in
       let l = h .deep in
       (record { shown = qt ∙ i .here; deep = omega arith; ranged = r .0 }, record { shown = i .follows; deep = omega arith; ranged = r .1 })

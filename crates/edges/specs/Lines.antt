@@ -1,16 +1,20 @@
 -- What the heads of a collected line leave in the graph of a module. 01: The line; The edge; Refused because of the state.
--- To a reader: definitions that contracts of this and other crates cite; each such contract is proved; check_drivers' own promise cites none of them.
+-- To a reader: definitions that contracts of this and other crates cite; each such contract is proved; IndexIs and ModuleIs are statements, proved in
+-- proofs/OutputLaws (index-is, module-is); check_drivers' own promise cites none of them.
 use mathlib.Core.Path.{_≡_}
-use mathlib.Core.Bool.{Bool, true}
+use mathlib.Core.Bool.{Bool, true, false}
 use mathlib.Core.List.{List, [], _∷_}
-use Prim.Native.Nat.{ℕ, zero, suc, _+_, _≤_}
-use lib.ListN.{getD}
-use Rattle.spec.specs.Bytes.{Bytes, bytes, show-number, show-rest, show-form}
+use Prim.Native.Nat.{ℕ, zero, suc, _+_, _-_, _≤_, min}
+use lib.ListN.{length, getD}
+use lib.Dec.{eqb, ltb}
+use Rattle.spec.specs.Bytes.{Bytes, bytes, number, show-number, show-rest, show-form}
 use Rattle.spec.specs.Syntax.{Expr, LValue, Conn, Inst, wire, drive, inst, Header}
 use Rattle.spec.specs.Show.{show-expr, show-conns}
 use Rattle.spec.specs.Refusal.{expr-depth, conns-in-range, conns-depth}
-use Rattle.spec.specs.Value.{Names, Value}
+use Rattle.spec.specs.Decode.{decode-expr}
+use Rattle.spec.specs.Value.{Names, Value, missing, value}
 use Rattle.spec.specs.Edge.{Node, inst-out, Head, one-head, Summary, conn-reads, index-of, place-value, line-heads, inst-edges}
+use Rattle.lines.specs.Parts.{piece, next-end}
 use Rattle.runs.specs.Run.{ShowsItem}
 use Rattle.graph.specs.Stands.{Stands, Heading}
 use Rattle.edges.specs.Reads.{KindsOf, ReadAll, HeadAll}
@@ -32,6 +36,39 @@ DriveHeads r x d kinds names g g′ =
 unfoldable pub summary-at : List ℕ → ℕ → ℕ → Summary
 summary-at w first zero = []
 summary-at w first (suc count) = (getD w first 0, getD w (first + 1) 0) ∷ summary-at w (first + 2) count
+
+-- 01, The line: the end of the part behind the byte at `before`, whatever the bytes are: past their end `before` itself
+unfoldable pub end-behind : Bytes → ℕ → ℕ
+end-behind s before = elim (ltb before (length s)) [ true ↦ next-end s before | false ↦ before ]
+
+-- 01, The line: `(inst NAME X MOD START C...)`: the end of NAME, whatever the bytes are: of the part behind the first five
+abbrev pub name-end : Bytes → ℕ
+name-end x = end-behind x 5
+
+-- 01, The line: the end of X, the part behind it
+abbrev pub place-end : Bytes → ℕ
+place-end x = end-behind x (name-end x)
+
+-- 01, The line: the end of MOD, the part behind that
+abbrev pub module-end : Bytes → ℕ
+module-end x = end-behind x (place-end x)
+
+-- 01, The edge: the value of an index by the bytes u of X, whatever they are: missing where they begin with a minus, else the value of what they
+-- show, at most d brackets deep
+unfoldable pub index-value : Bytes → ℕ → Names → Value
+index-value u d names = elim (eqb (getD u 0 0) 45) [ true ↦ missing | false ↦ value names (decode-expr d u) ]
+
+-- 01, The edge: the value of the index of an instance, whatever the bytes are
+unfoldable pub inst-index : Bytes → ℕ → Names → Value
+inst-index x d names = index-value (piece x (name-end x) (place-end x)) (d - 1) names
+
+-- 01, The line: the number that stands between two places, whatever the bytes are: all that is no word of 32 bits gives the last one
+abbrev pub number-at : Bytes → ℕ → ℕ → ℕ
+number-at s before end = min (number (piece s before end)) 4294967295
+
+-- 01, The edge: the module of an instance, whatever the bytes are: the number that stands at MOD
+unfoldable pub inst-module : Bytes → ℕ
+inst-module x = number-at x (place-end x) (module-end x)
 
 -- 01, The edge: of an `inst` line: v is the value of the index of the instance, missing where it has no index
 abbrev pub IndexIs : Value → Bytes → ℕ → Names → Type 0

@@ -1,23 +1,27 @@
 -- Expressions as the code reads them: by the first bytes of a form, and then part by part. 01: The line; The edge; Refused because of the
 -- state.
--- To a reader: definitions that the contracts of this crate cite; each such contract is proved; check_drivers' own promise cites none of them.
+-- To a reader: definitions that the contracts of this crate cite; each such contract is proved; NamedBy and IndexedBy are statements, proved in
+-- proofs/ExprLaws (name-is) and proofs/FieldLaws (indexed-is); check_drivers' own promise cites none of them.
 use mathlib.Core.Path.{_≡_}
-use mathlib.Core.Bool.{Bool, true, false}
+use mathlib.Core.Bool.{Bool, true, false, _&&_}
 use mathlib.Core.List.{List, [], _∷_}
 use Prim.Native.Nat.{ℕ, suc, _≤_}
-use Rattle.spec.specs.Bytes.{Bytes, show-rest}
+use lib.ListN.{getD}
+use lib.Dec.{eqb, ltb}
+use Rattle.spec.specs.Bytes.{Bytes, number, show-rest}
 use Rattle.spec.specs.Syntax.{Expr, Exprs, name, field, index, Header}
 use Rattle.spec.specs.Show.{show-expr, show-exprs}
 use Rattle.spec.specs.Refusal.{expr-in-range, exprs-in-range, expr-depth, exprs-depth}
 use Rattle.spec.specs.Value.{Names}
 use Rattle.spec.specs.Site.{kind-of}
 use Rattle.spec.specs.Edge.{Node, Reads, name-reads, is-inst, an-inst, an-inst-at, no-inst, field-of, expr-reads, exprs-reads, Head}
+use Rattle.lines.specs.Parts.{part-end, piece}
 use Rattle.graph.specs.Stands.{Heading}
 use Rattle.edges.specs.declared.Named as N
 use Rattle.edges.specs.declared.Named.the-variants as named
 use Rattle.edges.specs.declared.FieldOf as F
 use Rattle.edges.specs.declared.FieldOf.the-variants as of
-use Rattle.edges.specs.Reads.{KindsOf, ReadAll}
+use Rattle.edges.specs.Reads.{kind-word, KindsOf, ReadAll}
 
 -- 01, The line: the bytes e show x, which is in range and at most d brackets deep
 pub record ShowsExpr (e : Bytes) (d : ℕ) (x : Expr) : Type 0 where
@@ -41,6 +45,26 @@ NameRead r m kinds g g′ from = (header : List Header) → KindsOf kinds header
 abbrev pub one-read : Node → Reads
 one-read n = record { nodes = n ∷ []; out = false }
 
+-- 01, The line: whether the bytes x begin with a bracket and then a and b
+unfoldable pub begins : Bytes → ℕ → ℕ → Bool
+begins x a b = eqb (getD x 0 0) 40 && (eqb (getD x 1 0) a && eqb (getD x 2 0) b)
+
+-- 01, The edge: a number as a name, none where it is no word of 32 bits
+abbrev pub as-name : ℕ → N.Named
+as-name n = elim (ltb 4294967295 n) [ true ↦ named.Not | false ↦ named.Is n ]
+
+-- 01, The edge: the name that the bytes x are, whatever they show: `(n ` and its number, or none
+unfoldable pub name-of : Bytes → N.Named
+name-of x = elim (begins x 110 32) [ true ↦ as-name (number (piece x 2 (part-end x 3))) | false ↦ named.Not ]
+
+-- 01, The edge: the name that the bytes x are an index of, whatever they show: `(ix` and the name that its first part is, or none
+unfoldable pub indexed-name : Bytes → N.Named
+indexed-name x = elim (begins x 105 120) [ true ↦ name-of (piece x 3 (part-end x 4)) | false ↦ named.Not ]
+
+-- 01, The edge: whether the name i is an inst, whatever the bytes of the table of kinds are
+abbrev pub inst-by : List ℕ → ℕ → Bool
+inst-by kinds i = is-inst (kind-word (getD kinds i 0))
+
 -- 01, The edge: what looking for a name says of an expression: it is that name, or it is none
 abbrev pub NamedBy : N.Named → Expr → Type 0
 NamedBy (named.Is n) x = x ≡ name n
@@ -50,10 +74,6 @@ NamedBy named.Not x = (n : ℕ) → x ≡ name n → ⊥
 abbrev pub IndexedBy : N.Named → Expr → Type 0
 IndexedBy (named.Is n) x = (e : Expr) × (x ≡ index (name n) e)
 IndexedBy named.Not x = (n : ℕ) (e : Expr) → x ≡ index (name n) e → ⊥
-
--- 01, The edge: r says whether the name i is an inst
-abbrev pub IsInst : Bool → ℕ → List ℕ → Type 0
-IsInst r i kinds = (header : List Header) → KindsOf kinds header → r ≡ is-inst (kind-of header i)
 
 -- 01, The edge: what the code says of an `f` of x
 abbrev pub SaysOf : F.FieldOf → List Header → Expr → Type 0

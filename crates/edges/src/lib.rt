@@ -2,16 +2,15 @@
 use consteval::Value;
 use graph::Added;
 use graph::Node;
+use lines::bytes::is_minus;
+use lines::bytes::is_open;
 use lines::numbers;
 use lines::parts;
 ghost use mathlib.Core.Path.{_≡_};
-ghost use mathlib.Core.List.{_∷_};
-ghost use Prim.Native.Nat.{ℕ, _+_, _-_, min};
-ghost use lib.ListN.{drop, getD};
+ghost use Prim.Native.Nat.{_+_, _-_};
+ghost use lib.ListN.{length, drop, getD};
 ghost use lib.Dec.{eqb};
 ghost use mathlib.Core.Bool.{_&&_};
-ghost use Rattle.spec.specs.Bytes.{Bytes, number};
-ghost use Rattle.spec.specs.Syntax.{Expr};
 ghost use mathlib.Core.Option.{none};
 ghost use Rattle.spec.specs.Decode.{decode-expr};
 ghost use Rattle.spec.specs.Value.{value};
@@ -19,12 +18,11 @@ ghost use Rattle.spec.specs.Edge.{inst-out, indexed-reads, reaches, index-of, h
 ghost use Rattle.graph.specs.Table.{node-of};
 ghost use Rattle.spec.specs.Cleared.{ClearedUnless};
 ghost use Rattle.consteval.specs.Worth.{names-of, worth};
-ghost use Rattle.lines.specs.Parts.{piece, next-end};
-ghost use Rattle.edges.specs.Shows.{NameRead, NamedBy, IndexedBy, IsInst, FieldOfIs, ShowsExpr, NodesRead, FieldRead, ExprRead, PartsRead, one-read};
-ghost use Rattle.edges.specs.Lines.{WireHeads, DriveHeads, summary-at, IndexIs, ModuleIs, ConnRead, ConnsRead, OutputHead, InstHeads};
+ghost use Rattle.edges.specs.Shows.{begins, name-of, indexed-name, inst-by, NameRead, FieldOfIs, NodesRead, FieldRead, ExprRead, PartsRead, one-read};
+ghost use Rattle.edges.specs.Lines.{WireHeads, DriveHeads, summary-at, end-behind, number-at, inst-index, inst-module, ConnRead, ConnsRead, OutputHead, InstHeads};
 
 // The node `from`, which the last line headed, reads the name n, by its kind: false where a limit is passed, and then the graph is cleared.
-pub fn name_read(kinds: &[u8], n: u32, g: &mut [u32], from: u32) -> bool
+fn name_read(kinds: &[u8], n: u32, g: &mut [u32], from: u32) -> bool
     ensures { λ r. ⌜ NameRead r n (now (kinds .entry)) (now (g .entry)) (now (g .exit)) from ⌝ }
     ensures { λ r. ⌜ ClearedUnless r (now (g .exit)) ⌝ }
 {
@@ -42,22 +40,29 @@ pub fn name_read(kinds: &[u8], n: u32, g: &mut [u32], from: u32) -> bool
 }
 
 // The name that an expression is, if it is one.
-pub enum Named {
+enum Named {
     Is(u32),
     Not,
 }
 
-// Is the expression x a name? By the first bytes of a form.
-pub fn name_of(x: &[u8]) -> Named
-    ensures { λ r. ⌜ ((y : Expr) (d : ℕ) → ShowsExpr (now (x .entry)) d y → NamedBy r y) ⌝ }
+// Does x begin with a bracket and then a and b?
+fn begins(x: &[u8], a: u8, b: u8) -> bool
+    ensures { λ r. ⌜ r ≡ begins (now (x .entry)) a b ⌝ }
 {
-    if parts::byte(x, 0) != b'(' {
-        return Named::Not;
+    if !is_open(parts::byte(x, 0)) {
+        return false;
     }
-    if parts::byte(x, 1) != b'n' {
-        return Named::Not;
+    if parts::byte(x, 1) != a {
+        return false;
     }
-    if parts::byte(x, 2) != b' ' {
+    parts::byte(x, 2) == b
+}
+
+// Is the expression x a name? By the first bytes of a form.
+fn name_of(x: &[u8]) -> Named
+    ensures { λ r. ⌜ r ≡ name-of (now (x .entry)) ⌝ }
+{
+    if !begins(x, b'n', b' ') {
         return Named::Not;
     }
     let a = parts::part_end(x, 3);
@@ -70,15 +75,9 @@ pub fn name_of(x: &[u8]) -> Named
 
 // The name that the expression x is an index of, if it is one of a name. By the first bytes of a form.
 fn indexed_name(x: &[u8]) -> Named
-    ensures { λ r. ⌜ ((y : Expr) (d : ℕ) → ShowsExpr (now (x .entry)) d y → IndexedBy r y) ⌝ }
+    ensures { λ r. ⌜ r ≡ indexed-name (now (x .entry)) ⌝ }
 {
-    if parts::byte(x, 0) != b'(' {
-        return Named::Not;
-    }
-    if parts::byte(x, 1) != b'i' {
-        return Named::Not;
-    }
-    if parts::byte(x, 2) != b'x' {
+    if !begins(x, b'i', b'x') {
         return Named::Not;
     }
     let a = parts::part_end(x, 4);
@@ -87,7 +86,7 @@ fn indexed_name(x: &[u8]) -> Named
 
 // Is the name i an inst?
 fn is_inst(kinds: &[u8], i: u32) -> bool
-    ensures { λ r. ⌜ IsInst r i (now (kinds .entry)) ⌝ }
+    ensures { λ r. ⌜ r ≡ inst-by (now (kinds .entry)) i ⌝ }
 {
     if parts::byte(kinds, i as usize) < 6 {
         return false;
@@ -166,7 +165,7 @@ fn index_read(
 
 // The end of the part behind the byte at `before`; `before` itself past the end.
 fn next_end(s: &[u8], before: usize) -> usize
-    ensures { λ r. ⌜ ((b : ℕ) (t : Bytes) → drop before (now (s .entry)) ≡ b ∷ t → r ≡ next-end (now (s .entry)) before) ⌝ }
+    ensures { λ r. ⌜ r ≡ end-behind (now (s .entry)) before ⌝ }
 {
     if before < s.len() {
         return parts::part_end(s, before + 1);
@@ -176,7 +175,7 @@ fn next_end(s: &[u8], before: usize) -> usize
 
 // The number between two places; all that is no u32 gives the last one.
 fn number_at(s: &[u8], before: usize, end: usize) -> u32
-    ensures { λ r. ⌜ r ≡ min (number (piece (now (s .entry)) before end)) 4294967295 ⌝ }
+    ensures { λ r. ⌜ r ≡ number-at (now (s .entry)) before end ⌝ }
 {
     let v = numbers::value(parts::between(s, before, end));
     if 4294967295 < v {
@@ -222,7 +221,7 @@ fn field_reads(
 
 // The node `from` reads what the expression e reads: false where a limit is passed or an index is outside INT, and then
 // the graph is cleared.
-pub fn expr_reads(
+fn expr_reads(
     e: &[u8],
     depth: u32,
     kinds: &[u8],
@@ -234,7 +233,7 @@ pub fn expr_reads(
     ensures { λ r. ⌜ ExprRead r (now (e .entry)) depth (now (kinds .entry)) (names-of (now (names .entry)) used) (now (g .entry)) (now (g .exit)) from ⌝ }
     ensures { λ r. ⌜ ClearedUnless r (now (g .exit)) ⌝ }
 {
-    if parts::byte(e, 0) != b'(' {
+    if !is_open(parts::byte(e, 0)) {
         return true;
     }
     match name_of(e) {
@@ -289,6 +288,7 @@ pub fn wire_heads(
 ) -> bool
     ensures { λ r. ⌜ WireHeads r (now (x .entry)) depth (now (kinds .entry)) (names-of (now (names .entry)) used) (now (g .entry)) (now (g .exit)) ⌝ }
     ensures { λ r. ⌜ ClearedUnless r (now (g .exit)) ⌝ }
+    ensures { λ _. ⌜ length (now (g .exit)) ≡ length (now (g .entry)) ⌝ }
 {
     let a = next_end(x, 5);
     let b = next_end(x, a);
@@ -322,6 +322,7 @@ pub fn drive_heads(
 ) -> bool
     ensures { λ r. ⌜ DriveHeads r (now (x .entry)) depth (now (kinds .entry)) (names-of (now (names .entry)) used) (now (g .entry)) (now (g .exit)) ⌝ }
     ensures { λ r. ⌜ ClearedUnless r (now (g .exit)) ⌝ }
+    ensures { λ _. ⌜ length (now (g .exit)) ≡ length (now (g .entry)) ⌝ }
 {
     let a = next_end(x, 6);
     let lv = parts::between(x, 6, a);
@@ -350,11 +351,11 @@ pub fn drive_heads(
 
 // The value of the index of the `inst` line x, missing where it has none. Its name stands behind the 5 bytes of `(inst`, then the index.
 pub fn inst_index(x: &[u8], depth: u32, names: &[u32], used: usize) -> Value
-    ensures { λ r. ⌜ IndexIs (worth r) (now (x .entry)) depth (names-of (now (names .entry)) used) ⌝ }
+    ensures { λ r. ⌜ worth r ≡ inst-index (now (x .entry)) depth (names-of (now (names .entry)) used) ⌝ }
 {
     let a = next_end(x, 5);
     let e = parts::between(x, a, next_end(x, a));
-    if parts::byte(e, 0) == b'-' {
+    if is_minus(parts::byte(e, 0)) {
         return Value::Missing;
     }
     consteval::eval(e, under(depth, 1), names, used)
@@ -362,7 +363,7 @@ pub fn inst_index(x: &[u8], depth: u32, names: &[u32], used: usize) -> Value
 
 // The module of the `inst` line x.
 pub fn inst_module(x: &[u8]) -> u32
-    ensures { λ r. ⌜ ((d : ℕ) → ModuleIs r (now (x .entry)) d) ⌝ }
+    ensures { λ r. ⌜ r ≡ inst-module (now (x .entry)) ⌝ }
 {
     let a = next_end(x, 5);
     let b = next_end(x, a);
@@ -564,6 +565,7 @@ pub fn inst_heads(
 ) -> bool
     ensures { λ r. ⌜ InstHeads r (worth index) (summary-at (now (w .entry)) first count) (now (x .entry)) depth (now (kinds .entry)) (names-of (now (names .entry)) used) (now (g .entry)) (now (g .exit)) ⌝ }
     ensures { λ r. ⌜ ClearedUnless r (now (g .exit)) ⌝ }
+    ensures { λ _. ⌜ length (now (g .exit)) ≡ length (now (g .entry)) ⌝ }
 {
     let mut p = first;
     let mut left = count;

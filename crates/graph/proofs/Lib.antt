@@ -3,6 +3,8 @@ pub mod Tables
 pub mod Heads
 pub mod Stands
 pub mod Hints
+pub mod Leaving
+pub mod Keeping
 pub mod Limits
 pub mod Reaching
 pub mod Lifted

@@ -196,7 +196,7 @@ empty-list : (w : List ℕ) → reached w 0 ≡ []
 unfolding words-below
 empty-list w = refl
 
-empty-queue : {w : List ℕ} → Clean w → Queued w 0
+pub empty-queue : {w : List ℕ} → Clean w → Queued w 0
 unfolding words-below among
 empty-queue C = record {
   sized = C .sized;

@@ -118,6 +118,9 @@ module _ {w : List ℕ} {k : ℕ} (Q : Queued w k) (t : ℕ) (tl : t < 512) (new
   pub mark-kept : (i : ℕ) → i < k → getD w′ (514 + i) 0 ≡ getD w (514 + i) 0
   mark-kept i h = other (514 + i) (λ e. omega arith) (λ e. omega arith)
 
+  pub mark-behind : (j : ℕ) → 1538 ≤ j → getD w′ j 0 ≡ getD w j 0
+  mark-behind j h = let f = fits in other j (λ e. omega arith) (λ e. omega arith)
+
   pub mark-more : reached w′ (k + 1) ≡ t ∷ reached w k
   mark-more =
       let s = Q .sized in
@@ -158,6 +161,7 @@ pub record Going (g : List ℕ) (n s : ℕ) (w₀ : List ℕ) (k : ℕ) (w : Lis
   pub all : (t : ℕ) → t ∈ out s (edges-below g 3074 n) → (t ∈ reached w m) ⊎ (t ∈ out s (edges-below g 3074 e))
   pub only : (t : ℕ) → t ∈ reached w m → (t ∈ reached w₀ k) ⊎ (t ∈ out s (edges-below g 3074 n))
   pub left : (t : ℕ) → t ∈ out s (edges-below g 3074 e) → t ∈ out s (edges-below g 3074 n)
+  pub behind : (j : ℕ) → 1538 ≤ j → getD w j 0 ≡ getD w₀ j 0
 
 abbrev pub Spreading : List ℕ → ℕ → List ℕ → ℕ → List ℕ → ℕ → ℕ → Type 0
 Spreading g s w₀ k w m e = (n : ℕ) → Sound g n → s < 512 → Queued w₀ k → Going g n s w₀ k w m e
@@ -172,6 +176,7 @@ module _ (g : List ℕ) (s : ℕ) (w₀ : List ℕ) (k : ℕ) where
     all = λ t i. inr (rw (links-all (S .linked) s sl) i);
     only = λ t i. inl i;
     left = λ t i. rw (links-all (S .linked) s sl) at i;
+    behind = λ j h. refl;
   })
 
   module _ {w : List ℕ} {m e : ℕ} where
@@ -179,7 +184,7 @@ module _ (g : List ℕ) (s : ℕ) (w₀ : List ℕ) (k : ℕ) where
     unfolding out edges-below
     spread-end z f n S sl Q =
         let G = f n S sl Q in
-        record { queued = G .queued; more = G .more; kept = G .kept; all = λ t i. go t (G .all t i); only = G .only }
+        record { queued = G .queued; more = G .more; kept = G .kept; all = λ t i. go t (G .all t i); only = G .only; behind = G .behind }
       where
         none : e ≡ 0
         none = omega arith
@@ -221,6 +226,7 @@ module _ (g : List ℕ) (s : ℕ) (w₀ : List ℕ) (k : ℕ) where
           all = λ x i. go x (G n S sl Q .all x i);
           only = G n S sl Q .only;
           left = λ x i. G n S sl Q .left x (rw (step n S sl Q) (List·Memᴰ·tail i));
+          behind = G n S sl Q .behind;
         })
           where
             above : (x : ℕ) → ¬ (x ≡ 0) → 0 < x
@@ -251,6 +257,7 @@ module _ (g : List ℕ) (s : ℕ) (w₀ : List ℕ) (k : ℕ) where
             all = λ x i. go x (G n S sl Q .all x i);
             only = λ x i. back′ x (List·Memᴰ·cases-cons (rw (mark-more R t tl c) at i));
             left = λ x i. G n S sl Q .left x (rw (step n S sl Q) (List·Memᴰ·tail i));
+            behind = λ j l. mark-behind R t tl c j l ∙ G n S sl Q .behind j l;
           })
             where
               R : Queued w m
@@ -291,6 +298,7 @@ pub record Flow (g kinds : List ℕ) (n : ℕ) (w₀ w : List ℕ) (m i : ℕ) :
   pub first : (t : ℕ) → t ∈ reached w₀ 1 → t ∈ reached w m
   pub done : (j : ℕ) → j < i → (t : ℕ) → t ∈ next-of g kinds n (getD w (514 + j) 0) → t ∈ reached w m
   pub only : (t : ℕ) → t ∈ reached w m → Reached (next-of g kinds n) (reached w₀ 1) t
+  pub behind : (j : ℕ) → 1538 ≤ j → getD w j 0 ≡ getD w₀ j 0
 
 abbrev pub Flowing : List ℕ → List ℕ → List ℕ → List ℕ → ℕ → ℕ → Type 0
 Flowing g kinds w₀ w m i = (n : ℕ) → Sound g n → Queued w₀ 1 → Flow g kinds n w₀ w m i
@@ -307,7 +315,7 @@ last-or j i h = go (eqb j i) refl
 
 module _ (g kinds w₀ : List ℕ) where
   pub flow-start : Flowing g kinds w₀ w₀ 1 0
-  flow-start n S Q = record { queued = Q; first = λ t i. i; done = λ j h. absurd (omega arith); only = λ t i. reached-root (next-of g kinds n) i }
+  flow-start n S Q = record { queued = Q; first = λ t i. i; done = λ j h. absurd (omega arith); only = λ t i. reached-root (next-of g kinds n) i; behind = λ j h. refl }
 
   module _ {w : List ℕ} {m i : ℕ} (F : Flowing g kinds w₀ w m i) where
     pub flow-end : m ≤ i → (n : ℕ) → Sound g n → Queued w₀ 1 → Flooded g kinds n w₀ w m
@@ -318,6 +326,7 @@ module _ (g kinds w₀ : List ℕ) where
           first = f .first;
           closed = λ s t a b. let (j, l, e) = at-words 514 w m s a in f .done j (omega arith) t (rw e b);
           only = f .only;
+          behind = f .behind;
         }
 
     module _ (l : i < m) {s : ℕ} (d : s ≡ getD w (514 + i) 0) where
@@ -325,7 +334,7 @@ module _ (g kinds w₀ : List ℕ) where
       unfolding next-of
       flow-stop e c n S Q =
           let f = F n S Q in
-          record { queued = f .queued; first = f .first; done = λ j h t a. go j (last-or j i h) t a; only = f .only }
+          record { queued = f .queued; first = f .first; done = λ j h t a. go j (last-or j i h) t a; only = f .only; behind = f .behind }
         where
           go : (j : ℕ) → (j ≡ i) ⊎ (j < i) → (t : ℕ) → t ∈ next-of g kinds n (getD w (514 + j) 0) → t ∈ reached w m
           go j (inr h) t a = F n S Q .done j h t a
@@ -343,6 +352,7 @@ module _ (g kinds w₀ : List ℕ) where
           first = λ t a. grow t (f .first t a);
           done = λ j h t a. go j (last-or j i h) t a;
           only = λ t a. back t (p .only t a);
+          behind = λ j h. p .behind j h ∙ f .behind j h;
         }
           where
             f : Flow g kinds n w₀ w m i
@@ -381,6 +391,7 @@ pub record Taken (g kinds w₀ : List ℕ) (k : ℕ) (w : List ℕ) (r i : ℕ) 
   pub cleared : (t : ℕ) → t < 512 → t ∈ reached w₀ i → getD w (2 + t) 0 ≡ 0
   pub others : (t : ℕ) → t < 512 → ¬ (t ∈ reached w₀ k) → getD w (2 + t) 0 ≡ 0
   pub names : found w r ≡ names-in g kinds (reached w₀ i)
+  pub behind : (j : ℕ) → 1538 ≤ j → getD w j 0 ≡ getD w₀ j 0
 
 abbrev pub Taking : List ℕ → List ℕ → List ℕ → ℕ → List ℕ → ℕ → ℕ → Type 0
 Taking g kinds w₀ k w r i = Queued w₀ k → Taken g kinds w₀ k w r i
@@ -394,6 +405,7 @@ module _ (g kinds w₀ : List ℕ) (k : ℕ) where
     cleared = λ t h a. absurd (List·Memᴰ·not-nil a);
     others = λ t h a. low (getD w₀ (2 + t) 0) (sym (Q .marks t h) ∙ out-of t (reached w₀ k) a);
     names = refl;
+    behind = λ j h. refl;
   }
     where
       low : (x : ℕ) → ltb 0 x ≡ false → x ≡ 0
@@ -413,6 +425,7 @@ module _ (g kinds w₀ : List ℕ) (k : ℕ) where
         record {
           clean = record { sized = f .sized; unmarked = λ t h. go t h (among eqb t (reached w₀ k)) refl };
           names = f .names ∙ ap (names-in g kinds) same;
+          behind = f .behind;
         }
       where
         same : reached w₀ i ≡ reached w₀ k
@@ -468,6 +481,7 @@ module _ (g kinds w₀ : List ℕ) (k : ℕ) where
         cleared = cleared′;
         others = others′;
         names = same-names h ∙ T Q .names ∙ sym (ap (names-in g kinds) next-reached ∙ pick-false (stops g kinds s) _ _ (sym e ∙ c));
+        behind = λ j m. let y = low in away j (λ c. omega arith) ∙ T Q .behind j m;
       }
 
       -- a name more
@@ -480,6 +494,7 @@ module _ (g kinds w₀ : List ℕ) (k : ℕ) where
         others = λ t m a. off (2 + t) (λ c. omega arith) ∙ others′ t m a;
         names = longer ∙ ap (λ z. x ∷ z) (T Q .names) ∙ ap (λ z. z ∷ names-in g kinds (reached w₀ i)) ex
             ∙ sym (ap (names-in g kinds) next-reached ∙ pick-true (stops g kinds s) _ _ (sym e ∙ c));
+        behind = λ j m. let y = low in let f = Q .few in off j (λ c. omega arith) ∙ away j (λ c. omega arith) ∙ T Q .behind j m;
       }
         where
           size′ : length u ≡ length v

@@ -3,3 +3,4 @@ pub mod Stands
 pub mod Reach
 pub mod Machine
 pub mod Cycles
+pub mod Leaves

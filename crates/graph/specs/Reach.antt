@@ -59,30 +59,35 @@ unfoldable pub next-of : List ℕ → List ℕ → ℕ → ℕ → List ℕ
 next-of g kinds n i = elim (stops g kinds i) [ true ↦ [] | false ↦ out i (edges-below g 3074 n) ]
 
 -- 01, The edge: what the edges of s add to the nodes reached: those that they lead to and no other; the k nodes before stay where they
--- are
+-- are, and so does every word behind the 1,538
 pub record Spread (g : List ℕ) (n s : ℕ) (w : List ℕ) (k : ℕ) (w′ : List ℕ) (k′ : ℕ) : Type 0 where
   pub queued : Queued w′ k′
   pub more : k ≤ k′
   pub kept : (i : ℕ) → i < k → getD w′ (514 + i) 0 ≡ getD w (514 + i) 0
   pub all : (t : ℕ) → t ∈ out s (edges-below g 3074 n) → t ∈ reached w′ k′
   pub only : (t : ℕ) → t ∈ reached w′ k′ → (t ∈ reached w k) ⊎ (t ∈ out s (edges-below g 3074 n))
+  pub behind : (j : ℕ) → 1538 ≤ j → getD w′ j 0 ≡ getD w j 0
 
--- 01, The edge: all that is reached from the node that stands first, and no other node; the search stops at signals of kind in
+-- 01, The edge: all that is reached from the node that stands first, and no other node; the search stops at signals of kind in; every
+-- word behind the 1,538 stays
 pub record Flooded (g kinds : List ℕ) (n : ℕ) (w w′ : List ℕ) (k : ℕ) : Type 0 where
   pub queued : Queued w′ k
   pub first : (t : ℕ) → t ∈ reached w 1 → t ∈ reached w′ k
   pub closed : (s t : ℕ) → s ∈ reached w′ k → t ∈ next-of g kinds n s → t ∈ reached w′ k
   pub only : (t : ℕ) → t ∈ reached w′ k → Reached (next-of g kinds n) (reached w 1) t
+  pub behind : (j : ℕ) → 1538 ≤ j → getD w′ j 0 ≡ getD w j 0
 
 -- 01, The edge: the names of the signals of kind in among some nodes
 unfoldable pub names-in : List ℕ → List ℕ → List ℕ → List ℕ
 names-in g kinds [] = []
 names-in g kinds (i ∷ l) = elim (stops g kinds i) [ true ↦ getD g (514 + i) 0 ∷ names-in g kinds l | false ↦ names-in g kinds l ]
 
--- 01, The edge: the r names found are those of the signals of kind in among the k nodes reached; and no node is marked
+-- 01, The edge: the r names found are those of the signals of kind in among the k nodes reached; and no node is marked; every word behind the
+-- 1,538 stays
 pub record Gathered (g kinds w : List ℕ) (k : ℕ) (w′ : List ℕ) (r : ℕ) : Type 0 where
   pub clean : Clean w′
   pub names : found w′ r ≡ names-in g kinds (reached w k)
+  pub behind : (j : ℕ) → 1538 ≤ j → getD w′ j 0 ≡ getD w j 0
 
 -- 01, The edge: `kinds` has 1 for the names of kind in and for no other
 abbrev pub KindsAre : List ℕ → List Header → Type 0

@@ -1,7 +1,7 @@
 -- The heads for which a graph's slice stands. 01: The edge; The walk; Refused because of the state; Worthless checks.
 -- To a reader: definitions that contracts of this and other crates cite; each such contract is proved; check_drivers' own promise needs only graph-places.
 use mathlib.Core.Path.{_≡_}
-use mathlib.Core.Bool.{true}
+use mathlib.Core.Bool.{true, false}
 use mathlib.Core.List.{List, [], _∷_, _++_}
 use Prim.Native.Nat.{ℕ, _<_, _≤_}
 use lib.ListN.{length}
@@ -10,7 +10,7 @@ use Rattle.spec.specs.Graph.{_∈_, Once}
 use Rattle.spec.specs.DepthFirst.{among}
 use Rattle.spec.specs.Edge.{Node, same-node, Head, all-nodes, head-nodes, all-reads, edges-from, over-graph}
 use Rattle.spec.specs.FindCycles.{start-of}
-use Rattle.spec.specs.Cleared.{Cleared}
+use Rattle.spec.specs.Cleared.{Cleared, by-number}
 use Rattle.graph.specs.Table.{count, edge-total, node-at, start-at, headed-at, nodes-below, source, target, edges-below, out, Linked}
 use Rattle.graph.specs.declared.Added as A
 use Rattle.graph.specs.declared.Added.the-variants as added
@@ -78,7 +78,15 @@ abbrev pub Read : A.Added → List ℕ → List Head → Node → ℕ → List N
 Read (added.At j) g hs n start rs i m = Heading g hs n start (rs ++ m ∷ []) i
 Read added.Full g hs n start rs i m = over-graph (hs ++ head-of n start (rs ++ m ∷ []) ∷ []) ≡ true
 
--- 01, Refused because of the state; Worthless checks: where a limit is passed every place of the slice is 0, whatever was lent
+-- 01, Forms for specific places; Refused because of the state: 01's number of each answer: 20 where a limit is passed, else 0
+abbrev pub number-of : A.Added → ℕ
+number-of (added.At i) = 0
+number-of added.Full = 20
+
+-- 01, Refused because of the state: 01's number of a module with these heads, as far as its nodes and edges say it: 20 where they pass a limit
+abbrev pub heads-number : List Head → ℕ
+heads-number hs = elim (over-graph hs) [ true ↦ 20 | false ↦ 0 ]
+
+-- 01, Refused because of the state; Worthless checks: where the number is not 0 every place of the slice is 0, whatever was lent
 abbrev pub ClearedAtFull : A.Added → List ℕ → Type 0
-ClearedAtFull (added.At i) g = Unit {0}
-ClearedAtFull added.Full g = Cleared g
+ClearedAtFull a g = by-number (number-of a) (Unit {0}) (Cleared g)

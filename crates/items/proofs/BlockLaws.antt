@@ -67,7 +67,7 @@ module _ (text : Bytes) (own own′ : List ℕ) (o : Own) (h : Held text own o) 
       let g : ltb (length (own-of own .pairs)) 512 ≡ true = ap (λ (z : List Pair). ltb (length z) 512) (h .pairs) ∙ l in
       rw (f, g, add-pair, grown, room)
 
-  pair-over : among same-pair p (o .pairs) ≡ false → ltb (length (o .pairs)) 512 ≡ false → add-pair p (own-of own) .answer ≡ stored.Full
+  pair-over : among same-pair p (o .pairs) ≡ false → ltb (length (o .pairs)) 512 ≡ false → add-pair p (own-of own) .answer ≡ 20
   unfolding add-pair
   pair-over e l =
       let f : has-pair p (own-of own .pairs) ≡ false = ap (has-pair p) (h .pairs) ∙ has-among p (o .pairs) ∙ e in
@@ -85,25 +85,22 @@ module _ (text : Bytes) (own own′ : List ℕ) (o : Own) (h : Held text own o) 
   done-by : r ≡ stored.Done → (a b : Bool) → among same-pair p (o .pairs) ≡ a → ltb (length (o .pairs)) 512 ≡ b → Held text own′ (with-block (p ∷ []) [] o)
   unfolding add-all
   done-by d true b e l =
-      let g = ap (λ (z : table.Added). z .own) (s (h .sized) ∙ pair-seen e) in
+      let g = ap (λ (z : table.Added table.Own). z .own) (s (h .sized) ∙ pair-seen e) in
       held-pairs text own own′ o h size (own-of own .pairs) g (add-new same-pair p (o .pairs)) (h .pairs ∙ sym (new-seen e))
   done-by d false true e l =
-      let g = ap (λ (z : table.Added). z .own) (s (h .sized) ∙ pair-room e l) in
+      let g = ap (λ (z : table.Added table.Own). z .own) (s (h .sized) ∙ pair-room e l) in
       held-pairs text own own′ o h size (own-of own .pairs ++ p ∷ []) g (add-new same-pair p (o .pairs)) (ap (λ (z : List Pair). z ++ p ∷ []) (h .pairs) ∙ sym (new-end e))
   done-by d false false e l =
-      let z : r ≡ stored.Full = ap (λ (u : table.Added). u .answer) (s (h .sized)) ∙ pair-over e l in
-      let x : _≡_ {A = ℕ} 0 1 = cc in
+      let x : _≡_ {A = ℕ} 0 20 = ap table.number-of (sym d) ∙ ap (λ (u : table.Added table.Own). u .answer) (s (h .sized)) ∙ pair-over e l in
       absurd (omega arith)
 
   full-by : r ≡ stored.Full → (a b : Bool) → among same-pair p (o .pairs) ≡ a → ltb (length (o .pairs)) 512 ≡ b → ltb pair-limit (length (add-all same-pair (p ∷ []) (o .pairs))) ≡ true
   unfolding add-all
   full-by d true b e l =
-      let z : r ≡ stored.Done = ap (λ (u : table.Added). u .answer) (s (h .sized) ∙ pair-seen e) in
-      let x : _≡_ {A = ℕ} 0 1 = cc in
+      let x : _≡_ {A = ℕ} 20 0 = ap table.number-of (sym d) ∙ ap (λ (u : table.Added table.Own). u .answer) (s (h .sized) ∙ pair-seen e) in
       absurd (omega arith)
   full-by d false true e l =
-      let z : r ≡ stored.Done = ap (λ (u : table.Added). u .answer) (s (h .sized) ∙ pair-room e l) in
-      let x : _≡_ {A = ℕ} 0 1 = cc in
+      let x : _≡_ {A = ℕ} 20 0 = ap table.number-of (sym d) ∙ ap (λ (u : table.Added table.Own). u .answer) (s (h .sized) ∙ pair-room e l) in
       absurd (omega arith)
   full-by d false false e l =
       let k = ltb-false (length (o .pairs)) 512 l in

@@ -1,15 +1,15 @@
 -- Constants, extents and driven names: one law for each way of `constant_at`, `lvalue_extent`, `drive_output` and `drive`.
 -- Assumes nothing.
 use mathlib.Core.Path.{_≡_, refl, sym, _∙_, ap}
-use mathlib.Core.Bool.{Bool, true, false, _||_, or-true, true≢false}
+use mathlib.Core.Bool.{Bool, true, false, _&&_, _||_, or-true, true≢false}
 use mathlib.Core.List.{List, [], _∷_, _++_, append-nil}
 use mathlib.Core.Option.{some}
 use Prim.Native.Nat.{ℕ, zero, suc, _+_, _-_, _≤_}
 use native.Mathlib.Omega.{arith}
 use lib.ListN.{length, drop, getD, length-append}
-use lib.Dec.{ltb}
+use lib.Dec.{eqb, ltb}
 use lib.IntN.{negsuc}
-use borrow.Author.Tests.{lt-ltb, ltb-true, ltb-false}
+use borrow.Author.Tests.{lt-ltb, ltb-true, ltb-false, eq-eqb, ne-eqb, eqb-true, eqb-false}
 use Rattle.spec.specs.Bytes.{Bytes, show-rest}
 use Rattle.spec.specs.Syntax.{out-kind, Expr, Index, whole, at-bit, high-low, LValue, drive, Header}
 use Rattle.spec.specs.Show.{show-expr, show-index}
@@ -40,8 +40,8 @@ use Rattle.items.specs.declared.Constant.{Constant}
 use Rattle.items.specs.declared.Extended as E
 use Rattle.items.specs.declared.Extended.the-variants as extended
 use Rattle.items.specs.Held.{Held, OwnAfter}
-use Rattle.items.specs.Lines.{NamedIs, NamedAt, ShowsLValue, ConstantIs, ExtentIs, ExtentAt, with-block, DriveOutput, DriveLine}
-use Rattle.items.proofs.Places.{no-part, one-part, drive-lvalue, lvalue-named}
+use Rattle.items.specs.Lines.{named-at, NamedIs, NamedAt, ShowsLValue, ConstantIs, outside-at, index-outside, says-outside, ExtentIs, ExtentAt, with-block, DriveOutput, DriveLine, lvalue-part, driven, drive-outside}
+use Rattle.items.proofs.Places.{part-follows, part-ends, no-part, one-part, named-means, drive-lvalue, lvalue-named}
 use Rattle.items.proofs.Tables.{held-within, held-sites, held-misuse}
 
 -- ---- the kind of a name
@@ -79,14 +79,65 @@ module _ (x : Bytes) (b e d : ℕ) (names : Names) {t : Bytes} (qt : t ≡ piece
       let z : value names (decode-expr d (piece x b e)) ≡ outside = sym constant-here ∙ ap worth f in
       record { out = ap is-outside (sym z); within = λ g. absurd (true≢false g) }
 
+-- ---- whether an index is outside INT
+
+module _ (y : Bytes) (end d : ℕ) (names : Names) where
+  index-by : (f a g b : Bool) → follows y end ≡ f → outside-at y end d names ≡ a → follows y (next-end y end) ≡ g → outside-at y (next-end y end) d names ≡ b
+      → f && (a || (g && b)) ≡ index-outside y end d names
+  unfolding index-outside
+  index-by f a g b p q r s =
+      sym
+      (ap (λ (z : Bool). z && (outside-at y end d names || (follows y (next-end y end) && outside-at y (next-end y end) d names))) p
+      ∙ ap (λ (z : Bool). f && (z || (follows y (next-end y end) && outside-at y (next-end y end) d names))) q
+      ∙ ap (λ (z : Bool). f && (a || (z && outside-at y (next-end y end) d names))) r
+      ∙ ap (λ (z : Bool). f && (a || (g && z))) s)
+
+  -- the constant that the code takes
+  constant-at : {a : ℕ} → a ≡ part-end y (end + 1) → (h : Constant) → ConstantIs h (value names (decode-expr d (piece y end a))) → outside-at y end d names ≡ h .out
+  unfolding next-end
+  constant-at qa h c = ap (λ (n : ℕ). is-outside (value names (decode-expr d (piece y end n)))) (sym qa) ∙ sym (c .out)
+
+  -- the one that is shown
+  constant-shown : (e : Expr) (xs : List Bytes) → expr-depth e ≤ d → drop end y ≡ show-rest (show-expr e ∷ xs)
+      → (outside-at y end d names ≡ is-outside (value names e)) × (drop (next-end y end) y ≡ show-rest xs)
+  unfolding show-rest
+  constant-shown e xs l q =
+      let p = placed y end 32 xs (expr-shown e .part) q in
+      (ap (λ (z : Expr). is-outside (value names z)) (ap (decode-expr d) (p .here) ∙ expr-shown e .back d l), p .follows)
+
+or-false : (b : Bool) → b || false ≡ b
+or-false true = refl
+or-false false = refl
+
+-- what it means where an index stands there
+index-means : (y : Bytes) (end d : ℕ) (names : Names) (i : Index) → drop end y ≡ show-rest (show-index i) → index-depth i ≤ d
+    → index-outside y end d names ≡ any-outside names (index-constants i)
+unfolding show-index any-outside index-constants index-depth
+index-means y end d names whole q l = sym (index-by y end d names false _ _ _ (part-ends y end q) refl refl refl)
+index-means y end d names (at-bit e) q l =
+    let c = constant-shown y end d names e [] l q in
+    sym (index-by y end d names true _ false _ (part-follows y end (show-expr e) [] q) (c .0) (part-ends y (next-end y end) (c .1)) refl)
+index-means y end d names (high-low h k) q l =
+    let c = constant-shown y end d names h (show-expr k ∷ []) (omega arith) q in
+    let v = constant-shown y (next-end y end) d names k [] (omega arith) (c .1) in
+    sym (index-by y end d names true _ true _ (part-follows y end (show-expr h) (show-expr k ∷ []) q) (c .0) (part-follows y (next-end y end) (show-expr k) [] (c .1)) (v .0))
+    ∙ ap (λ (z : Bool). is-outside (value names h) || z) (sym (or-false (is-outside (value names k))))
+
 -- ---- extents
 
+-- what the code says of the index behind the part that ends at `end`
+abbrev Extends : E.Extended → Bytes → ℕ → Bool → ℕ → Names → Type 0
+Extends r y end bound d names = ExtentAt r y end bound d names × (says-outside r ≡ index-outside y end d names)
+
 module _ (y : Bytes) (end : ℕ) (bound : Bool) (d : ℕ) (names : Names) where
-  pub extent-whole : follows y end ≡ false → ExtentAt (extended.Is extent.Whole) y end bound d names
+  whole-is : follows y end ≡ false → ExtentAt (extended.Is extent.Whole) y end bound d names
   unfolding show-index any-outside index-constants lvalue-extent
-  extent-whole f whole q l = (refl, refl)
-  extent-whole f (at-bit e) q l = absurd (no-part y end (show-expr e) [] q f)
-  extent-whole f (high-low h e) q l = absurd (no-part y end (show-expr h) (show-expr e ∷ []) q f)
+  whole-is f whole q l = (refl, refl)
+  whole-is f (at-bit e) q l = absurd (no-part y end (show-expr e) [] q f)
+  whole-is f (high-low h e) q l = absurd (no-part y end (show-expr h) (show-expr e ∷ []) q f)
+
+  pub extent-whole : follows y end ≡ false → Extends (extended.Is extent.Whole) y end bound d names
+  extent-whole f = (whole-is f, index-by y end d names false _ _ _ f refl refl refl)
 
 -- the constant that stands there is the one that is shown
 index-here : (y : Bytes) (end d : ℕ) (names : Names) {a : ℕ} → a ≡ part-end y (end + 1) → (h : Constant) → ConstantIs h (value names (decode-expr d (piece y end a)))
@@ -99,43 +150,64 @@ index-here y end d names {a} qa h c e xs l q =
 
 module _ (y : Bytes) (end : ℕ) (bound : Bool) (d : ℕ) (names : Names) (f : follows y end ≡ true) {a : ℕ} (qa : a ≡ part-end y (end + 1))
     (h : Constant) (ch : ConstantIs h (value names (decode-expr d (piece y end a)))) where
-  pub extent-out : h .out ≡ true → ExtentAt extended.Outside y end bound d names
+  out-is : h .out ≡ true → ExtentAt extended.Outside y end bound d names
   unfolding show-index any-outside index-constants index-depth
-  extent-out o whole q l = absurd (one-part y end q f)
-  extent-out o (at-bit e) q l = let c = index-here y end d names qa h ch e [] l q in rw (sym (c .0 .out) ∙ o)
-  extent-out o (high-low e k) q l = let c = index-here y end d names qa h ch e (show-expr k ∷ []) (omega arith) q in rw (sym (c .0 .out) ∙ o)
+  out-is o whole q l = absurd (one-part y end q f)
+  out-is o (at-bit e) q l = let c = index-here y end d names qa h ch e [] l q in rw (sym (c .0 .out) ∙ o)
+  out-is o (high-low e k) q l = let c = index-here y end d names qa h ch e (show-expr k ∷ []) (omega arith) q in rw (sym (c .0 .out) ∙ o)
+
+  pub extent-out : h .out ≡ true → Extends extended.Outside y end bound d names
+  extent-out o = (out-is o, index-by y end d names true true _ _ f (constant-at y end d names qa h ch ∙ o) refl refl)
+
+  second-here : {t : Bool} → follows y a ≡ t → follows y (next-end y end) ≡ t
+  unfolding next-end
+  second-here g = ap (λ (n : ℕ). follows y n) (sym qa) ∙ g
 
   module _ (o : h .out ≡ false) where
-    pub extent-bit : follows y a ≡ false → (x : Extent) → extent-of x ≡ bit-extent bound (value-of (h .known) (h .value)) → ExtentAt (extended.Is x) y end bound d names
+    bit-is : follows y a ≡ false → (x : Extent) → extent-of x ≡ bit-extent bound (value-of (h .known) (h .value)) → ExtentAt (extended.Is x) y end bound d names
     unfolding show-index any-outside index-constants lvalue-extent index-depth
-    extent-bit g x w whole q l = absurd (one-part y end q f)
-    extent-bit g x w (at-bit e) q l =
+    bit-is g x w whole q l = absurd (one-part y end q f)
+    bit-is g x w (at-bit e) q l =
         let c = index-here y end d names qa h ch e [] l q in
         (rw (sym (c .0 .out) ∙ o), w ∙ ap (bit-extent bound) (sym (c .0 .within o)))
-    extent-bit g x w (high-low e k) q l =
+    bit-is g x w (high-low e k) q l =
         let c = index-here y end d names qa h ch e (show-expr k ∷ []) (omega arith) q in
         absurd (no-part y a (show-expr k) [] (c .1) g)
 
+    pub extent-bit : follows y a ≡ false → (x : Extent) → extent-of x ≡ bit-extent bound (value-of (h .known) (h .value)) → Extends (extended.Is x) y end bound d names
+    extent-bit g x w = (bit-is g x w, index-by y end d names true false false _ f (constant-at y end d names qa h ch ∙ o) (second-here g) refl)
+
     module _ (g : follows y a ≡ true) {b : ℕ} (qb : b ≡ part-end y (a + 1)) (m : Constant) (cm : ConstantIs m (value names (decode-expr d (piece y a b)))) where
-      pub extent-second-out : m .out ≡ true → ExtentAt extended.Outside y end bound d names
+      second-out : {t : Bool} → m .out ≡ t → outside-at y (next-end y end) d names ≡ t
+      unfolding next-end
+      second-out n = ap (λ (k : ℕ). outside-at y k d names) (sym qa) ∙ constant-at y a d names qb m cm ∙ n
+
+      second-is : m .out ≡ true → ExtentAt extended.Outside y end bound d names
       unfolding show-index any-outside index-constants index-depth
-      extent-second-out n whole q l = absurd (one-part y end q f)
-      extent-second-out n (at-bit e) q l = let c = index-here y end d names qa h ch e [] l q in absurd (one-part y a (c .1) g)
-      extent-second-out n (high-low e k) q l =
+      second-is n whole q l = absurd (one-part y end q f)
+      second-is n (at-bit e) q l = let c = index-here y end d names qa h ch e [] l q in absurd (one-part y a (c .1) g)
+      second-is n (high-low e k) q l =
           let c = index-here y end d names qa h ch e (show-expr k ∷ []) (omega arith) q in
           let v = index-here y a d names qb m cm k [] (omega arith) (c .1) in
           rw (sym (v .0 .out) ∙ n) (or-true (is-outside (value names e)))
 
-      pub extent-range : m .out ≡ false → (x : Extent) → extent-of x ≡ range-extent bound (value-of (h .known) (h .value)) (value-of (m .known) (m .value)) → ExtentAt (extended.Is x) y end bound d names
+      range-is : m .out ≡ false → (x : Extent) → extent-of x ≡ range-extent bound (value-of (h .known) (h .value)) (value-of (m .known) (m .value)) → ExtentAt (extended.Is x) y end bound d names
       unfolding show-index any-outside index-constants lvalue-extent index-depth
-      extent-range n x w whole q l = absurd (one-part y end q f)
-      extent-range n x w (at-bit e) q l = let c = index-here y end d names qa h ch e [] l q in absurd (one-part y a (c .1) g)
-      extent-range n x w (high-low e k) q l =
+      range-is n x w whole q l = absurd (one-part y end q f)
+      range-is n x w (at-bit e) q l = let c = index-here y end d names qa h ch e [] l q in absurd (one-part y a (c .1) g)
+      range-is n x w (high-low e k) q l =
           let c = index-here y end d names qa h ch e (show-expr k ∷ []) (omega arith) q in
           let v = index-here y a d names qb m cm k [] (omega arith) (c .1) in (
             rw (sym (c .0 .out) ∙ o, sym (v .0 .out) ∙ n),
             w ∙ ap (λ (z : Value). range-extent bound z (value-of (m .known) (m .value))) (sym (c .0 .within o)) ∙ ap (range-extent bound (value names e)) (sym (v .0 .within n)),
           )
+
+      pub extent-second-out : m .out ≡ true → Extends extended.Outside y end bound d names
+      extent-second-out n = (second-is n, index-by y end d names true false true true f (constant-at y end d names qa h ch ∙ o) (second-here g) (second-out n))
+
+      pub extent-range : m .out ≡ false → (x : Extent) → extent-of x ≡ range-extent bound (value-of (h .known) (h .value)) (value-of (m .known) (m .value))
+          → Extends (extended.Is x) y end bound d names
+      extent-range n x w = (range-is n x w, index-by y end d names true false true false f (constant-at y end d names qa h ch ∙ o) (second-here g) (second-out n))
 
 -- ---- what a drive adds, by what driving does
 
@@ -197,7 +269,7 @@ module _ (y : Bytes) (l : Named) (bound : Bool) (d : ℕ) (names : Names) (x : E
     unfolding add-site grown
     site-room o h e = let f : ltb (length (own-of own .sites)) 1024 ≡ true = ap (λ (z : List Site). ltb (length z) 1024) h ∙ e in rw (f, add-site, grown, room)
 
-    site-over : (o : Own) → own-of own .sites ≡ o .sites → ltb (length (o .sites)) 1024 ≡ false → add-site new-site (own-of own) .answer ≡ stored.Full
+    site-over : (o : Own) → own-of own .sites ≡ o .sites → ltb (length (o .sites)) 1024 ≡ false → add-site new-site (own-of own) .answer ≡ 20
     unfolding add-site
     site-over o h e = let f : ltb (length (own-of own .sites)) 1024 ≡ false = ap (λ (z : List Site). ltb (length z) 1024) h ∙ e in rw (f, add-site, room)
 
@@ -210,7 +282,7 @@ module _ (y : Bytes) (l : Named) (bound : Bool) (d : ℕ) (names : Names) (x : E
           let u : own-of own .sites ++ new-site ∷ [] ≡ o .sites ++ drive-site an-output bound names lv =
           ap (λ (z : List Site). z ++ new-site ∷ []) (h .sites) ∙ ap (λ (z : List Site). o .sites ++ z) (site-told lv p n) in
           drive-by bound header names lv e an-output (ap driving k) (extent-told lv p n (extended.Is w) q .0) text own′ o
-          (held-sites text own own′ o h size (own-of own .sites ++ new-site ∷ []) (ap (λ (z : table.Added). z .own) g) (o .sites ++ drive-site an-output bound names lv) u)
+          (held-sites text own own′ o h size (own-of own .sites ++ new-site ∷ []) (ap (λ (z : table.Added table.Own). z .own) g) (o .sites ++ drive-site an-output bound names lv) u)
 
       full-over : ltb (length (o .sites)) 1024 ≡ false → OwnAfter false text own′ bound header names (drive lv e) o
       full-over f =
@@ -223,15 +295,13 @@ module _ (y : Bytes) (l : Named) (bound : Bool) (d : ℕ) (names : Names) (x : E
       is-done : r ≡ stored.Done → (b : Bool) → ltb (length (o .sites)) 1024 ≡ b → OwnAfter true text own′ bound header names (drive lv e) o
       is-done rd true f = done-room f
       is-done rd false f =
-          let z : r ≡ stored.Full = ap (λ (u : table.Added). u .answer) (s (h .sized)) ∙ site-over o (h .sites) f in
-          let x : _≡_ {A = ℕ} 0 1 = cc in
+          let x : _≡_ {A = ℕ} 0 20 = ap table.number-of (sym rd) ∙ ap (λ (u : table.Added table.Own). u .answer) (s (h .sized)) ∙ site-over o (h .sites) f in
           absurd (omega arith)
 
       is-full : r ≡ stored.Full → (b : Bool) → ltb (length (o .sites)) 1024 ≡ b → OwnAfter false text own′ bound header names (drive lv e) o
       is-full rf false f = full-over f
       is-full rf true f =
-          let z : r ≡ stored.Done = ap (λ (u : table.Added). u .answer) (s (h .sized) ∙ site-room o (h .sites) f) in
-          let x : _≡_ {A = ℕ} 0 1 = cc in
+          let x : _≡_ {A = ℕ} 20 0 = ap table.number-of (sym rf) ∙ ap (λ (u : table.Added table.Own). u .answer) (s (h .sized) ∙ site-room o (h .sites) f) in
           absurd (omega arith)
 
     pub output-done : r ≡ stored.Done → DriveOutput true y l bound d names own own′
@@ -319,15 +389,50 @@ module _ (x : Bytes) (bound : Bool) (d : ℕ) (kinds : List ℕ) (names : Names)
       go (suc (suc (suc (suc (suc zero))))) q f = by a-mem (ap driving q) refl
       go (suc (suc (suc (suc (suc (suc j)))))) q f = by nothing (ap driving q) refl
 
-  module _ (z : k ≡ 2) (v : E.Extended) (hv : ExtentAt v y (l .end) bound d names) (lv : LValue) (e : Expr) (p : ShowsItem x d (drive lv e)) (header : List Header) (w : KindsOf kinds header) where
-    output-constants : line-constants header (drive lv e) ≡ index-constants (lv .index)
-    output-constants = drive-line-constants bound header names lv e an-output (ap driving (line-kind lv e p header w ∙ ap kind-word z))
+  pub outside-index : k ≡ 2 → (lv : LValue) (e : Expr) → ShowsItem x d (drive lv e) → (header : List Header) → KindsOf kinds header
+      → index-outside y (l .end) d names ≡ any-outside names (line-constants header (drive lv e))
+  outside-index z lv e p header w =
+      index-means y (l .end) d names (lv .index) (line-named lv e p .behind) (drive-lvalue x d lv e p qa qy .deep)
+      ∙ sym (ap (any-outside names) (drive-line-constants bound header names lv e an-output (ap driving (line-kind lv e p header w ∙ ap kind-word z))))
 
-    output-told : (u : E.Extended) → v ≡ u → ExtentIs u bound names (lv .index)
-    output-told = extent-told y l bound d names v hv lv (drive-lvalue x d lv e p qa qy) (line-named lv e p)
+-- ---- one law for each way of `drive_outside`
 
-    pub outside-not : {u : Extent} → v ≡ extended.Is u → false ≡ any-outside names (line-constants header (drive lv e))
-    outside-not {u} q = sym (rw output-constants (output-told (extended.Is u) q .0))
+module _ (x : Bytes) (d : ℕ) (kinds : List ℕ) (names : Names) where
+  pub no-drive : (getD x 1 0 ≡ 100 → ⊥) → false ≡ drive-outside x d kinds names
+  unfolding drive-outside
+  no-drive f =
+      sym (ap (λ (z : Bool). z && (eqb (getD kinds (driven x .name) 0) 2 && index-outside (lvalue-part x) (driven x .end) d names)) (ne-eqb (getD x 1 0) 100 f))
 
-    pub outside-is : v ≡ extended.Outside → true ≡ any-outside names (line-constants header (drive lv e))
-    outside-is q = sym (rw output-constants (output-told extended.Outside q))
+  module _ (b : getD x 1 0 ≡ 100) {a : ℕ} (qa : a ≡ part-end x 7) {y : Bytes} (qy : y ≡ piece x 6 a) (l : Named) (ql : l ≡ named-at y 3) {k : ℕ} (qk : k ≡ getD kinds (l .name) 0) where
+    by-kind : (t : Bool) → eqb k 2 ≡ t → (o : Bool) → index-outside y (l .end) d names ≡ o → t && o ≡ drive-outside x d kinds names
+    unfolding drive-outside next-end
+    by-kind t p o q =
+        let zy : y ≡ lvalue-part x = qy ∙ ap (piece x 6) qa in
+        let zl : l ≡ driven x = ql ∙ ap (λ (z : Bytes). named-at z 3) zy in
+        let zk : eqb (getD kinds (driven x .name) 0) 2 ≡ t = ap (λ (z : Named). eqb (getD kinds (z .name) 0) 2) (sym zl) ∙ ap (λ (n : ℕ). eqb n 2) (sym qk) ∙ p in
+        let zo : index-outside (lvalue-part x) (driven x .end) d names ≡ o =
+        ap (λ (z : Bytes). index-outside z (driven x .end) d names) (sym zy) ∙ ap (λ (z : Named). index-outside y (z .end) d names) (sym zl) ∙ q in
+        sym
+        (ap (λ (z : Bool). z && (eqb (getD kinds (driven x .name) 0) 2 && index-outside (lvalue-part x) (driven x .end) d names)) (eq-eqb (getD x 1 0) 100 b)
+        ∙ ap (λ (z : Bool). z && index-outside (lvalue-part x) (driven x .end) d names) zk
+        ∙ ap (λ (z : Bool). t && z) zo)
+
+    pub other-kind : (k ≡ 2 → ⊥) → false ≡ drive-outside x d kinds names
+    other-kind f = by-kind false (ne-eqb k 2 f) _ refl
+
+    pub output-kind : k ≡ 2 → (v : E.Extended) → says-outside v ≡ index-outside y (l .end) d names → (o : Bool) → says-outside v ≡ o → o ≡ drive-outside x d kinds names
+    output-kind z v h o q = by-kind true (eq-eqb k 2 z) o (sym h ∙ q)
+
+-- on what shows a `drive`, and by the kind of its name
+pub drive-means : (x : Bytes) (d : ℕ) (kinds : List ℕ) (names : Names) → getD x 1 0 ≡ 100 → (lv : LValue) (e : Expr) → ShowsItem x d (drive lv e)
+    → (header : List Header) → KindsOf kinds header → drive-outside x d kinds names ≡ any-outside names (line-constants header (drive lv e))
+unfolding next-end
+drive-means x d kinds names b lv e p header w = go (eqb (getD kinds (driven x .name) 0) 2) refl
+  where
+    go : (t : Bool) → eqb (getD kinds (driven x .name) 0) 2 ≡ t → drive-outside x d kinds names ≡ any-outside names (line-constants header (drive lv e))
+    go false t =
+        sym (by-kind x d kinds names b refl refl (driven x) refl refl false t _ refl)
+        ∙ outside-other x true d kinds names [] refl refl (driven x) (named-means (lvalue-part x) 3 refl) refl (eqb-false (getD kinds (driven x .name) 0) 2 t) lv e p header w
+    go true t =
+        sym (by-kind x d kinds names b refl refl (driven x) refl refl true t _ refl)
+        ∙ outside-index x true d kinds names [] refl refl (driven x) (named-means (lvalue-part x) 3 refl) refl (eqb-true (getD kinds (driven x .name) 0) 2 t) lv e p header w

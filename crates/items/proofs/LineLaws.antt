@@ -1,16 +1,16 @@
 -- Collected lines: what a module's first item finds, and one law for each way of `port_line`, `reg_line`, `mem_line`, `own_line` and
 -- `drive_outside`.
 -- Assumes nothing.
-use mathlib.Core.Path.{_≡_, refl, sym, _∙_, ap}
+use mathlib.Core.Path.{_≡_, refl, sym, _∙_, ap, subst}
 use mathlib.Core.Bool.{Bool, true, false, true≢false}
 use mathlib.Core.List.{List, [], append-nil, List·Memᴰ·not-nil}
 use Prim.Native.Nat.{ℕ, _+_, _-_, _≤_, _<_, min}
 use native.Mathlib.Omega.{arith}
 use lib.ListN.{length, getD, set, length-set, List·getD-eq-default}
 use lib.Seq.{getD-set-same, getD-set-other}
-use lib.Dec.{ltb}
+use lib.Dec.{eqb, ltb}
 use native.Mathlib.Decide.{ℕ-discrete}
-use borrow.Author.Tests.{ltb-true, ltb-false}
+use borrow.Author.Tests.{ltb-true, ltb-false, eqb-true, eqb-false}
 use Rattle.spec.specs.Bytes.{Bytes, show-form}
 use Rattle.spec.specs.Syntax.{Expr, Width, Dir, input, output, LValue, Stmts, Item, port, wire, reg, mem, const, drive, on, inst, repeat, const-if, Header}
 use Rattle.spec.specs.Show.{show-item}
@@ -27,7 +27,8 @@ use Rattle.walk.specs.Walk.{Own, no-own, own-line, add-all, add-new, same-outpu
 use Rattle.items.specs.declared.Named.{Named}
 use Rattle.items.specs.Held.{Ports, Few, Held, OwnAfter}
 use Rattle.steps.specs.Steps.{plain}
-use Rattle.items.specs.Lines.{StandsAt, Emptied, NumberIs, NamedAt, PortLine, RegLine, MemLine, DriveLine, OnLine, OwnLine, OutsideIs}
+use Rattle.items.specs.Lines.{StandsAt, Emptied, NumberIs, NamedAt, PortLine, RegLine, MemLine, DriveLine, OnLine, OwnLine, drive-outside, OutsideIs}
+use Rattle.items.proofs.DriveLaws.{no-drive, drive-means}
 use Rattle.items.proofs.Tables.{held-within, held-output, held-reg, held-mem}
 use Rattle.items.proofs.Places.{dir-out, dir-in, port-first, port-second, port-third, port-row, port-output, port-is, reg-behind, mem-behind, both-small}
 
@@ -334,3 +335,13 @@ module _ (x : Bytes) (d : ℕ) (kinds : List ℕ) (names : Names) where
       go i (a-const n e c) = absurd (omega arith)
       go i (a-drive lv e c) = λ p. f lv e p header w
       go i (an-on s ss c) = absurd (omega arith)
+
+  -- on what shows a plain line, `drive_outside` says whether a constant of it is outside INT
+  pub outside-means : OutsideIs (drive-outside x d kinds names) x d kinds names
+  outside-means = go (eqb (getD x 1 0) 100) refl
+    where
+      go : (t : Bool) → eqb (getD x 1 0) 100 ≡ t → OutsideIs (drive-outside x d kinds names) x d kinds names
+      go false t =
+          let f = eqb-false (getD x 1 0) 100 t in
+          subst (λ (z : Bool). OutsideIs z x d kinds names) (no-drive x d kinds names f) (outside-none f)
+      go true t = let b = eqb-true (getD x 1 0) 100 t in outside-drive b (drive-outside x d kinds names) (drive-means x d kinds names b)

@@ -1,14 +1,14 @@
 -- Where the parts of a line stand, on bytes that show one: numbers, a name and its START, a width, an LV.
 -- Assumes nothing.
-use mathlib.Core.Path.{_≡_, refl, sym, _∙_, ap}
-use mathlib.Core.Bool.{true, false, _&&_, true≢false}
+use mathlib.Core.Path.{_≡_, refl, sym, _∙_, ap, subst}
+use mathlib.Core.Bool.{Bool, true, false, _&&_, true≢false}
 use mathlib.Core.List.{List, [], _∷_, _++_}
 use Prim.Native.Nat.{ℕ, zero, suc, _+_, _-_, _≤_, _<_, min}
 use native.Mathlib.Omega.{arith}
 use lib.ListN.{length, take, drop, getD, length-drop, take-append-drop}
 use lib.Seq.{drop-drop, drop-append-le, take-append-le}
 use lib.Dec.{eqb, ltb}
-use borrow.Author.Tests.{ltb-true}
+use borrow.Author.Tests.{ltb-true, lt-ltb, le-ltb}
 use Rattle.spec.specs.Bytes.{Bytes, number, show-number, show-rest, show-form}
 use Rattle.spec.specs.Syntax.{name-bound, number-bound, Expr, Width, LValue, input, output, port, reg, mem, drive}
 use Rattle.spec.specs.Show.{show-expr, show-width, show-index, show-lvalue, show-item}
@@ -24,7 +24,7 @@ use Rattle.runs.proofs.Inside.{placed}
 use Rattle.sites.specs.Own.{Port}
 use Rattle.items.specs.declared.Named.{Named}
 use Rattle.items.specs.Held.{PortIs}
-use Rattle.items.specs.Lines.{StandsAt, NumberIs, NamedIs, NamedAt, ShowsLValue}
+use Rattle.items.specs.Lines.{StandsAt, number-at, two-at, named-at, NumberIs, NamedIs, NamedAt, ShowsLValue}
 
 -- ---- a space stands before a part, and none behind the last
 
@@ -51,32 +51,74 @@ one-part x e q f = true≢false (sym f ∙ part-ends x e q)
 -- ---- numbers
 
 module _ (x : Bytes) (b e : ℕ) {t : Bytes} (qt : t ≡ piece x b e) {v : ℕ} (qv : v ≡ min (number t) 4294967296) where
-  pub number-is : NumberIs v x b e
-  number-is n q l = let k : number t ≡ n = ap number (qt ∙ q) ∙ number-show n in omega arith
+  by-size : (s : Bool) → ltb 4294967295 (number (piece x b e)) ≡ s → elim s as (λ _. ℕ) [ true ↦ 0 | false ↦ number (piece x b e) ] ≡ number-at x b e
+  unfolding number-at
+  by-size s q = sym (ap (λ (z : Bool). elim z as (λ _. ℕ) [ true ↦ 0 | false ↦ number (piece x b e) ]) q)
 
-  pub number-large : 4294967295 < v → NumberIs 0 x b e
-  number-large g n q l = let k : number t ≡ n = ap number (qt ∙ q) ∙ number-show n in omega arith
+  pub number-is : v ≤ 4294967295 → v ≡ number-at x b e
+  number-is g =
+      let k = ap number qt in
+      let z : v ≡ number (piece x b e) = omega arith in
+      z ∙ by-size false (le-ltb 4294967295 (number (piece x b e)) (omega arith))
+
+  pub number-large : 4294967295 < v → 0 ≡ number-at x b e
+  number-large g = let k = ap number qt in by-size true (lt-ltb 4294967295 (number (piece x b e)) (omega arith))
+
+-- what it means where a number stands there
+pub number-means : {r : ℕ} (x : Bytes) (b e : ℕ) → r ≡ number-at x b e → NumberIs r x b e
+number-means x b e p n q l =
+    let k : number (piece x b e) ≡ n = ap number q ∙ number-show n in
+    p ∙ sym (by-size x b e refl refl false (le-ltb 4294967295 (number (piece x b e)) (omega arith))) ∙ k
 
 -- ---- a name and a START
 
+and-false : (b : Bool) → b && false ≡ false
+and-false true = refl
+and-false false = refl
+
 module _ (x : Bytes) (b : ℕ) where
-  pub named-none : (r : Named) → follows x b ≡ false → NamedAt r x b
-  named-none r f n s xs q l k = absurd (no-part x b (show-number n) (show-number s ∷ xs) q f)
+  by-follows : (s : Bool) → follows x b && follows x (next-end x b) ≡ s
+      → elim s as (λ _. Named) [ true ↦ two-at x b (next-end x b) (next-end x (next-end x b)) | false ↦ record { name = 0; start = 0; end = b } ] ≡ named-at x b
+  unfolding named-at
+  by-follows s q =
+      sym (ap (λ (z : Bool). elim z as (λ _. Named) [ true ↦ two-at x b (next-end x b) (next-end x (next-end x b)) | false ↦ record { name = 0; start = 0; end = b } ]) q)
+
+  pub named-none : follows x b ≡ false → record { name = 0; start = 0; end = b } ≡ named-at x b
+  named-none f = by-follows false (ap (λ (z : Bool). z && follows x (next-end x b)) f)
 
   module _ {a : ℕ} (qa : a ≡ part-end x (b + 1)) where
     behind-name : (n : ℕ) (xs : List Bytes) → drop b x ≡ show-rest (show-number n ∷ xs) → (piece x b a ≡ show-number n) × (drop a x ≡ show-rest xs)
     unfolding show-rest next-end
     behind-name n xs q = let p = placed x b 32 xs (number-part n) q in (ap (piece x b) qa ∙ p .here, ap (λ (m : ℕ). drop m x) qa ∙ p .follows)
 
-    pub named-alone : (r : Named) → follows x a ≡ false → NamedAt r x b
-    named-alone r f n s xs q l k = absurd (no-part x a (show-number s) xs (behind-name n (show-number s ∷ xs) q .1) f)
+    second-follows : {t : Bool} → follows x a ≡ t → follows x (next-end x b) ≡ t
+    unfolding next-end
+    second-follows f = ap (λ (n : ℕ). follows x n) (sym qa) ∙ f
 
-pub named-is : (x : Bytes) (b : ℕ) {a : ℕ} → a ≡ part-end x (b + 1) → {c : ℕ} → c ≡ part-end x (a + 1) → {u v : ℕ} → NumberIs u x b a → NumberIs v x a c
-    → NamedAt (record { name = u; start = v; end = c }) x b
-named-is x b {a} qa qc hu hv n s xs q l k =
-    let p = behind-name x b qa n (show-number s ∷ xs) q in
-    let r = behind-name x a qc s xs (p .1) in
-    record { name = hu n (p .0) (omega arith); start = hv s (r .0) (omega arith); behind = r .1 }
+    pub named-alone : follows x a ≡ false → record { name = 0; start = 0; end = b } ≡ named-at x b
+    named-alone f = by-follows false (ap (λ (z : Bool). follows x b && z) (second-follows f) ∙ and-false (follows x b))
+
+    pub named-two : follows x b ≡ true → follows x a ≡ true → {c : ℕ} → c ≡ part-end x (a + 1) → {u v : ℕ} → u ≡ number-at x b a → v ≡ number-at x a c
+        → record { name = u; start = v; end = c } ≡ named-at x b
+    unfolding next-end
+    named-two g f {c} qc {u} {v} hu hv =
+        let s : record { name = u; start = v; end = c } ≡ two-at x b a c = λ i. record { name = hu i; start = hv i; end = c } in
+        s ∙ ap (λ (n : ℕ). two-at x b n c) qa ∙ ap (λ (n : ℕ). two-at x b (part-end x (b + 1)) n) (qc ∙ ap (λ (n : ℕ). part-end x (n + 1)) qa)
+        ∙ by-follows true (ap (λ (z : Bool). z && follows x (next-end x b)) g ∙ second-follows f)
+
+-- what it means where a name and a START stand there
+pub named-means : {r : Named} (x : Bytes) (b : ℕ) → r ≡ named-at x b → NamedAt r x b
+unfolding next-end
+named-means {r} x b e n s xs q l k =
+    let a = part-end x (b + 1) in
+    let c = part-end x (a + 1) in
+    let p = behind-name x b refl n (show-number s ∷ xs) q in
+    let t = behind-name x a refl s xs (p .1) in
+    let f = part-follows x b (show-number n) (show-number s ∷ xs) q in
+    let g = part-follows x a (show-number s) xs (p .1) in
+    let z : r ≡ two-at x b a c = e ∙ sym (named-two x b refl f g refl refl refl) in
+    subst (λ (y : Named). NamedIs y x n s xs) (sym z)
+    (record { name = number-means x b a refl n (p .0) (omega arith); start = number-means x a c refl s (t .0) (omega arith); behind = t .1 })
 
 -- ---- `port out`
 

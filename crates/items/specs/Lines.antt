@@ -2,21 +2,22 @@
 -- of the state.
 -- To a reader: definitions that contracts of this and other crates cite; each such contract is proved; check_drivers' own promise cites none of them.
 use mathlib.Core.Path.{_≡_}
-use mathlib.Core.Bool.{Bool, true, false}
+use mathlib.Core.Bool.{Bool, true, false, _&&_, _||_}
 use mathlib.Core.List.{List, [], _∷_}
 use mathlib.Core.Option.{some}
 use Prim.Native.Nat.{ℕ, _+_, _≤_, _<_}
 use lib.ListN.{length, getD, take, drop}
-use lib.Dec.{ltb}
-use Rattle.spec.specs.Bytes.{Bytes, show-number, show-rest}
+use lib.Dec.{eqb, ltb}
+use Rattle.spec.specs.Bytes.{Bytes, number, show-number, show-rest}
 use Rattle.spec.specs.Syntax.{name-bound, number-bound, out-kind, Expr, Width, Index, LValue, Stmt, Stmts, set, default, Dir, Item, port, reg, mem, drive, on, Header}
 use Rattle.spec.specs.Show.{show-index, show-lvalue, show-stmt, show-stmts}
+use Rattle.spec.specs.Decode.{decode-expr}
 use Rattle.spec.specs.Refusal.{index-depth, stmt-depth, stmts-depth, stmt-in-range, stmts-in-range}
 use Rattle.spec.specs.Value.{Value, Names, value, is-outside}
 use Rattle.spec.specs.Site.{kind-of, lvalue-extent, index-constants, line-constants, any-outside, Misused, stmt-misuses, stmts-misuses}
 use Rattle.spec.specs.Block.{Pair, stmt-pairs, stmts-pairs}
 use Rattle.spec.specs.Check.{pair-limit}
-use Rattle.lines.specs.Parts.{piece}
+use Rattle.lines.specs.Parts.{piece, next-end, follows}
 use Rattle.sites.specs.Own.{extent-of, value-of}
 use Rattle.runs.specs.Run.{ShowsItem}
 use Rattle.edges.specs.Reads.{KindsOf}
@@ -41,6 +42,22 @@ pub record Emptied (old new : List ℕ) : Type 0 where
   pub others : (k : ℕ) → 7 ≤ k → getD new k 0 ≡ getD old k 0
 
 -- ---- 01, The line: parts of a line
+
+-- 01, The line: the number in any bytes behind the one at `before`, up to `end`; 0 where it is no word
+unfoldable pub number-at : Bytes → (before end : ℕ) → ℕ
+number-at x before end = elim (ltb 4294967295 (number (piece x before end))) [ true ↦ 0 | false ↦ number (piece x before end) ]
+
+-- 01, The line: a name and a START, which end at a and b, and where they end
+abbrev pub two-at : Bytes → (before a b : ℕ) → Named
+two-at x before a b = record { name = number-at x before a; start = number-at x a b; end = b }
+
+-- 01, The line: the name and the START in any bytes behind the part that ends at `before`; 0 and 0 where there are no two parts
+unfoldable pub named-at : Bytes → (before : ℕ) → Named
+named-at x before =
+    elim (follows x before && follows x (next-end x before)) [
+      | true ↦ two-at x before (next-end x before) (next-end x (next-end x before))
+      | false ↦ record { name = 0; start = 0; end = before }
+    ]
 
 -- 01, The line: r is the number that stands behind the byte at `before`, up to `end`, if it is a word
 abbrev pub NumberIs : ℕ → Bytes → ℕ → ℕ → Type 0
@@ -84,6 +101,24 @@ pub record ShowsStmts (x : Bytes) (end d : ℕ) (ss : Stmts) : Type 0 where
 pub record ConstantIs (r : Constant) (v : Value) : Type 0 where
   pub out : r .out ≡ is-outside v
   pub within : r .out ≡ false → v ≡ value-of (r .known) (r .value)
+
+-- 01, The value; Refused because of the state: whether the constant in any bytes behind the part that ends at `before` is outside INT
+abbrev pub outside-at : Bytes → (before d : ℕ) → Names → Bool
+outside-at x before d names = is-outside (value names (decode-expr d (piece x before (next-end x before))))
+
+-- 01, The value: both indexes of an output's LV always are evaluated: whether one of the first two parts in any bytes behind the one that ends at
+-- `end` is outside INT
+unfoldable pub index-outside : Bytes → (end d : ℕ) → Names → Bool
+index-outside x end d names = follows x end && (outside-at x end d names || (follows x (next-end x end) && outside-at x (next-end x end) d names))
+
+-- 01, Refused because of the state: 20 where an index of an LV is outside INT, else 0
+abbrev pub number-of : E.Extended → ℕ
+number-of (extended.Is e) = 0
+number-of extended.Outside = 20
+
+-- 01, Refused because of the state: whether the code's answer is that a constant is outside INT
+abbrev pub says-outside : E.Extended → Bool
+says-outside r = ltb 0 (number-of r)
 
 -- 01, The site; Refused because of the state: the extent of an index, or one of its constants is outside INT
 abbrev pub ExtentIs : E.Extended → Bool → Names → Index → Type 0
@@ -181,8 +216,22 @@ OwnLine r x base bound d kinds names own own′ =
     (text : Bytes) (i : Item) → ShowsItem x d i → plain i ≡ true → StandsAt text base x → (header : List Header) → KindsOf kinds header
     → (o : Own) → Held text own o → OwnAfter r text own′ bound header names i o
 
--- 01, The value; Refused because of the state: in a summary's walk, which has no own tables: whether a constant of the line is outside
--- INT
+-- 01, The line: the part of a `drive` line that is its LV, in any bytes: the first behind the head word
+abbrev pub lvalue-part : Bytes → Bytes
+lvalue-part x = piece x 6 (next-end x 6)
+
+-- 01, The line: the name and the START of that LV
+abbrev pub driven : Bytes → Named
+driven x = named-at (lvalue-part x) 3
+
+-- 01, The value; Refused because of the state: whether any bytes, as a line, have a constant outside INT: only a `drive` has constants, and only
+-- where the kind of its name is `out`
+unfoldable pub drive-outside : Bytes → (d : ℕ) → (kinds : List ℕ) → Names → Bool
+drive-outside x d kinds names =
+    eqb (getD x 1 0) 100 && (eqb (getD kinds (driven x .name) 0) 2 && index-outside (lvalue-part x) (driven x .end) d names)
+
+-- 01, The value; Refused because of the state: what that means in a summary's walk, which has no own tables: whether a constant of the line is
+-- outside INT
 abbrev pub OutsideIs : Bool → Bytes → ℕ → List ℕ → Names → Type 0
 OutsideIs r x d kinds names =
     (i : Item) → ShowsItem x d i → plain i ≡ true → (header : List Header) → KindsOf kinds header → r ≡ any-outside names (line-constants header i)

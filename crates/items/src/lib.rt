@@ -7,6 +7,7 @@ use sites::Misuse;
 use sites::Site;
 use sites::Stored;
 ghost use mathlib.Core.Path.{_≡_};
+ghost use mathlib.Core.Bool.{true};
 ghost use lib.ListN.{length};
 ghost use Rattle.spec.specs.Bytes.{Bytes};
 ghost use Rattle.spec.specs.Decode.{decode-expr};
@@ -14,10 +15,9 @@ ghost use Rattle.spec.specs.Value.{value};
 ghost use Rattle.consteval.specs.Worth.{names-of};
 ghost use Rattle.lines.specs.Parts.{piece};
 ghost use Rattle.sites.specs.Own.{places};
-ghost use Rattle.spec.specs.Cleared.{ClearedUnless};
 ghost use Rattle.walk.specs.Walk.{no-own};
-ghost use Rattle.items.specs.Held.{Held};
-ghost use Rattle.items.specs.Lines.{Emptied, NumberIs, NamedAt, ConstantIs, ExtentAt, SetAfter, DefaultAfter, StmtAfter, StmtsAfter, PortLine, RegLine, MemLine, DriveOutput, DriveLine, OnLine, OwnLine, OutsideIs};
+ghost use Rattle.items.specs.Held.{Held, OwnLeaves};
+ghost use Rattle.items.specs.Lines.{Emptied, number-at, named-at, ConstantIs, ExtentAt, says-outside, index-outside, SetAfter, DefaultAfter, StmtAfter, StmtsAfter, PortLine, RegLine, MemLine, DriveOutput, DriveLine, OnLine, OwnLine, drive-outside};
 
 // Empties the tables before the first item of a module: the counts become 0, and no other word matters then.
 pub fn reset(own: &mut [u32])
@@ -36,7 +36,7 @@ pub fn reset(own: &mut [u32])
 
 // The number behind the byte at `before`, up to `end`.
 fn number(x: &[u8], before: usize, end: usize) -> u32
-    ensures { λ r. ⌜ NumberIs r (now (x .entry)) before end ⌝ }
+    ensures { λ r. ⌜ r ≡ number-at (now (x .entry)) before end ⌝ }
 {
     let v = numbers::value(parts::between(x, before, end));
     if 4294967295 < v {
@@ -54,7 +54,7 @@ struct Named {
 
 // The name and the START that stand behind the byte at `before`.
 fn named_at(x: &[u8], before: usize) -> Named
-    ensures { λ r. ⌜ NamedAt r (now (x .entry)) before ⌝ }
+    ensures { λ r. ⌜ r ≡ named-at (now (x .entry)) before ⌝ }
 {
     if !parts::more(x, before) {
         return Named {
@@ -127,6 +127,7 @@ enum Extended {
 fn port_line(x: &[u8], base: u32, own: &mut [u32])
     ensures { λ _. ⌜ PortLine (now (x .entry)) base (now (own .entry)) (now (own .exit)) ⌝ }
     ensures { λ _. ⌜ length (now (own .exit)) ≡ length (now (own .entry)) ⌝ }
+    ensures { λ _. ⌜ OwnLeaves true (now (own .entry)) (now (own .exit)) ⌝ }
 {
     if parts::byte(x, 6) != b'o' {
         return;
@@ -154,6 +155,7 @@ fn port_line(x: &[u8], base: u32, own: &mut [u32])
 fn reg_line(x: &[u8], own: &mut [u32])
     ensures { λ _. ⌜ RegLine (now (x .entry)) (now (own .entry)) (now (own .exit)) ⌝ }
     ensures { λ _. ⌜ length (now (own .exit)) ≡ length (now (own .entry)) ⌝ }
+    ensures { λ _. ⌜ OwnLeaves true (now (own .entry)) (now (own .exit)) ⌝ }
 {
     let l = named_at(x, 4);
     sites::add_reg(own, l.name, l.start);
@@ -162,6 +164,7 @@ fn reg_line(x: &[u8], own: &mut [u32])
 fn mem_line(x: &[u8], own: &mut [u32])
     ensures { λ _. ⌜ MemLine (now (x .entry)) (now (own .entry)) (now (own .exit)) ⌝ }
     ensures { λ _. ⌜ length (now (own .exit)) ≡ length (now (own .entry)) ⌝ }
+    ensures { λ _. ⌜ OwnLeaves true (now (own .entry)) (now (own .exit)) ⌝ }
 {
     let l = named_at(x, 4);
     sites::add_mem(own, l.name, l.start);
@@ -177,6 +180,7 @@ fn lvalue_extent(
     used: usize,
 ) -> Extended
     ensures { λ r. ⌜ ExtentAt r (now (lv .entry)) end bound depth (names-of (now (names .entry)) used) ⌝ }
+    ensures { λ r. ⌜ says-outside r ≡ index-outside (now (lv .entry)) end depth (names-of (now (names .entry)) used) ⌝ }
 {
     if !parts::more(lv, end) {
         return Extended::Is(Extent::Whole);
@@ -211,7 +215,7 @@ fn drive_output(
 ) -> bool
     ensures { λ r. ⌜ DriveOutput r (now (lv .entry)) l bound depth (names-of (now (names .entry)) used) (now (own .entry)) (now (own .exit)) ⌝ }
     ensures { λ _. ⌜ length (now (own .exit)) ≡ length (now (own .entry)) ⌝ }
-    ensures { λ r. ⌜ ClearedUnless r (now (own .exit)) ⌝ }
+    ensures { λ r. ⌜ OwnLeaves r (now (own .entry)) (now (own .exit)) ⌝ }
 {
     let end = l.end;
     match lvalue_extent(lv, end, bound, depth, names, used) {
@@ -248,7 +252,7 @@ fn drive(
 ) -> bool
     ensures { λ r. ⌜ DriveLine r (now (x .entry)) bound depth (now (kinds .entry)) (names-of (now (names .entry)) used) (now (own .entry)) (now (own .exit)) ⌝ }
     ensures { λ _. ⌜ length (now (own .exit)) ≡ length (now (own .entry)) ⌝ }
-    ensures { λ r. ⌜ ClearedUnless r (now (own .exit)) ⌝ }
+    ensures { λ r. ⌜ OwnLeaves r (now (own .entry)) (now (own .exit)) ⌝ }
 {
     let lv = parts::between(x, 6, parts::part_end(x, 7));
     let l = named_at(lv, 3);
@@ -275,7 +279,7 @@ fn drive(
 fn set_stmt(s: &[u8], block: u32, kinds: &[u8], own: &mut [u32]) -> bool
     ensures { λ r. ⌜ SetAfter r (now (s .entry)) block (now (kinds .entry)) (now (own .entry)) (now (own .exit)) ⌝ }
     ensures { λ _. ⌜ length (now (own .exit)) ≡ length (now (own .entry)) ⌝ }
-    ensures { λ r. ⌜ ClearedUnless r (now (own .exit)) ⌝ }
+    ensures { λ r. ⌜ OwnLeaves r (now (own .entry)) (now (own .exit)) ⌝ }
 {
     let l = named_at(s, 4);
     let k = parts::byte(kinds, l.name as usize);
@@ -302,7 +306,7 @@ fn set_stmt(s: &[u8], block: u32, kinds: &[u8], own: &mut [u32]) -> bool
 fn default_stmt(s: &[u8], block: u32, kinds: &[u8], own: &mut [u32]) -> bool
     ensures { λ r. ⌜ DefaultAfter r (now (s .entry)) block (now (kinds .entry)) (now (own .entry)) (now (own .exit)) ⌝ }
     ensures { λ _. ⌜ length (now (own .exit)) ≡ length (now (own .entry)) ⌝ }
-    ensures { λ r. ⌜ ClearedUnless r (now (own .exit)) ⌝ }
+    ensures { λ r. ⌜ OwnLeaves r (now (own .entry)) (now (own .exit)) ⌝ }
 {
     let n = number(s, 8, parts::part_end(s, 9));
     if parts::byte(kinds, n as usize) != 4 {
@@ -321,7 +325,7 @@ fn default_stmt(s: &[u8], block: u32, kinds: &[u8], own: &mut [u32]) -> bool
 fn block_stmt(s: &[u8], block: u32, depth: u32, kinds: &[u8], own: &mut [u32]) -> bool
     ensures { λ r. ⌜ StmtAfter r (now (s .entry)) block depth (now (kinds .entry)) (now (own .entry)) (now (own .exit)) ⌝ }
     ensures { λ _. ⌜ length (now (own .exit)) ≡ length (now (own .entry)) ⌝ }
-    ensures { λ r. ⌜ ClearedUnless r (now (own .exit)) ⌝ }
+    ensures { λ r. ⌜ OwnLeaves r (now (own .entry)) (now (own .exit)) ⌝ }
 {
     if depth == 0 {
         return true;
@@ -351,7 +355,7 @@ fn block_stmt(s: &[u8], block: u32, depth: u32, kinds: &[u8], own: &mut [u32]) -
 fn block_stmts(s: &[u8], end: usize, block: u32, depth: u32, kinds: &[u8], own: &mut [u32]) -> bool
     ensures { λ r. ⌜ StmtsAfter r (now (s .entry)) end block depth (now (kinds .entry)) (now (own .entry)) (now (own .exit)) ⌝ }
     ensures { λ _. ⌜ length (now (own .exit)) ≡ length (now (own .entry)) ⌝ }
-    ensures { λ r. ⌜ ClearedUnless r (now (own .exit)) ⌝ }
+    ensures { λ r. ⌜ OwnLeaves r (now (own .entry)) (now (own .exit)) ⌝ }
 {
     let mut e = end;
     while parts::more(s, e) {
@@ -368,7 +372,7 @@ fn block_stmts(s: &[u8], end: usize, block: u32, depth: u32, kinds: &[u8], own: 
 fn on_block(x: &[u8], depth: u32, kinds: &[u8], own: &mut [u32]) -> bool
     ensures { λ r. ⌜ OnLine r (now (x .entry)) depth (now (kinds .entry)) (now (own .entry)) (now (own .exit)) ⌝ }
     ensures { λ _. ⌜ length (now (own .exit)) ≡ length (now (own .entry)) ⌝ }
-    ensures { λ r. ⌜ ClearedUnless r (now (own .exit)) ⌝ }
+    ensures { λ r. ⌜ OwnLeaves r (now (own .entry)) (now (own .exit)) ⌝ }
 {
     let a = parts::part_end(x, 4);
     let block = number(x, 3, a);
@@ -389,7 +393,7 @@ pub fn own_line(
 ) -> bool
     ensures { λ r. ⌜ OwnLine r (now (x .entry)) base bound depth (now (kinds .entry)) (names-of (now (names .entry)) used) (now (own .entry)) (now (own .exit)) ⌝ }
     ensures { λ _. ⌜ length (now (own .exit)) ≡ length (now (own .entry)) ⌝ }
-    ensures { λ r. ⌜ ClearedUnless r (now (own .exit)) ⌝ }
+    ensures { λ r. ⌜ OwnLeaves r (now (own .entry)) (now (own .exit)) ⌝ }
 {
     let c = parts::byte(x, 1);
     if c == b'd' {
@@ -416,7 +420,7 @@ pub fn own_line(
 // In a summary's walk, which has no own tables: whether the collected line x has a constant outside INT. Only the drive of an output
 // has constants.
 pub fn drive_outside(x: &[u8], depth: u32, kinds: &[u8], names: &[u32], used: usize) -> bool
-    ensures { λ r. ⌜ OutsideIs r (now (x .entry)) depth (now (kinds .entry)) (names-of (now (names .entry)) used) ⌝ }
+    ensures { λ r. ⌜ r ≡ drive-outside (now (x .entry)) depth (now (kinds .entry)) (names-of (now (names .entry)) used) ⌝ }
 {
     if parts::byte(x, 1) != b'd' {
         return false;

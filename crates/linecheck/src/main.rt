@@ -17,7 +17,7 @@ fn print_refused(number: u32, line: u32) {
 }
 
 fn print_verdict(text: &[u8]) {
-    match reader::read(text) {
+    match lines::reader::read(text) {
         Verdict::Refused(number, line) => print_refused(number, line),
         Verdict::Formed(_) => {}
     }

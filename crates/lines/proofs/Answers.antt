@@ -8,14 +8,17 @@ use lib.ListN.{length, replicate, length-replicate}
 use borrow.Author.Tests.{lt-ltb, le-ltb}
 use Rattle.spec.specs.Bytes.{Bytes}
 use Rattle.spec.specs.Syntax.{name-bound}
-use Rattle.spec.specs.Refusal.{Verdict, well-formed, refused, refusal, decode}
-use Rattle.lines.specs.Verdict.{told}
-use Rattle.lines.specs.Tables.{put-kinds, put-mods, Fitting}
+use Rattle.spec.specs.Refusal.{Verdict, well-formed, refused, refusal, decode, lines, at-start, lines-fault}
+use Rattle.lines.specs.Verdict.{told, modules-in}
+use Rattle.lines.specs.Read.{setLine}
+use Rattle.lines.specs.Tables.{put-kinds, put-mods}
+use Rattle.lines.specs.Pass.{Fitting, Fills}
 use Rattle.lines.specs.Reader.{by-verdict, by-room, read-as, kinds-after, mods-after}
 use Rattle.lines.specs.declared.read.Verdict.{Verdict as Answer}
 use Rattle.lines.specs.declared.read.Verdict.the-variants.{Refused as No, Formed}
 use Rattle.lines.specs.declared.tables.Read.{Read}
 use Rattle.lines.specs.declared.tables.Read.the-variants.{Short, Refused, Accepted}
+use Rattle.lines.proofs.Turns.{text-ended, text-lines}
 
 module _ {A : Type 0} (s f : A) (k m : ℕ) where
   pub room-kinds : k < 32 * name-bound → s ≡ by-room s f k m
@@ -63,13 +66,6 @@ module _ (t : Bytes) (kinds mods : List ℕ) where
             ),
           )
 
-      pub read-fitting : (m : ℕ) → v ≡ Formed m → Fitting t ks ms
-      read-fitting m q = record {
-        formed = told-formed (refusal t) (length (decode t)) m (sym q ∙ e) .0;
-        kinds-fit = let a = ap length zk ∙ length-replicate {A = ℕ} (length kinds) 0 in omega arith;
-        mods-fit = let a = ap length zm ∙ length-replicate {A = ℕ} (length mods) 0 in omega arith;
-      }
-
       pub read-accepted : (m : ℕ) → v ≡ Formed m → (ks′ ms′ : List ℕ) → ks′ ≡ put-kinds 0 (decode t) ks → ms′ ≡ put-mods 0 0 (decode t) ms → Left (Accepted m) ks′ ms′
       unfolding read-as kinds-after mods-after
       read-accepted m q ks′ ms′ wk wm =
@@ -80,3 +76,37 @@ module _ (t : Bytes) (kinds mods : List ℕ) where
               wm ∙ ap (put-mods 0 0 (decode t)) zm ∙ ap (by-verdict (λ k n. replicate {A = ℕ} (length mods) 0) (put-mods 0 0 (decode t) (replicate (length mods) 0))) (sym (r .0)) ∙ room-fits _ _ (length kinds) (length mods) g h,
             ),
           )
+
+    -- the text has neither fault 1 nor fault 2, and the pass is made over cleared tables
+    module _ (h : 128 ≤ length mods) (short : length t ≤ 32768) (bad : ℕ) (s : bad ≡ setLine t) (z : bad ≡ 0) (ks ms : List ℕ) (zk : ks ≡ replicate (length kinds) 0) (zm : ms ≡ replicate (length mods) 0) where
+      pub pass-fitting : Fitting t ks ms
+      pass-fitting = record {
+        ended = text-ended t bad short s z;
+        kinds-fit = let a = ap length zk ∙ length-replicate {A = ℕ} (length kinds) 0 in omega (arith, a, g);
+        mods-fit = let a = ap length zm ∙ length-replicate {A = ℕ} (length mods) 0 in omega (arith, a, h);
+      }
+
+      module _ (v : Answer) (ks′ ms′ : List ℕ) (f : Fills t ks ms v ks′ ms′) where
+        pub pass-refused : (k n : ℕ) → v ≡ No k n → length ks′ ≡ length ks → length ms′ ≡ length ms → (ks″ ms″ : List ℕ) → ks″ ≡ replicate (length ks′) 0 → ms″ ≡ replicate (length ms′) 0 → Left (Refused k n) ks″ ms″
+        pass-refused k n q lk lm ks″ ms″ yk ym =
+            read-refused h v (f .0 ∙ text-lines t bad short s z) ks″ ms″ (yk ∙ ap (λ (i : ℕ). replicate {A = ℕ} i 0) (lk ∙ ap length zk ∙ length-replicate {A = ℕ} (length kinds) 0))
+            (ym ∙ ap (λ (i : ℕ). replicate {A = ℕ} i 0) (lm ∙ ap length zm ∙ length-replicate {A = ℕ} (length mods) 0)) k n q
+
+        pub pass-accepted : (m : ℕ) → v ≡ Formed m → Left (Accepted m) ks′ ms′
+        pass-accepted m q =
+            let w = f .1 (told-formed (lines-fault at-start 1 (lines t)) (modules-in (lines t)) m (sym q ∙ f .0) .0) in
+            read-accepted h v (f .0 ∙ text-lines t bad short s z) ks ms zk zm m q ks′ ms′ (w .0) (w .1)
+
+-- the answer alone
+abbrev pub as-verdict : Read → Answer
+as-verdict Short = Formed 0
+as-verdict (Refused k n) = No k n
+as-verdict (Accepted m) = Formed m
+
+pub read-told : (t : Bytes) (k m : ℕ) → 32 * name-bound ≤ k → 128 ≤ m → (x : Read) → x ≡ read-as k m t → as-verdict x ≡ told (refusal t) (length (decode t))
+unfolding read-as
+read-told t k m g h x e = ap as-verdict (e ∙ sym (room-fits Short (by-verdict Refused (Accepted (length (decode t))) (refusal t)) k m g h)) ∙ go (refusal t)
+  where
+    go : (v : Verdict) → as-verdict (by-verdict Refused (Accepted (length (decode t))) v) ≡ told v (length (decode t))
+    go well-formed = refl
+    go (refused k n) = refl

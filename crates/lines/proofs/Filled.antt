@@ -1,16 +1,19 @@
--- What holds of the tables while they are filled: what the lines from here on add to them makes the design's tables. 01: The line; Refused because of
--- the text.
+-- What holds of the tables while they are filled: what the lines from here on add to them makes the design's tables; and where the pass stands.
+-- 01: The line; Refused because of the text.
 -- Assumes nothing: these are definitions.
 use mathlib.Core.Path.{_≡_}
 use mathlib.Core.Bool.{Bool, true, false}
 use mathlib.Core.List.{List}
-use Prim.Native.Nat.{ℕ, _+_, _-_}
+use Prim.Native.Nat.{ℕ, _+_, _-_, _≤_}
 use lib.Dec.{eqb}
 use lib.ListN.{length, drop}
 use Rattle.spec.specs.Bytes.{Bytes}
 use Rattle.spec.specs.Syntax.{name-bound, Header}
-use Rattle.spec.specs.Refusal.{lines, decode-lines, gather, Gathered, decode}
+use Rattle.spec.specs.Refusal.{lines, decode-lines, gather, Gathered, decode, at-start, lines-fault}
 use Rattle.lines.specs.Tables.{put-header, put-kinds, marked, header-size, items-size, put-mods}
+use Rattle.lines.specs.Verdict.{told, modules-in}
+use Rattle.lines.specs.declared.read.Verdict.the-variants.{Refused}
+use Rattle.lines.specs.declared.tables.Progress.{Progress}
 use Rattle.lines.proofs.Going.{Going}
 
 -- 01, The line: what the lines from `at` on are: the header and items of the module before them, and the modules among them
@@ -41,10 +44,16 @@ pub record Filled (t : Bytes) (at modules : ℕ) (items : Bool) (first : ℕ) (k
   pub kinds-long : length kinds ≡ length kinds₀
   pub mods-long : length mods ≡ length mods₀
 
--- 01, The line; Refused because of the text: the loop's invariant: what holds of text and tables at the start of some line, with a place in `seen`
--- for each name
-pub record Filling (t : Bytes) (at modules : ℕ) (items : Bool) (first : ℕ) (seen kinds₀ mods₀ kinds mods : List ℕ) : Type 0 where
-  pub row : ℕ
+-- 01, The line; Refused because of the text: what holds of text and tables at the start of a line, with a place in `seen` for each name
+pub record Filling (t : Bytes) (at row modules : ℕ) (items : Bool) (first : ℕ) (seen kinds₀ mods₀ kinds mods : List ℕ) : Type 0 where
   pub going : Going t at row modules items seen
   pub long : length seen ≡ name-bound
   pub filled : Filled t at modules items first kinds₀ mods₀ kinds mods
+
+-- 01, Refused because of the text: where the pass stands: before a line without a fault so far; or a fault ended it, and it is what the text is
+-- refused with
+pub record Reading (t : Bytes) (kinds₀ mods₀ : List ℕ) (p : Progress) (kinds mods : List ℕ) : Type 0 where
+  pub kinds-kept : length kinds ≡ length kinds₀
+  pub mods-kept : length mods ≡ length mods₀
+  pub goes-on : p .fault ≡ 0 → Filling t (p .next) (p .row) (p .modules) (p .items) (p .first) (p .seen) kinds₀ mods₀ kinds mods
+  pub stopped : (p .fault ≡ 0 → ⊥) → (length t ≤ p .next) × (Refused (p .fault) (p .row) ≡ told (lines-fault at-start 1 (lines t)) (modules-in (lines t)))

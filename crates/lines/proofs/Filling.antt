@@ -1,115 +1,224 @@
--- The turns of `tabulate`, one law for each way, over what `line_step` and the callees say.
+-- The turns of the pass over the lines, one law for each way, over what `line_step` and `enter_line` say.
 -- Assumes nothing.
 use mathlib.Core.Path.{_≡_, refl, ap, _∙_}
 use mathlib.Core.Bool.{Bool, true, false}
 use mathlib.Core.List.{List}
 use Prim.Native.Nat.{ℕ, _+_, _*_, _-_, _≤_, _<_}
 use native.Mathlib.Omega.{arith}
+use lib.Dec.{eqb}
 use lib.ListN.{length, set, replicate, length-set, length-replicate}
-use borrow.Author.Tests.{le-ltb}
+use borrow.Author.Tests.{eqb-true, eqb-false}
 use Rattle.spec.specs.Bytes.{Bytes}
 use Rattle.spec.specs.Syntax.{name-bound}
-use Rattle.spec.specs.Refusal.{Verdict, well-formed, refused, lines, Before, at-start, lines-fault, set-fault, refusal}
-use Rattle.spec.proofs.Reading.{reading}
+use Rattle.spec.specs.Refusal.{Verdict, lines, Before}
 use Rattle.lines.specs.Parse.{kindOf}
 use Rattle.lines.specs.Read.{lineStep}
-use Rattle.lines.specs.Verdict.{Ended, modules-in, told}
+use Rattle.lines.specs.Verdict.{modules-in, told}
 use Rattle.lines.specs.Tables.{entries, marked, secondKey, flagOf}
-use Rattle.lines.proofs.Filled.{Filling}
+use Rattle.lines.specs.Pass.{at-first-line, step-at, behind, kinds-behind, mods-behind, answer-of, Fitting, Standing, Fills}
+use Rattle.lines.proofs.Filled.{Filling, Reading}
 use Rattle.lines.specs.declared.read.Step.{Step}
 use Rattle.lines.specs.declared.read.Step.the-variants.{Fault, Module, Kind, Val, Item}
+use Rattle.lines.specs.declared.read.Verdict.{Verdict as Answer}
 use Rattle.lines.specs.declared.read.Verdict.the-variants.{Refused, Formed}
-use Rattle.lines.proofs.Steps.{Right}
-use Rattle.lines.proofs.Turns.{pass-room, going-start, going-right, going-module, going-kind, going-val, going-item, going-fault, ends-fine}
-use Rattle.lines.proofs.Tabled.{header-before, item-before, second-kind, second-bound, filled-start, filled-kind, filled-val, filled-item, filled-module}
+use Rattle.lines.specs.declared.tables.Progress.{Progress}
+use Rattle.lines.proofs.Steps.{Right, line-right}
+use Rattle.lines.proofs.Turns.{pass-room, going-start, going-right, going-module, going-kind, going-val, going-item, going-fault, going-end}
+use Rattle.lines.proofs.Tabled.{header-before, item-before, second-kind, second-bound, entries-long, filled-start, filled-kind, filled-val, filled-item, filled-module, filled-end}
 
-clash : {k n : ℕ} → refused k n ≡ well-formed → ⊥
-clash e = let z : _≡_ {A = ℕ} 0 1 = cc in omega arith
+marked-long : (table : List ℕ) (m i e : ℕ) → length (marked table m i e) ≡ length table
+marked-long table m i e = length-set (set table (m * 4 + 2) i) (m * 4 + 3) e ∙ length-set table (m * 4 + 2) i
 
-set-formed : (t : Bytes) → refusal t ≡ well-formed → (set-fault t ≡ well-formed) × (lines-fault at-start 1 (lines t) ≡ well-formed)
-unfolding refusal
-set-formed t e = go (set-fault t) refl
-  where
-    short : length t ≤ 32768
-    short = reading .accepted t e .0
+-- what an arm of `enter_line` leaves is what its step says
+pub behind-by : (t : Bytes) (at : ℕ) (p : Progress) (kinds mods : List ℕ) (x : Step) → x ≡ step-at t at p → (q : Progress) (ks ms : List ℕ)
+    → q ≡ behind x t p → ks ≡ kinds-behind x t at p kinds → ms ≡ mods-behind x t at p mods
+    → (q ≡ behind (step-at t at p) t p) × ((ks ≡ kinds-behind (step-at t at p) t at p kinds) × (ms ≡ mods-behind (step-at t at p) t at p mods))
+behind-by t at p kinds mods x e q ks ms a b c = (a ∙ ap (λ (y : Step). behind y t p) e, (b ∙ ap (λ (y : Step). kinds-behind y t at p kinds) e, c ∙ ap (λ (y : Step). mods-behind y t at p mods) e))
 
-    go : (v : Verdict) → set-fault t ≡ v → (set-fault t ≡ well-formed) × (lines-fault at-start 1 (lines t) ≡ well-formed)
-    go (refused k n) q = absurd (clash (let u : refused k n ≡ well-formed = rw (le-ltb 32768 (length t) short, q, refusal) at e in u))
-    go well-formed q = (q, let u : lines-fault at-start 1 (lines t) ≡ well-formed = rw (le-ltb 32768 (length t) short, q, refusal) at e in u)
+-- what a line is, where one is taken
+module _ (t : Bytes) (at : ℕ) (p : Progress) (kinds mods : List ℕ) (s : Standing t at p kinds mods) where
+  abbrev before : Before
+  before = record { modules = p .modules; has-item = p .items; kinds = s .names }
 
-pub formed-ended : (t : Bytes) → refusal t ≡ well-formed → Ended t
-formed-ended t e = record { short = reading .accepted t e .0; ends = ends-fine t (set-formed t e .0) }
+  told-right : (x : Step) → x ≡ step-at t at p → Right t at before x
+  told-right x e = rw e (line-right t at before (s .few) (p .seen) (s .agree) (s .line) (s .ends))
 
-pub filling-start : (t : Bytes) (kinds mods : List ℕ) → refusal t ≡ well-formed → Filling t 0 0 false 0 (replicate name-bound 0) kinds mods kinds mods
-filling-start t kinds mods e = record { row = 1; going = going-start t (formed-ended t e); long = length-replicate {A = ℕ} name-bound 0; filled = filled-start t kinds mods }
+  -- the next row, and the numbers that a line gives
+  pub row-fits : (p .row + 1 ≤ 32769) × (length t ≤ 32768)
+  row-fits = (omega (arith, s .early, s .line, s .fitting .ended .short), s .fitting .ended .short)
 
-module _ (t : Bytes) (at modules : ℕ) (items : Bool) (first : ℕ) (seen kinds₀ mods₀ kinds mods : List ℕ) (f : Filling t at modules items first seen kinds₀ mods₀ kinds mods) (h : at < length t) where
+  pub module-facts : (feed : ℕ) → Module feed ≡ step-at t at p → (feed < length t) × (p .modules < 32) × (p .modules * 4 + 3 < length mods)
+  module-facts feed e = let r = told-right (Module feed) e in let u = pass-room t at feed before _ (r .1) (s .line) in (u .0, r .2, let v = r .2 in omega (arith, v, s .fitting .mods-fit))
+
+  pub kind-facts : (feed n : ℕ) → Kind feed n ≡ step-at t at p → (feed < length t) × (0 < p .modules) × (n < name-bound) × ((p .modules - 1) * name-bound + n < length kinds) × ((p .modules - 1) * 4 + 3 < length mods)
+  kind-facts feed n e =
+      let r = told-right (Kind feed n) e in
+      let u = pass-room t at feed before _ (r .1) (s .line) in
+      let z = header-before t at feed before _ (r .1) .0 in
+      let v = r .2 in
+      (u .0, z, v, omega (arith, v, z, s .few, s .fitting .kinds-fit), omega (arith, z, s .few, s .fitting .mods-fit))
+
+  pub val-facts : (feed : ℕ) → Val feed ≡ step-at t at p → (feed < length t) × (0 < p .modules) × ((p .modules - 1) * 4 + 3 < length mods)
+  val-facts feed e =
+      let r = told-right (Val feed) e in
+      let u = pass-room t at feed before _ (r .2) (s .line) in
+      let z = header-before t at feed before _ (r .2) .0 in
+      (u .0, z, omega (arith, z, s .few, s .fitting .mods-fit))
+
+  pub item-facts : (feed : ℕ) → Item feed ≡ step-at t at p → (feed < length t) × (0 < p .modules) × ((p .modules - 1) * 4 + 3 < length mods)
+  item-facts feed e =
+      let r = told-right (Item feed) e in
+      let u = pass-room t at feed before _ (r .1) (s .line) in
+      let z = item-before t at feed before _ (r .1) in
+      (u .0, z, omega (arith, z, s .few, s .fitting .mods-fit))
+
+  -- the next line is further on
+  pub further : length t - behind (step-at t at p) t p .next < length t - at
+  further = go (step-at t at p) refl
+    where
+      go : (x : Step) → x ≡ step-at t at p → length t - behind x t p .next < length t - at
+      go (Fault k) e = omega (arith, s .line)
+      go (Module feed) e = let u = pass-room t at feed before _ (told-right (Module feed) e .1) (s .line) in omega (arith, s .line, u .0, u .1)
+      go (Kind feed n) e = let u = pass-room t at feed before _ (told-right (Kind feed n) e .1) (s .line) in omega (arith, s .line, u .0, u .1)
+      go (Val feed) e = let u = pass-room t at feed before _ (told-right (Val feed) e .2) (s .line) in omega (arith, s .line, u .0, u .1)
+      go (Item feed) e = let u = pass-room t at feed before _ (told-right (Item feed) e .1) (s .line) in omega (arith, s .line, u .0, u .1)
+
+module _ (t : Bytes) (at row modules : ℕ) (items : Bool) (first : ℕ) (seen kinds₀ mods₀ kinds mods : List ℕ) (f : Filling t at row modules items first seen kinds₀ mods₀ kinds mods) (h : at < length t) where
   abbrev here : Before
   here = record { modules = modules; has-item = items; kinds = f .going .kinds }
 
   right : (x : Step) → x ≡ lineStep t at modules items seen → Right t at here x
-  right x e = going-right t at (f .row) modules items seen (f .going) h x e
-
-  pub filling-fault : refusal t ≡ well-formed → (k : ℕ) → Fault k ≡ lineStep t at modules items seen → ⊥
-  filling-fault a k e =
-      let u = going-fault t at (f .row) modules items seen (f .going) k (right (Fault k) e) in
-      let v : Refused k (f .row) ≡ Formed (modules-in (lines t)) = u ∙ ap (λ (x : Verdict). told x (modules-in (lines t))) (set-formed t a .1) in
-      let z : _≡_ {A = ℕ} 0 1 = cc v in
-      omega arith
+  right x e = going-right t at row modules items seen (f .going) h x e
 
   module _ (feed : ℕ) where
-    pub module-facts : Module feed ≡ lineStep t at modules items seen → (feed < length t) × (at < feed + 1) × (modules < 32)
-    module-facts e = let r = right (Module feed) e in let p = pass-room t at feed here _ (r .1) h in (p .0, p .1, r .2)
-
-    pub kind-facts : (n : ℕ) → Kind feed n ≡ lineStep t at modules items seen → (feed < length t) × (at < feed + 1) × (0 < modules) × (n < name-bound) × (modules ≤ 32)
-    kind-facts n e = let r = right (Kind feed n) e in let p = pass-room t at feed here _ (r .1) h in (p .0, p .1, header-before t at feed here _ (r .1) .0, r .2, f .going .few)
-
-    pub val-facts : Val feed ≡ lineStep t at modules items seen → (feed < length t) × (at < feed + 1) × (0 < modules) × (modules ≤ 32)
-    val-facts e = let r = right (Val feed) e in let p = pass-room t at feed here _ (r .2) h in (p .0, p .1, header-before t at feed here _ (r .2) .0, f .going .few)
-
-    pub item-facts : Item feed ≡ lineStep t at modules items seen → (feed < length t) × (at < feed + 1) × (0 < modules) × (modules ≤ 32)
-    item-facts e = let r = right (Item feed) e in let p = pass-room t at feed here _ (r .1) h in (p .0, p .1, item-before t at feed here _ (r .1), f .going .few)
-
-    pub filling-module : Module feed ≡ lineStep t at modules items seen → (fl : ℕ) (mods′ : List ℕ) → fl ≡ flagOf (secondKey t at) → mods′ ≡ entries mods modules fl (feed + 1) (feed + 1) (feed + 1)
-        → Filling t (feed + 1) (modules + 1) false (feed + 1) (replicate name-bound 0) kinds₀ mods₀ kinds mods′
-    filling-module e fl mods′ q w =
+    filling-module : Module feed ≡ lineStep t at modules items seen
+        → Filling t (feed + 1) (row + 1) (modules + 1) false (feed + 1) (replicate name-bound 0) kinds₀ mods₀ kinds (entries mods modules (flagOf (secondKey t at)) (feed + 1) (feed + 1) (feed + 1))
+    filling-module e =
         let r = right (Module feed) e in
-        let z = q ∙ second-bound t at feed here modules (r .0) (r .1) in
+        let z = second-bound t at feed here modules (r .0) (r .1) in
         record {
-          row = f .row + 1;
-          going = going-module t at (f .row) modules items seen (f .going) h feed r;
+          going = going-module t at row modules items seen (f .going) h feed r;
           long = length-replicate {A = ℕ} name-bound 0;
-          filled = rw (w, z) (filled-module t at modules items first kinds₀ mods₀ kinds mods (f .filled) h feed (f .going .kinds) (r .0) (r .1));
+          filled = rw z (filled-module t at modules items first kinds₀ mods₀ kinds mods (f .filled) h feed (f .going .kinds) (r .0) (r .1));
         }
 
-    pub filling-kind : (n : ℕ) → Kind feed n ≡ lineStep t at modules items seen → (k : ℕ) (mods′ : List ℕ) → k ≡ kindOf (secondKey t at) → mods′ ≡ marked mods (modules - 1) (feed + 1) (feed + 1)
-        → Filling t (feed + 1) modules items (feed + 1) (set seen n 1) kinds₀ mods₀ (set kinds ((modules - 1) * name-bound + n) k) mods′
-    filling-kind n e k mods′ q w =
+    filling-kind : (n : ℕ) → Kind feed n ≡ lineStep t at modules items seen
+        → Filling t (feed + 1) (row + 1) modules items (feed + 1) (set seen n 1) kinds₀ mods₀ (set kinds ((modules - 1) * name-bound + n) (kindOf (secondKey t at))) (marked mods (modules - 1) (feed + 1) (feed + 1))
+    filling-kind n e =
         let r = right (Kind feed n) e in
-        let z = q ∙ second-kind t at feed here n (r .0) (r .1) in
+        let z = second-kind t at feed here n (r .0) (r .1) in
         record {
-          row = f .row + 1;
-          going = going-kind t at (f .row) modules items seen (f .going) h feed n r (f .long);
+          going = going-kind t at row modules items seen (f .going) h feed n r (f .long);
           long = length-set seen n 1 ∙ f .long;
-          filled = rw (w, z) (filled-kind t at modules items first kinds₀ mods₀ kinds mods (f .filled) h feed (f .going .kinds) n (r .0) (r .1));
+          filled = rw z (filled-kind t at modules items first kinds₀ mods₀ kinds mods (f .filled) h feed (f .going .kinds) n (r .0) (r .1));
         }
 
-    pub filling-val : Val feed ≡ lineStep t at modules items seen → (mods′ : List ℕ) → mods′ ≡ marked mods (modules - 1) (feed + 1) (feed + 1) → Filling t (feed + 1) modules items (feed + 1) seen kinds₀ mods₀ kinds mods′
-    filling-val e mods′ w =
+    filling-val : Val feed ≡ lineStep t at modules items seen → Filling t (feed + 1) (row + 1) modules items (feed + 1) seen kinds₀ mods₀ kinds (marked mods (modules - 1) (feed + 1) (feed + 1))
+    filling-val e =
         let r = right (Val feed) e in
         record {
-          row = f .row + 1;
-          going = going-val t at (f .row) modules items seen (f .going) h feed r;
+          going = going-val t at row modules items seen (f .going) h feed r;
           long = f .long;
-          filled = rw w (filled-val t at modules items first kinds₀ mods₀ kinds mods (f .filled) h feed (f .going .kinds) (r .0) (r .1) (r .2));
+          filled = filled-val t at modules items first kinds₀ mods₀ kinds mods (f .filled) h feed (f .going .kinds) (r .0) (r .1) (r .2);
         }
 
-    pub filling-item : Item feed ≡ lineStep t at modules items seen → (mods′ : List ℕ) → mods′ ≡ marked mods (modules - 1) first (feed + 1) → Filling t (feed + 1) modules true first seen kinds₀ mods₀ kinds mods′
-    filling-item e mods′ w =
+    filling-item : Item feed ≡ lineStep t at modules items seen → Filling t (feed + 1) (row + 1) modules true first seen kinds₀ mods₀ kinds (marked mods (modules - 1) first (feed + 1))
+    filling-item e =
         let r = right (Item feed) e in
         record {
-          row = f .row + 1;
-          going = going-item t at (f .row) modules items seen (f .going) h feed r;
+          going = going-item t at row modules items seen (f .going) h feed r;
           long = f .long;
-          filled = rw w (filled-item t at modules items first kinds₀ mods₀ kinds mods (f .filled) h feed (f .going .kinds) (r .0) (r .1));
+          filled = filled-item t at modules items first kinds₀ mods₀ kinds mods (f .filled) h feed (f .going .kinds) (r .0) (r .1);
         }
+
+-- ---- the whole pass
+
+pub reading-start : (t : Bytes) (kinds mods : List ℕ) → Fitting t kinds mods → Reading t kinds mods at-first-line kinds mods
+reading-start t kinds mods f = record {
+  kinds-kept = refl;
+  mods-kept = refl;
+  goes-on = λ _. record { going = going-start t (f .ended); long = length-replicate {A = ℕ} name-bound 0; filled = filled-start t kinds mods };
+  stopped = λ z. absurd (z refl);
+}
+
+module _ (t : Bytes) (kinds₀ mods₀ : List ℕ) (fit : Fitting t kinds₀ mods₀) (p : Progress) (kinds mods : List ℕ) (w : Reading t kinds₀ mods₀ p kinds mods) where
+  module _ (h : p .next < length t) where
+    sound : p .fault ≡ 0
+    sound = go (eqb (p .fault) 0) refl
+      where
+        go : (b : Bool) → eqb (p .fault) 0 ≡ b → p .fault ≡ 0
+        go true e = eqb-true (p .fault) 0 e
+        go false e = let u = w .stopped (eqb-false (p .fault) 0 e) .0 in absurd (omega (arith, u, h))
+
+    pub standing : Standing t (p .next) p kinds mods
+    standing =
+        let g = w .goes-on sound .going in
+        record {
+          fitting = record { ended = fit .ended; kinds-fit = omega (arith, fit .kinds-fit, w .kinds-kept); mods-fit = omega (arith, fit .mods-fit, w .mods-kept) };
+          line = h;
+          ends = g .ends;
+          few = g .few;
+          early = g .early;
+          names = g .kinds;
+          agree = g .agree;
+        }
+
+    -- the pass behind the line
+    turn : (x : Step) → x ≡ step-at t (p .next) p → Reading t kinds₀ mods₀ (behind x t p) (kinds-behind x t (p .next) p kinds) (mods-behind x t (p .next) p mods)
+    turn (Fault k) e =
+        let f = w .goes-on sound in
+        let r = right t (p .next) (p .row) (p .modules) (p .items) (p .first) (p .seen) kinds₀ mods₀ kinds mods f h (Fault k) e in
+        record {
+          kinds-kept = w .kinds-kept;
+          mods-kept = w .mods-kept;
+          goes-on = λ z. let a = r .above in absurd (omega (arith, a, z));
+          stopped = λ _. (omega arith, going-fault t (p .next) (p .row) (p .modules) (p .items) (p .seen) (f .going) k r);
+        }
+    turn (Module feed) e = record {
+      kinds-kept = w .kinds-kept;
+      mods-kept = entries-long mods (p .modules) (flagOf (secondKey t (p .next))) (feed + 1) (feed + 1) (feed + 1) ∙ w .mods-kept;
+      goes-on = λ _. filling-module t (p .next) (p .row) (p .modules) (p .items) (p .first) (p .seen) kinds₀ mods₀ kinds mods (w .goes-on sound) h feed e;
+      stopped = λ z. absurd (z refl);
+    }
+    turn (Kind feed n) e = record {
+      kinds-kept = length-set kinds ((p .modules - 1) * name-bound + n) (kindOf (secondKey t (p .next))) ∙ w .kinds-kept;
+      mods-kept = marked-long mods (p .modules - 1) (feed + 1) (feed + 1) ∙ w .mods-kept;
+      goes-on = λ _. filling-kind t (p .next) (p .row) (p .modules) (p .items) (p .first) (p .seen) kinds₀ mods₀ kinds mods (w .goes-on sound) h feed n e;
+      stopped = λ z. absurd (z refl);
+    }
+    turn (Val feed) e = record {
+      kinds-kept = w .kinds-kept;
+      mods-kept = marked-long mods (p .modules - 1) (feed + 1) (feed + 1) ∙ w .mods-kept;
+      goes-on = λ _. filling-val t (p .next) (p .row) (p .modules) (p .items) (p .first) (p .seen) kinds₀ mods₀ kinds mods (w .goes-on sound) h feed e;
+      stopped = λ z. absurd (z refl);
+    }
+    turn (Item feed) e = record {
+      kinds-kept = w .kinds-kept;
+      mods-kept = marked-long mods (p .modules - 1) (p .first) (feed + 1) ∙ w .mods-kept;
+      goes-on = λ _. filling-item t (p .next) (p .row) (p .modules) (p .items) (p .first) (p .seen) kinds₀ mods₀ kinds mods (w .goes-on sound) h feed e;
+      stopped = λ z. absurd (z refl);
+    }
+
+    module _ (q : Progress) (kinds′ mods′ : List ℕ) (e : q ≡ behind (step-at t (p .next) p) t p)
+        (d : (kinds′ ≡ kinds-behind (step-at t (p .next) p) t (p .next) p kinds) × (mods′ ≡ mods-behind (step-at t (p .next) p) t (p .next) p mods)) where
+      pub reading-next : Reading t kinds₀ mods₀ q kinds′ mods′
+      reading-next = rw (e, d .0, d .1) (turn (step-at t (p .next) p) refl)
+
+      pub reading-further : length t - q .next < length t - p .next
+      reading-further = rw e (further t (p .next) p kinds mods standing)
+
+  -- nothing is left to read
+  pub reading-end : length t ≤ p .next → (r : Answer) → r ≡ answer-of p → Fills t kinds₀ mods₀ r kinds mods
+  unfolding answer-of
+  reading-end h r e = go (eqb (p .fault) 0) refl
+    where
+      go : (b : Bool) → eqb (p .fault) 0 ≡ b → Fills t kinds₀ mods₀ r kinds mods
+      go true z =
+          let f = w .goes-on (eqb-true (p .fault) 0 z) in
+          (e ∙ rw (z, answer-of) (going-end t (p .next) (p .row) (p .modules) (p .items) (p .seen) (f .going) h), λ _. filled-end t (p .next) (p .modules) (p .items) (p .first) kinds₀ mods₀ kinds mods (f .filled) h)
+      go false z =
+          let u = w .stopped (eqb-false (p .fault) 0 z) .1 in
+          (e ∙ rw (z, answer-of) u, λ v. absurd (no (u ∙ ap (λ (x : Verdict). told x (modules-in (lines t))) v)))
+        where
+          no : {k n m : ℕ} → Refused k n ≡ Formed m → ⊥
+          no e = let z : _≡_ {A = ℕ} 0 1 = cc e in omega arith

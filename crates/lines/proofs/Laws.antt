@@ -1,16 +1,20 @@
 -- Laws of the definitions of specs/, one for each way through the code.
 -- Assumes nothing.
-use mathlib.Core.Path.{_≡_, refl, sym, ap, _∙_}
-use mathlib.Core.Bool.{Bool, true, false, _&&_, true≢false}
+use mathlib.Core.Path.{_≡_, refl, sym, ap, subst, _∙_}
+use mathlib.Core.Bool.{Bool, true, false, not, _&&_, true≢false}
+use mathlib.Core.Logic.{_⊎_, inl, inr}
 use mathlib.Core.List.{List, [], _∷_}
 use Prim.Native.Nat.{ℕ, zero, suc, _+_, _*_, _-_, _≤_, _<_}
 use native.Mathlib.Omega.{arith}
 use native.Mathlib.Numerals.{add-one, sub-one}
 use lib.ListN.{length, drop, getD, drop-of-length-le, List·getD-eq-default}
 use lib.Seq.{drop-cons}
-use lib.Dec.{eqb, ltb}
-use borrow.Author.Tests.{eq-eqb, ne-eqb, lt-ltb, le-ltb, ltb-true, ltb-false}
-use Rattle.lines.specs.Bytes.{classOf, isDigit, isWordly}
+use lib.Dec.{T, eqb, ltb}
+use mir.Val.{hasKey}
+use types.Run.{OneOf, miss}
+use denote.Enum.Declared.{tagOf}
+use borrow.Author.Tests.{eq-eqb, ne-eqb, lt-ltb, le-ltb, ltb-true, ltb-false, eqb-true, eqb-false}
+use Rattle.lines.specs.Bytes.{classOf, isDigit, isWord}
 use Rattle.spec.specs.Bytes.{bytes}
 use Rattle.lines.specs.Parse.{lookup-key, key, wordFrom, wordAt, moreDigit, digitsFrom, numberAt, numbered, intAt, either, worded, shape, shift, literal, atom, parts-at, form-at, scan}
 use Rattle.lines.specs.declared.parse.Word.{Word}
@@ -20,6 +24,8 @@ use Rattle.lines.specs.declared.parse.Cat.the-variants.{X}
 use Rattle.lines.specs.declared.parse.Shape.{Shape}
 use Rattle.lines.specs.declared.parse.Parsed.{Parsed}
 use Rattle.lines.specs.declared.parse.Parsed.the-variants.{Bad, Good}
+use Rattle.lines.proofs.bytes.Class.{the-type}
+use Rattle.lines.specs.declared.bytes.Class.{Class}
 use Rattle.lines.specs.declared.bytes.Class.the-variants.{Space, Open, Close, Digit, Letter, Minus, Feed, Refused, Other}
 
 pub past-end : (s : List ℕ) (i : ℕ) → length s ≤ i → 0 ≡ getD s i 0
@@ -111,42 +117,135 @@ pub if-case : {A : Type 0} (P : A → Type 0) (b : Bool) (x y : A) → (b ≡ tr
 if-case P true x y f g = f refl
 if-case P false x y f g = g refl
 
+-- what a byte of each class is
+abbrev pub Says : Class → ℕ → Type 0
+Says Space b = b ≡ 32
+Says Open b = b ≡ 40
+Says Close b = b ≡ 41
+Says Digit b = (48 ≤ b) × (b < 58)
+Says Letter b = ((65 ≤ b) × (b < 91)) ⊎ ((97 ≤ b) × (b < 123))
+Says Minus b = b ≡ 45
+Says Feed b = b ≡ 10
+Says Refused b = ((b < 32) × (b ≡ 10 → ⊥)) ⊎ (127 ≤ b)
+Says Other b =
+    ((32 < b) × (b < 48) × (b ≡ 40 → ⊥) × (b ≡ 41 → ⊥) × (b ≡ 45 → ⊥))
+    ⊎ (((58 ≤ b) × (b < 65)) ⊎ (((91 ≤ b) × (b < 97)) ⊎ ((123 ≤ b) × (b < 127))))
+
+pub says : (b : ℕ) → Says (classOf b) b
+unfolding classOf
+says b =
+    if-case (λ c. Says c b) (ltb b 48) _ _
+    (λ h. let x = ltb-true b 48 h in if-case (λ c. Says c b) (eqb b 10) _ _ (eqb-true b 10)
+    (λ f. let y = eqb-false b 10 f in if-case (λ c. Says c b) (ltb b 32) _ _ (λ g. inl (ltb-true b 32 g, y))
+    (λ g. let z = ltb-false b 32 g in if-case (λ c. Says c b) (eqb b 32) _ _ (eqb-true b 32)
+    (λ s. let w = eqb-false b 32 s in if-case (λ c. Says c b) (eqb b 40) _ _ (eqb-true b 40)
+    (λ o. if-case (λ c. Says c b) (eqb b 41) _ _ (eqb-true b 41)
+    (λ k. if-case (λ c. Says c b) (eqb b 45) _ _ (eqb-true b 45) (λ m. inl (omega arith, x, eqb-false b 40 o, eqb-false b 41 k, eqb-false b 45 m))))))))
+    (λ h. let x = ltb-false b 48 h in if-case (λ c. Says c b) (ltb b 58) _ _ (λ g. (x, ltb-true b 58 g))
+    (λ f. let y = ltb-false b 58 f in if-case (λ c. Says c b) (ltb b 65) _ _ (λ g. inr (inl (y, ltb-true b 65 g)))
+    (λ f. let y = ltb-false b 65 f in if-case (λ c. Says c b) (ltb b 91) _ _ (λ g. inl (y, ltb-true b 91 g))
+    (λ f. let y = ltb-false b 91 f in if-case (λ c. Says c b) (ltb b 97) _ _ (λ g. inr (inr (inl (y, ltb-true b 97 g))))
+    (λ f. let y = ltb-false b 97 f in if-case (λ c. Says c b) (ltb b 123) _ _ (λ g. inr (y, ltb-true b 123 g))
+    (λ f. let y = ltb-false b 123 f in if-case (λ c. Says c b) (ltb b 127) _ _ (λ g. inr (inr (inr (y, ltb-true b 127 g)))) (λ g. inr (ltb-false b 127 g))))))))
+
+-- an arm of a `match` on a byte's class: what the byte is
+pub class-is : (b : ℕ) (r c : Class) → r ≡ classOf b → r ≡ c → Says c b
+class-is b r c q e = subst (λ (x : Class). Says x b) (sym q ∙ e) (says b)
+
+-- its last arm, for all classes that have none: what the byte is not
+module _ (ks : List ℕ) (b : ℕ) (r : Class) (q : r ≡ classOf b) (o : OneOf ks (tagOf the-type r)) where
+  pub not-class : (c : Class) → T (not (hasKey ks (tagOf the-type c))) → c ≡ classOf b → ⊥
+  not-class c m e = miss ks (tagOf the-type c) m (subst (λ (x : Class). OneOf ks (tagOf the-type x)) (q ∙ sym e) o)
+
+  pub not-space : T (not (hasKey ks 0)) → b ≡ 32 → ⊥
+  not-space m e = not-class Space m (class-space b e)
+
+  pub not-open : T (not (hasKey ks 1)) → b ≡ 40 → ⊥
+  not-open m e = not-class Open m (class-open b e)
+
+  pub not-close : T (not (hasKey ks 2)) → b ≡ 41 → ⊥
+  not-close m e = not-class Close m (class-close b e)
+
+  pub not-minus : T (not (hasKey ks 5)) → b ≡ 45 → ⊥
+  not-minus m e = not-class Minus m (class-minus b e)
+
+  pub not-feed : T (not (hasKey ks 6)) → b ≡ 10 → ⊥
+  not-feed m e = not-class Feed m (class-feed b e)
+
+  pub not-low : T (not (hasKey ks 6)) → T (not (hasKey ks 7)) → 32 ≤ b
+  not-low f m = go (ltb b 32) refl
+    where
+      go : (x : Bool) → ltb b 32 ≡ x → 32 ≤ b
+      go true e = absurd (not-class Refused m (class-low b (ltb-true b 32 e) (not-feed f)))
+      go false e = ltb-false b 32 e
+
+  pub not-high : T (not (hasKey ks 7)) → b ≤ 126
+  not-high m = go (ltb b 127) refl
+    where
+      go : (x : Bool) → ltb b 127 ≡ x → b ≤ 126
+      go true e = let h = ltb-true b 127 e in omega arith
+      go false e = absurd (not-class Refused m (class-127 b (ltb-false b 127 e)))
+
+-- what a test of one byte says of the byte at a place
+module _ (t : Bool) (b x k : ℕ) (q : t ≡ eqb b k) (e : b ≡ x) where
+  pub byte-is : t ≡ true → x ≡ k
+  byte-is f = sym e ∙ eqb-true b k (sym q ∙ f)
+
+  pub byte-not : t ≡ false → x ≡ k → ⊥
+  byte-not f z = eqb-false b k (sym q ∙ f) (e ∙ z)
+
+pub no-digit : (c : Class) → (Digit ≡ c → ⊥) → false ≡ isDigit c
+no-digit Space f = refl
+no-digit Open f = refl
+no-digit Close f = refl
+no-digit Digit f = absurd (f refl)
+no-digit Letter f = refl
+no-digit Minus f = refl
+no-digit Feed f = refl
+no-digit Refused f = refl
+no-digit Other f = refl
+
+pub no-word : (c : Class) → (Digit ≡ c → ⊥) → (Letter ≡ c → ⊥) → false ≡ isWord c
+no-word Space f g = refl
+no-word Open f g = refl
+no-word Close f g = refl
+no-word Digit f g = absurd (f refl)
+no-word Letter f g = absurd (g refl)
+no-word Minus f g = refl
+no-word Feed f g = refl
+no-word Refused f g = refl
+no-word Other f g = refl
+
 -- a digit is a byte from 48 to 57
 pub digit-range : (b : ℕ) → isDigit (classOf b) ≡ true → (48 ≤ b) × (b ≤ 57)
-unfolding classOf
-digit-range b =
-    if-case (λ c. isDigit c ≡ true → (48 ≤ b) × (b ≤ 57)) (ltb b 48) _ _
-    (λ _. if-case (λ c. isDigit c ≡ true → (48 ≤ b) × (b ≤ 57)) (eqb b 10) _ _ (λ _ e. absurd (true≢false (sym e)))
-    (λ _. if-case (λ c. isDigit c ≡ true → (48 ≤ b) × (b ≤ 57)) (ltb b 32) _ _ (λ _ e. absurd (true≢false (sym e)))
-    (λ _. if-case (λ c. isDigit c ≡ true → (48 ≤ b) × (b ≤ 57)) (eqb b 32) _ _ (λ _ e. absurd (true≢false (sym e)))
-    (λ _. if-case (λ c. isDigit c ≡ true → (48 ≤ b) × (b ≤ 57)) (eqb b 40) _ _ (λ _ e. absurd (true≢false (sym e)))
-    (λ _. if-case (λ c. isDigit c ≡ true → (48 ≤ b) × (b ≤ 57)) (eqb b 41) _ _ (λ _ e. absurd (true≢false (sym e)))
-    (λ _. if-case (λ c. isDigit c ≡ true → (48 ≤ b) × (b ≤ 57)) (eqb b 45) _ _ (λ _ e. absurd (true≢false (sym e))) (λ _ e. absurd (true≢false (sym e)))))))))
-    (λ h. if-case (λ c. isDigit c ≡ true → (48 ≤ b) × (b ≤ 57)) (ltb b 58) _ _ (λ g e. let x = ltb-false b 48 h in let y = ltb-true b 58 g in (x, omega arith))
-    (λ _. if-case (λ c. isDigit c ≡ true → (48 ≤ b) × (b ≤ 57)) (ltb b 65) _ _ (λ _ e. absurd (true≢false (sym e)))
-    (λ _. if-case (λ c. isDigit c ≡ true → (48 ≤ b) × (b ≤ 57)) (ltb b 91) _ _ (λ _ e. absurd (true≢false (sym e)))
-    (λ _. if-case (λ c. isDigit c ≡ true → (48 ≤ b) × (b ≤ 57)) (ltb b 97) _ _ (λ _ e. absurd (true≢false (sym e)))
-    (λ _. if-case (λ c. isDigit c ≡ true → (48 ≤ b) × (b ≤ 57)) (ltb b 123) _ _ (λ _ e. absurd (true≢false (sym e)))
-    (λ _. if-case (λ c. isDigit c ≡ true → (48 ≤ b) × (b ≤ 57)) (ltb b 127) _ _ (λ _ e. absurd (true≢false (sym e))) (λ _ e. absurd (true≢false (sym e)))))))))
+digit-range b = go (classOf b) (says b)
+  where
+    go : (c : Class) → Says c b → isDigit c ≡ true → (48 ≤ b) × (b ≤ 57)
+    go Space h e = absurd (true≢false (sym e))
+    go Open h e = absurd (true≢false (sym e))
+    go Close h e = absurd (true≢false (sym e))
+    go Digit h e = (h .0, omega (arith, h .1))
+    go Letter h e = absurd (true≢false (sym e))
+    go Minus h e = absurd (true≢false (sym e))
+    go Feed h e = absurd (true≢false (sym e))
+    go Refused h e = absurd (true≢false (sym e))
+    go Other h e = absurd (true≢false (sym e))
 
 -- a byte of a word is a byte and not 0
-pub wordly-range : (b : ℕ) → isWordly (classOf b) ≡ true → (48 ≤ b) × (b ≤ 122)
-unfolding classOf
-wordly-range b =
-    if-case (λ c. isWordly c ≡ true → (48 ≤ b) × (b ≤ 122)) (ltb b 48) _ _
-    (λ _. if-case (λ c. isWordly c ≡ true → (48 ≤ b) × (b ≤ 122)) (eqb b 10) _ _ (λ _ e. absurd (true≢false (sym e)))
-    (λ _. if-case (λ c. isWordly c ≡ true → (48 ≤ b) × (b ≤ 122)) (ltb b 32) _ _ (λ _ e. absurd (true≢false (sym e)))
-    (λ _. if-case (λ c. isWordly c ≡ true → (48 ≤ b) × (b ≤ 122)) (eqb b 32) _ _ (λ _ e. absurd (true≢false (sym e)))
-    (λ _. if-case (λ c. isWordly c ≡ true → (48 ≤ b) × (b ≤ 122)) (eqb b 40) _ _ (λ _ e. absurd (true≢false (sym e)))
-    (λ _. if-case (λ c. isWordly c ≡ true → (48 ≤ b) × (b ≤ 122)) (eqb b 41) _ _ (λ _ e. absurd (true≢false (sym e)))
-    (λ _. if-case (λ c. isWordly c ≡ true → (48 ≤ b) × (b ≤ 122)) (eqb b 45) _ _ (λ _ e. absurd (true≢false (sym e))) (λ _ e. absurd (true≢false (sym e)))))))))
-    (λ h. let x = ltb-false b 48 h in
-    if-case (λ c. isWordly c ≡ true → (48 ≤ b) × (b ≤ 122)) (ltb b 58) _ _ (λ g e. let y = ltb-true b 58 g in (x, omega arith))
-    (λ _. if-case (λ c. isWordly c ≡ true → (48 ≤ b) × (b ≤ 122)) (ltb b 65) _ _ (λ _ e. absurd (true≢false (sym e)))
-    (λ _. if-case (λ c. isWordly c ≡ true → (48 ≤ b) × (b ≤ 122)) (ltb b 91) _ _ (λ g e. let y = ltb-true b 91 g in (x, omega arith))
-    (λ _. if-case (λ c. isWordly c ≡ true → (48 ≤ b) × (b ≤ 122)) (ltb b 97) _ _ (λ _ e. absurd (true≢false (sym e)))
-    (λ _. if-case (λ c. isWordly c ≡ true → (48 ≤ b) × (b ≤ 122)) (ltb b 123) _ _ (λ g e. let y = ltb-true b 123 g in (x, omega arith))
-    (λ _. if-case (λ c. isWordly c ≡ true → (48 ≤ b) × (b ≤ 122)) (ltb b 127) _ _ (λ _ e. absurd (true≢false (sym e))) (λ _ e. absurd (true≢false (sym e)))))))))
+pub word-range : (b : ℕ) → isWord (classOf b) ≡ true → (48 ≤ b) × (b ≤ 122)
+word-range b = go (classOf b) (says b)
+  where
+    go : (c : Class) → Says c b → isWord c ≡ true → (48 ≤ b) × (b ≤ 122)
+    go Space h e = absurd (true≢false (sym e))
+    go Open h e = absurd (true≢false (sym e))
+    go Close h e = absurd (true≢false (sym e))
+    go Digit h e = (h .0, omega (arith, h .1))
+    go Letter (inl h) e = (omega (arith, h .0), omega (arith, h .1))
+    go Letter (inr h) e = (omega (arith, h .0), omega (arith, h .1))
+    go Minus h e = absurd (true≢false (sym e))
+    go Feed h e = absurd (true≢false (sym e))
+    go Refused h e = absurd (true≢false (sym e))
+    go Other h e = absurd (true≢false (sym e))
 
 -- ---- words and numbers
 
@@ -179,11 +278,11 @@ eight : (k : ℕ) → k < 8 → 8 - k ≡ suc (8 - (k + 1))
 eight k h = omega arith
 
 module _ (t : List ℕ) (i code k : ℕ) where
-  pub word-stop : k < 8 → isWordly (classOf (getD t i 0)) ≡ false → record { key = code * 16 + k; next = i } ≡ wordFrom (8 - k) t i code k
+  pub word-stop : k < 8 → isWord (classOf (getD t i 0)) ≡ false → record { key = code * 16 + k; next = i } ≡ wordFrom (8 - k) t i code k
   unfolding wordFrom
   word-stop h e = rw (eight k h, e, wordFrom)
 
-  pub word-more : k < 8 → isWordly (classOf (getD t i 0)) ≡ true → wordFrom (8 - k) t i code k ≡ wordFrom (8 - (k + 1)) t (i + 1) (code * 256 + getD t i 0) (k + 1)
+  pub word-more : k < 8 → isWord (classOf (getD t i 0)) ≡ true → wordFrom (8 - k) t i code k ≡ wordFrom (8 - (k + 1)) t (i + 1) (code * 256 + getD t i 0) (k + 1)
   unfolding wordFrom
   word-more h e = rw (eight k h, e, wordFrom)
 

@@ -1,3 +1,4 @@
+pub mod Again
 pub mod Answers
 pub mod Atoms
 pub mod Built

@@ -196,53 +196,10 @@ pub others-more : (s : Bytes) (e : ℕ) → follows s e ≡ true → others s e 
 unfolding others
 others-more s e f = rw (f, others) (behind-step s e)
 
-pub parts-empty : (s : Bytes) → length s ≡ 0 → parts s ≡ []
-unfolding parts
-parts-empty [] h = refl
-parts-empty (c ∷ s) h = absurd (omega arith)
-
 pub parts-form : (s : Bytes) → (length s ≡ 0 → ⊥) → parts s ≡ piece s 0 (next-end s 0) ∷ others s (next-end s 0)
 unfolding parts parts-behind
 parts-form [] h = absurd (h refl)
 parts-form (c ∷ s) h = behind-step (c ∷ s) 0
-
--- ---- counting the parts, and finding one
-module _ (s : Bytes) where
-  pub count-first : (length s ≡ 0 → ⊥) → {e : ℕ} → e ≡ part-end s 1 → 1 + length (others s e) ≡ length (parts s)
-  unfolding next-end
-  count-first h {e} q = rw (parts-form s h, q) (let z : 1 + length (others s (part-end s 1)) ≡ suc (length (others s (part-end s 1))) = omega arith in z)
-
-  pub count-step : (n e : ℕ) → follows s e ≡ true → {d m : ℕ} → d ≡ part-end s (e + 1) → n + length (others s e) ≡ m → n + 1 + length (others s d) ≡ m
-  unfolding next-end
-  count-step n e t {d} {m} q i = rw q (omega (arith, ap length (others-more s e t), i))
-
-  pub count-none : (n e : ℕ) → follows s e ≡ false → {m : ℕ} → n + length (others s e) ≡ m → n ≡ m
-  count-none n e f {m} i = omega (arith, ap length (others-none s e f), i)
-
-  pub at-empty : (k : ℕ) → length s ≡ 0 → take (length s - length s) (drop (length s) s) ≡ getD (parts s) k []
-  at-empty k h = rw (parts-empty s h, drop-length, take-nil) (nowhere k)
-    where
-      nowhere : (k : ℕ) → _≡_ {A = Bytes} [] (getD [] k [])
-      nowhere zero = refl
-      nowhere (suc k) = refl
-
-  pub at-first : (k : ℕ) → (length s ≡ 0 → ⊥) → {e : ℕ} → e ≡ part-end s 1 → getD (parts s) k [] ≡ getD (piece s 0 e ∷ others s e) k []
-  unfolding next-end
-  at-first k h q = rw (parts-form s h, q)
-
-  pub at-none : (b e k : ℕ) → 0 < k → follows s e ≡ false → {x : Bytes} → x ≡ getD (piece s b e ∷ others s e) k [] → take (length s - length s) (drop (length s) s) ≡ x
-  at-none b e zero h f i = absurd (omega arith)
-  at-none b e (suc zero) h f i = rw (i, others-none s e f, drop-length, take-nil)
-  at-none b e (suc (suc k)) h f i = rw (i, others-none s e f, drop-length, take-nil)
-
-  pub at-step : (b e k : ℕ) → 0 < k → follows s e ≡ true → {d : ℕ} → d ≡ part-end s (e + 1) → getD (piece s b e ∷ others s e) k [] ≡ getD (piece s e d ∷ others s d) (k - 1) []
-  unfolding next-end
-  at-step b e zero h t q = absurd (omega arith)
-  at-step b e (suc k) h t q = rw (others-more s e t, q, sub-one)
-
-  pub at-here : (b e k : ℕ) → k ≤ 0 → {x : Bytes} → x ≡ getD (piece s b e ∷ others s e) k [] → piece s b e ≡ x
-  at-here b e zero h i = sym i
-  at-here b e (suc k) h i = absurd (omega arith)
 
 -- ---- operands
 

@@ -3,6 +3,7 @@
 use mathlib.Core.Path.{_≡_, refl, sym, ap, _∙_}
 use mathlib.Core.Bool.{Bool, true, false}
 use mathlib.Core.List.{List, [], _∷_}
+use mathlib.Core.Logic.{inl, inr}
 use Prim.Native.Nat.{ℕ, suc, _+_, _-_, _≤_, _<_}
 use native.Mathlib.Omega.{arith}
 use native.Mathlib.Numerals.{add-one}
@@ -16,6 +17,8 @@ use Rattle.spec.specs.Refusal.{well-formed, refused, lines, in-set, byte-fault,
 use Rattle.spec.specs.Reading.{feeds}
 use Rattle.lines.specs.Parse.{key, wordAt, numberAt, scan}
 use Rattle.lines.specs.Read.{closesAt, notWritten, setLine, numberAfter, moduleStep, kindStep, headStep, parsedStep, lineStep}
+use Rattle.lines.proofs.Laws.{Says}
+use Rattle.lines.specs.declared.bytes.Class.the-variants.{Refused}
 use Rattle.lines.specs.declared.parse.Cat.the-variants.{L}
 use Rattle.lines.specs.declared.parse.Parsed.the-variants.{Bad, Good}
 use Rattle.lines.specs.declared.parse.Number.the-variants.{None, Is}
@@ -72,11 +75,10 @@ module _ (t : List ℕ) (i n : ℕ) (h : i < length t) where
   unfolding byte-fault
   set-out e = rw (drop-cons t i 0 h, e, byte-fault)
 
-  pub set-low : (getD t i 0 ≡ 10 → ⊥) → getD t i 0 < 32 → byte-fault n (drop i t) ≡ refused 2 n
-  set-low f g = set-out (rw (ne-eqb (getD t i 0) 10 f, lt-leb 32 (getD t i 0) g))
-
-  pub set-high : (getD t i 0 ≡ 10 → ⊥) → 126 < getD t i 0 → byte-fault n (drop i t) ≡ refused 2 n
-  set-high f g = set-out (rw (ne-eqb (getD t i 0) 10 f, le-leb 32 (getD t i 0) (omega arith), lt-leb (getD t i 0) 126 g))
+  pub set-refused : Says Refused (getD t i 0) → byte-fault n (drop i t) ≡ refused 2 n
+  set-refused (inl (g, f)) = set-out (rw (ne-eqb (getD t i 0) 10 f, lt-leb 32 (getD t i 0) g))
+  set-refused (inr g) =
+      set-out (rw (ne-eqb (getD t i 0) 10 (λ z. omega arith), le-leb 32 (getD t i 0) (omega arith), lt-leb (getD t i 0) 126 (omega arith)))
 
   pub set-plain : (getD t i 0 ≡ 10 → ⊥) → 32 ≤ getD t i 0 → getD t i 0 ≤ 126 → byte-fault n (drop i t) ≡ byte-fault n (drop (i + 1) t)
   unfolding byte-fault

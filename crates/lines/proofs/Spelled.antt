@@ -13,12 +13,12 @@ use lib.Dec.{ltb, leb, eqb}
 use borrow.Author.Tests.{ltb-true, ltb-false, lt-ltb, le-ltb, leb-true, ne-eqb, eqb-false, eqb-true}
 use Rattle.spec.specs.Bytes.{Bytes, digits, show-number, number-after, number}
 use Rattle.spec.proofs.Numbers.{Between, Digits, number-digits, number-show}
-use Rattle.lines.specs.Bytes.{classOf, isDigit, isWordly}
+use Rattle.lines.specs.Bytes.{classOf, isDigit, isWord}
 use Rattle.lines.specs.Parse.{code-after, key, wordFrom, wordAt, moreDigit, digitsFrom, numberAt}
 use Rattle.lines.specs.declared.parse.Word.{Word}
 use Rattle.lines.specs.declared.parse.Number.{Number}
 use Rattle.lines.specs.declared.parse.Number.the-variants.{None, Is}
-use Rattle.lines.proofs.Laws.{if-case, inside, class-digit, digit-range, wordly-range}
+use Rattle.lines.proofs.Laws.{if-case, inside, class-digit, digit-range, word-range}
 
 -- ---- positions
 
@@ -44,9 +44,9 @@ nil-at t i e = first-of t i ∙ ap (λ (l : Bytes). getD l 0 0) e
 
 abbrev pub Stops : Bytes → Type 0
 Stops [] = Unit {0}
-Stops (c ∷ s) = isWordly (classOf c) ≡ false
+Stops (c ∷ s) = isWord (classOf c) ≡ false
 
-pub stop-at : (t : Bytes) (i : ℕ) (r : Bytes) → drop i t ≡ r → Stops r → isWordly (classOf (getD t i 0)) ≡ false
+pub stop-at : (t : Bytes) (i : ℕ) (r : Bytes) → drop i t ≡ r → Stops r → isWord (classOf (getD t i 0)) ≡ false
 unfolding classOf
 stop-at t i [] e s = rw (nil-at t i e)
 stop-at t i (c ∷ r) e s = rw (cons-at t i c r e) s
@@ -55,7 +55,7 @@ stop-at t i (c ∷ r) e s = rw (cons-at t i c r e) s
 
 unfoldable pub all-wordly : Bytes → Bool
 all-wordly [] = true
-all-wordly (c ∷ w) = isWordly (classOf c) && all-wordly w
+all-wordly (c ∷ w) = isWord (classOf c) && all-wordly w
 
 both-true : (a b : Bool) → a && b ≡ true → (a ≡ true) × (b ≡ true)
 both-true true b e = (refl, e)
@@ -70,8 +70,8 @@ code-inj (c ∷ x) (d ∷ y) a b l f g e =
     let p = both-true _ _ f in
     let q = both-true _ _ g in
     let i = code-inj x y (a * 256 + c) (b * 256 + d) (omega arith) (p .1) (q .1) e in
-    let u = wordly-range c (p .0) in
-    let v = wordly-range d (q .0) in
+    let u = word-range c (p .0) in
+    let v = word-range d (q .0) in
     let z : c ≡ d = omega arith in
     (omega arith, ap₂ _∷_ z (i .1))
 
@@ -90,15 +90,15 @@ pub word-read : (f : ℕ) (t : Bytes) (i code k : ℕ) → Word-read f t i code 
 unfolding wordFrom code-after all-wordly
 word-read zero t i code k = record { text = []; span = refl; next = omega arith; wordly = refl; keyed = inl refl }
 word-read (suc f) t i code k =
-    if-case (Word-read (suc f) t i code k) (isWordly (classOf (getD t i 0))) _ _
+    if-case (Word-read (suc f) t i code k) (isWord (classOf (getD t i 0))) _ _
     (λ e. more e (word-read f t (i + 1) (code * 256 + getD t i 0) (k + 1)))
     (λ e. record { text = []; span = refl; next = omega arith; wordly = refl; keyed = inr (omega arith, omega arith) })
   where
-    more : isWordly (classOf (getD t i 0)) ≡ true → Word-read f t (i + 1) (code * 256 + getD t i 0) (k + 1) (wordFrom f t (i + 1) (code * 256 + getD t i 0) (k + 1))
+    more : isWord (classOf (getD t i 0)) ≡ true → Word-read f t (i + 1) (code * 256 + getD t i 0) (k + 1) (wordFrom f t (i + 1) (code * 256 + getD t i 0) (k + 1))
         → Word-read (suc f) t i code k (wordFrom f t (i + 1) (code * 256 + getD t i 0) (k + 1))
     more e r = record {
       text = getD t i 0 ∷ r .text;
-      span = let u = wordly-range _ e in at-cons t i (getD t i 0) refl (λ z. omega arith) ∙ ap (_∷_ (getD t i 0)) (r .span);
+      span = let u = word-range _ e in at-cons t i (getD t i 0) refl (λ z. omega arith) ∙ ap (_∷_ (getD t i 0)) (r .span);
       next = let n = r .next in omega arith;
       wordly = rw e (r .wordly);
       keyed = told (r .keyed);
@@ -139,11 +139,11 @@ word-complete [] (suc n) t i code k r l f e s =
     let b : i ≡ i + 0 = omega arith in
     rw (stop-at t i r e s, wordFrom) (ap₂ (λ (x y : ℕ). record { key = code * 16 + x; next = y }) a b)
 word-complete (c ∷ w) (suc n) t i code k r l f e s =
-    let p = both-true (isWordly (classOf c)) (all-wordly w) f in
+    let p = both-true (isWord (classOf c)) (all-wordly w) f in
     let g = cons-at t i c (w ++ r) e in
     let a : k + 1 + length w ≡ k + suc (length w) = omega arith in
     let b : i + 1 + length w ≡ i + suc (length w) = omega arith in
-    let h : isWordly (classOf (getD t i 0)) ≡ true = rw g (p .0) in
+    let h : isWord (classOf (getD t i 0)) ≡ true = rw g (p .0) in
     rw (h, wordFrom)
     (ap (λ (x : ℕ). wordFrom n t (i + 1) (code * 256 + x) (k + 1)) g
     ∙ word-complete w n t (i + 1) (code * 256 + c) (k + 1) r (omega arith) (p .1) (cons-next t i c (w ++ r) e) s
@@ -196,14 +196,14 @@ pub digit-there : (c : ℕ) → 48 ≤ c → c ≤ 57 → isDigit (classOf c) �
 digit-there c g h = ap isDigit (sym (class-digit c g (omega arith)))
 
 -- a byte that is no part of a word is no digit
-pub not-digit : (c : ℕ) → isWordly (classOf c) ≡ false → isDigit (classOf c) ≡ false
+pub not-digit : (c : ℕ) → isWord (classOf c) ≡ false → isDigit (classOf c) ≡ false
 not-digit c f = go _ refl
   where
     go : (b : Bool) → isDigit (classOf c) ≡ b → isDigit (classOf c) ≡ false
     go false e = e
     go true e =
         let r = digit-range c e in
-        let w : isWordly (classOf c) ≡ true = ap isWordly (sym (class-digit c (r .0) (omega arith))) in
+        let w : isWord (classOf c) ≡ true = ap isWord (sym (class-digit c (r .0) (omega arith))) in
         let z : _≡_ {A = ℕ} 1 0 = ap (λ (x : Bool). elim x as (λ _. ℕ) [ true ↦ 1 | false ↦ 0 ]) (sym w ∙ f) in absurd (omega arith)
 
 pub record Digits-read (s : Bytes) (i a : ℕ) (n : Number) : Type 0 where

@@ -52,13 +52,13 @@ isDigit Refused = false
 isDigit Other = false
 
 -- 01, The line: whether a class is that of a word's bytes: digits and letters
-abbrev pub isWordly : Class → Bool
-isWordly Space = false
-isWordly Open = false
-isWordly Close = false
-isWordly Digit = true
-isWordly Letter = true
-isWordly Minus = false
-isWordly Feed = false
-isWordly Refused = false
-isWordly Other = false
+abbrev pub isWord : Class → Bool
+isWord Space = false
+isWord Open = false
+isWord Close = false
+isWord Digit = true
+isWord Letter = true
+isWord Minus = false
+isWord Feed = false
+isWord Refused = false
+isWord Other = false

@@ -8,7 +8,7 @@ use lib.Dec.{eqb, ltb}
 use lib.ListN.{length, getD, drop}
 use Rattle.spec.specs.Bytes.{Bytes, bytes}
 use Rattle.spec.specs.Syntax.{name-bound, module-bound, number-bound}
-use Rattle.lines.specs.Bytes.{classOf, isDigit, isWordly}
+use Rattle.lines.specs.Bytes.{classOf, isDigit, isWord}
 use Rattle.lines.specs.declared.parse.Cat.{Cat}
 use Rattle.lines.specs.declared.parse.Cat.the-variants.{Name, Start, Mod, Count, Int, Kind, Dir, Bound, E, X, T, Lv, C, S, I, ThenS, ElseS, ThenI, ElseI, L, Nothing}
 use Rattle.lines.specs.declared.parse.Shape.{Shape}
@@ -35,7 +35,7 @@ key w = code-after 0 w * 16 + length w
 unfoldable pub wordFrom : ℕ → Bytes → ℕ → ℕ → ℕ → Word
 wordFrom zero t i code k = record { key = 0; next = i }
 wordFrom (suc f) t i code k =
-    elim (isWordly (classOf (getD t i 0))) [
+    elim (isWord (classOf (getD t i 0))) [
       | true ↦ wordFrom f t (i + 1) (code * 256 + getD t i 0) (k + 1)
       | false ↦ record { key = code * 16 + k; next = i }
     ]

@@ -1,16 +1,14 @@
 -- The tables of a design: what the reader leaves in the lent slices of a text that it accepts. 01: The line; Refused because of the text; Refused
 -- because of the state.
 -- To a reader: definitions that contracts of this and other crates cite; each such contract is proved; check_drivers' own promise cites none of them.
-use mathlib.Core.Path.{_≡_}
 use mathlib.Core.Bool.{Bool, true, false}
 use mathlib.Core.List.{List, [], _∷_}
-use Prim.Native.Nat.{ℕ, suc, _+_, _*_, _≤_}
+use Prim.Native.Nat.{ℕ, suc, _+_, _*_}
 use lib.Dec.{eqb}
 use lib.ListN.{length, getD, set}
 use Rattle.spec.specs.Bytes.{Bytes, bytes}
 use Rattle.spec.specs.Syntax.{name-bound, Kind, in-kind, out-kind, wire-kind, reg-kind, mem-kind, inst-kind, Header, kind, val, Items, Design, module-line}
 use Rattle.spec.specs.Show.{show-line, show-lines, header-lines, item-lines}
-use Rattle.spec.specs.Refusal.{refusal, well-formed}
 use Rattle.lines.specs.Parse.{key, wordAt}
 use Rattle.lines.specs.Read.{numberAfter}
 use Rattle.lines.specs.declared.parse.Number.{Number}
@@ -84,9 +82,3 @@ secondKey t at = elim (eqb (getD t at 0) 40) [ true ↦ secondBehind (numberAfte
 -- 01, The line: 1 for the key of `bound`, and 0 for any other
 unfoldable pub flagOf : ℕ → ℕ
 flagOf k = elim (eqb k (key (bytes "bound"))) [ true ↦ 1 | false ↦ 0 ]
-
--- 01, Refused because of the text; Refused because of the state: a well formed text, and tables for 32 modules
-pub record Fitting (t : Bytes) (kinds mods : List ℕ) : Type 0 where
-  pub formed : refusal t ≡ well-formed
-  pub kinds-fit : 32 * name-bound ≤ length kinds
-  pub mods-fit : 128 ≤ length mods

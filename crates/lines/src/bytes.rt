@@ -1,7 +1,8 @@
 // Bytes: what stands at a position, and the class of a byte.
 ghost use mathlib.Core.Path.{_≡_};
+ghost use lib.Dec.{eqb};
 ghost use lib.ListN.{getD};
-ghost use Rattle.lines.specs.Bytes.{classOf, isDigit, isWordly};
+ghost use Rattle.lines.specs.Bytes.{classOf, isDigit, isWord};
 
 pub enum Class {
     Space,
@@ -34,36 +35,59 @@ pub fn class_of(b: u8) -> Class
     }
 }
 
-pub fn digit(b: u8) -> bool
+pub fn is_space(b: u8) -> bool
+    ensures { λ r. ⌜ r ≡ eqb b 32 ⌝ }
+{
+    match class_of(b) {
+        Class::Space => true,
+        _ => false,
+    }
+}
+
+pub fn is_open(b: u8) -> bool
+    ensures { λ r. ⌜ r ≡ eqb b 40 ⌝ }
+{
+    match class_of(b) {
+        Class::Open => true,
+        _ => false,
+    }
+}
+
+pub fn is_minus(b: u8) -> bool
+    ensures { λ r. ⌜ r ≡ eqb b 45 ⌝ }
+{
+    match class_of(b) {
+        Class::Minus => true,
+        _ => false,
+    }
+}
+
+pub fn is_feed(b: u8) -> bool
+    ensures { λ r. ⌜ r ≡ eqb b 10 ⌝ }
+{
+    match class_of(b) {
+        Class::Feed => true,
+        _ => false,
+    }
+}
+
+pub fn is_digit(b: u8) -> bool
     ensures { λ r. ⌜ r ≡ isDigit (classOf b) ⌝ }
 {
     match class_of(b) {
-        Class::Space => false,
-        Class::Open => false,
-        Class::Close => false,
         Class::Digit => true,
-        Class::Letter => false,
-        Class::Minus => false,
-        Class::Feed => false,
-        Class::Refused => false,
-        Class::Other => false,
+        _ => false,
     }
 }
 
 // A byte of a word: a letter or a digit.
-pub fn wordly(b: u8) -> bool
-    ensures { λ r. ⌜ r ≡ isWordly (classOf b) ⌝ }
+pub fn is_word(b: u8) -> bool
+    ensures { λ r. ⌜ r ≡ isWord (classOf b) ⌝ }
 {
     match class_of(b) {
-        Class::Space => false,
-        Class::Open => false,
-        Class::Close => false,
         Class::Digit => true,
         Class::Letter => true,
-        Class::Minus => false,
-        Class::Feed => false,
-        Class::Refused => false,
-        Class::Other => false,
+        _ => false,
     }
 }
 

@@ -5,5 +5,6 @@ pub mod numbers;
 pub mod parse;
 pub mod parts;
 pub mod read;
+pub mod reader;
 pub mod tables;
 pub mod words;

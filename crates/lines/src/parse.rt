@@ -5,9 +5,13 @@ ghost use mathlib.Core.Bool.{_&&_};
 ghost use lib.ListN.{drop};
 ghost use Prim.Native.Nat.{_-_};
 ghost use Rattle.lines.specs.Parse.{wordAt, moreDigit, digitsFrom, numberAt, numbered, counted, intAt, opOf, kindOf, either, worded, no-shape, fixed, behind, expr-shape, lone, width-shape, stmt-shape, item-shape, line-shape, shape, shift, literal, atom, scan};
+use crate::bytes::Class;
 use crate::bytes::at8;
-use crate::bytes::digit;
-use crate::bytes::wordly;
+use crate::bytes::class_of;
+use crate::bytes::is_digit;
+use crate::bytes::is_minus;
+use crate::bytes::is_open;
+use crate::bytes::is_word;
 use crate::keys;
 
 // Names and MOD are below 256; START and literals below 2,147,483,648.
@@ -15,9 +19,9 @@ pub const NAMES: u64 = 256;
 // A place for each name.
 pub const EACH_NAME: usize = NAMES as usize;
 
-pub const MODS: u64 = 256;
+const MODS: u64 = 256;
 
-pub const NUMBERS: u64 = 2147483648;
+const NUMBERS: u64 = 2147483648;
 
 // What a part is: a number or a word of a kind, an expression, X, T, LV, C, S, I, `(then ..)` and `(else ..)`, a line, or none.
 pub enum Cat {
@@ -98,7 +102,7 @@ pub fn word_at(s: &[u8], at: usize) -> Word
     let mut k: u64 = 0;
     while k < 8 {
         let c = at8(s, i);
-        if !wordly(c) {
+        if !is_word(c) {
             return Word {
                 key: code * 16 + k,
                 next: i,
@@ -126,7 +130,7 @@ fn digits(s: &[u8], at: usize) -> Number
     let mut a: u64 = 0;
     while i < s.len() {
         let c = s[i];
-        if !digit(c) {
+        if !is_digit(c) {
             return Number::Is { value: a, next: i };
         }
         a = more(a, c - b'0');
@@ -146,7 +150,7 @@ pub fn number_at(s: &[u8], at: usize) -> Number
             next: at + 1,
         };
     }
-    if !digit(c) {
+    if !is_digit(c) {
         return Number::None;
     }
     digits(s, at)
@@ -177,7 +181,7 @@ fn counted(n: Number) -> Parsed
 fn int(s: &[u8], at: usize) -> Parsed
     ensures { λ r. ⌜ r ≡ intAt (now (s .entry)) at ⌝ }
 {
-    if at8(s, at) != b'-' {
+    if !is_minus(at8(s, at)) {
         return numbered(number_at(s, at), NUMBERS);
     }
     if at8(s, at + 1) == b'0' {
@@ -188,7 +192,7 @@ fn int(s: &[u8], at: usize) -> Parsed
 
 // ---- words
 
-pub fn op_of(key: u64) -> Op
+fn op_of(key: u64) -> Op
     ensures { λ r. ⌜ r ≡ opOf key ⌝ }
 {
     match key {
@@ -379,7 +383,7 @@ fn line_shape(key: u64) -> Shape
 }
 
 // The parts behind a head word of a form of a category.
-pub fn shape_of(cat: Cat, key: u64) -> Shape
+fn shape_of(cat: Cat, key: u64) -> Shape
     ensures { λ r. ⌜ r ≡ shape cat key ⌝ }
 {
     let no = Cat::Nothing;
@@ -455,7 +459,7 @@ fn shift(q: Shape) -> Shape
 fn literal(s: &[u8], at: usize) -> Parsed
     ensures { λ r. ⌜ r ≡ literal (now (s .entry)) at ⌝ }
 {
-    if digit(at8(s, at)) {
+    if is_digit(at8(s, at)) {
         return numbered(number_at(s, at), NUMBERS);
     }
     let w = word_at(s, at);
@@ -486,7 +490,7 @@ fn atom(s: &[u8], at: usize, cat: Cat) -> Parsed
         }
         Cat::E => literal(s, at),
         Cat::X => {
-            if at8(s, at) == b'-' {
+            if is_minus(at8(s, at)) {
                 worded(true, at + 1)
             } else {
                 literal(s, at)
@@ -513,7 +517,7 @@ fn atom(s: &[u8], at: usize, cat: Cat) -> Parsed
 pub fn part(s: &[u8], at: usize, cat: Cat, depth: u32) -> Parsed
     ensures { λ r. ⌜ r ≡ scan depth cat (now (s .entry)) at ⌝ }
 {
-    if at8(s, at) != b'(' {
+    if !is_open(at8(s, at)) {
         return atom(s, at, cat);
     }
     if depth == 0 {
@@ -526,24 +530,25 @@ pub fn part(s: &[u8], at: usize, cat: Cat, depth: u32) -> Parsed
     let mut left = s.len();
     while 0 < left {
         left -= 1;
-        let c = at8(s, i);
-        if c == b')' {
-            if q.need == 0 {
-                return Parsed::Good { next: i + 1, range };
+        match class_of(at8(s, i)) {
+            Class::Close => {
+                if q.need == 0 {
+                    return Parsed::Good { next: i + 1, range };
+                }
+                return Parsed::Bad;
             }
-            return Parsed::Bad;
-        }
-        if c != b' ' {
-            return Parsed::Bad;
-        }
-        let a = q.a;
-        match part(s, i + 1, a, depth - 1) {
-            Parsed::Bad => return Parsed::Bad,
-            Parsed::Good { next, range: r } => {
-                i = next;
-                range = both(range, r);
-                q = shift(q);
+            Class::Space => {
+                let a = q.a;
+                match part(s, i + 1, a, depth - 1) {
+                    Parsed::Bad => return Parsed::Bad,
+                    Parsed::Good { next, range: r } => {
+                        i = next;
+                        range = both(range, r);
+                        q = shift(q);
+                    }
+                }
             }
+            _ => return Parsed::Bad,
         }
     }
     Parsed::Bad

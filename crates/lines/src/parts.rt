@@ -1,10 +1,11 @@
 // The parts of a form, as parts of the slice that begin mid-line. A part is known by the place of the byte before it, a bracket or a
 // space, and by its end.
 ghost use mathlib.Core.Path.{_≡_};
-ghost use mathlib.Core.List.{[]};
-ghost use lib.ListN.{length, getD, drop};
-ghost use Rattle.spec.specs.Bytes.{parts};
+ghost use lib.ListN.{getD, drop};
 ghost use Rattle.lines.specs.Parts.{part-end, piece, follows, operands-of, single-of, pair-of, triple-of};
+use crate::bytes::Class;
+use crate::bytes::class_of;
+use crate::bytes::is_space;
 
 // The ends of the parts behind a head, where there are at most four.
 pub enum Operands {
@@ -53,28 +54,32 @@ pub fn part_end(s: &[u8], at: usize) -> usize
     let mut i = at;
     let mut k: usize = 0;
     while i < s.len() {
-        let c = s[i];
-        if c == b'(' {
-            k += 1;
-            i += 1;
-            continue;
-        }
-        if c == b')' {
-            if k == 0 {
-                return i;
+        match class_of(s[i]) {
+            Class::Open => {
+                k += 1;
+                i += 1;
+                continue;
             }
-            k -= 1;
-            i += 1;
-            continue;
-        }
-        if c == b' ' {
-            if k == 0 {
-                return i;
+            Class::Close => {
+                if k == 0 {
+                    return i;
+                }
+                k -= 1;
+                i += 1;
+                continue;
             }
-            i += 1;
-            continue;
+            Class::Space => {
+                if k == 0 {
+                    return i;
+                }
+                i += 1;
+                continue;
+            }
+            _ => {
+                i += 1;
+                continue;
+            }
         }
-        i += 1;
     }
     i
 }
@@ -100,48 +105,11 @@ pub fn between(s: &[u8], before: usize, end: usize) -> &[u8]
 pub fn more(s: &[u8], end: usize) -> bool
     ensures { λ r. ⌜ r ≡ follows (now (s .entry)) end ⌝ }
 {
-    byte(s, end) == b' '
-}
-
-// How many parts a form has.
-pub fn part_count(s: &[u8]) -> usize
-    ensures { λ r. ⌜ r ≡ length (parts (now (s .entry))) ⌝ }
-{
-    if s.len() == 0 {
-        return 0;
-    }
-    let mut n: usize = 1;
-    let mut e = part_end(s, 1);
-    while more(s, e) {
-        n += 1;
-        e = part_end(s, e + 1);
-    }
-    n
-}
-
-// The part k of a form, nothing where there are fewer.
-pub fn part_at(s: &[u8], k: usize) -> &[u8]
-    ensures { λ r. ⌜ now r ≡ getD (parts (now (s .entry))) k [] ⌝ }
-{
-    if s.len() == 0 {
-        return &s[s.len()..];
-    }
-    let mut before: usize = 0;
-    let mut e = part_end(s, 1);
-    let mut left = k;
-    while 0 < left {
-        if !more(s, e) {
-            return &s[s.len()..];
-        }
-        before = e;
-        e = part_end(s, e + 1);
-        left -= 1;
-    }
-    between(s, before, e)
+    is_space(byte(s, end))
 }
 
 // The parts behind the one that ends here, told apart by their number.
-pub fn behind(s: &[u8], end: usize) -> Operands
+fn behind(s: &[u8], end: usize) -> Operands
     ensures { λ r. ⌜ r ≡ operands-of (now (s .entry)) end ⌝ }
 {
     if !more(s, end) {

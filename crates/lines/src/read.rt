@@ -1,11 +1,14 @@
-// The reader: a text's lowest fault, 1 to 7, on its first faulty line.
+// What a line is: its lowest fault, 3 to 7, or what it adds; and fault 2, over the whole text.
 ghost use mathlib.Core.Path.{_≡_};
 ghost use Prim.Native.Nat.{_≤_};
 ghost use lib.ListN.{length, drop};
-ghost use Rattle.spec.specs.Refusal.{at-start, lines, lines-fault, refusal, decode};
-ghost use Rattle.lines.specs.Verdict.{Ended, modules-in, told};
 ghost use Rattle.lines.specs.Read.{closesAt, notWritten, setLine, numberAfter, moduleStep, kindStep, headStep, lineStep};
+use crate::bytes::Class;
 use crate::bytes::at8;
+use crate::bytes::class_of;
+use crate::bytes::is_feed;
+use crate::bytes::is_open;
+use crate::bytes::is_space;
 use crate::keys;
 use crate::parse::Cat;
 use crate::parse::EACH_NAME;
@@ -38,27 +41,29 @@ fn closes(s: &[u8], at: usize) -> bool
     let mut i = at;
     let mut k: u32 = 1;
     while i < s.len() {
-        let c = s[i];
-        if c == b'\n' {
-            return false;
-        }
-        if c == b'(' {
-            if DEPTH <= k {
-                return false;
+        match class_of(s[i]) {
+            Class::Feed => return false,
+            Class::Open => {
+                if DEPTH <= k {
+                    return false;
+                }
+                k += 1;
+                i += 1;
+                continue;
             }
-            k += 1;
-            i += 1;
-            continue;
-        }
-        if c == b')' {
-            if k == 1 {
-                return at8(s, i + 1) == b'\n';
+            Class::Close => {
+                if k == 1 {
+                    return is_feed(at8(s, i + 1));
+                }
+                k -= 1;
+                i += 1;
+                continue;
             }
-            k -= 1;
-            i += 1;
-            continue;
+            _ => {
+                i += 1;
+                continue;
+            }
         }
-        i += 1;
     }
     false
 }
@@ -71,38 +76,37 @@ fn not_written(s: &[u8], at: usize) -> u32
 }
 
 // The line of the first byte outside the set, or of a text's end without a line feed; 0 where there is neither.
-fn set_line(s: &[u8]) -> u32
+pub(crate) fn set_line(s: &[u8]) -> u32
     requires { ⌜ length (now s) ≤ 32768 ⌝ }
     ensures { λ r. ⌜ r ≡ setLine (now (s .entry)) ⌝ }
 {
     let mut i = 0;
     let mut n: u32 = 1;
     while i < s.len() {
-        let c = s[i];
-        if c == b'\n' {
-            n += 1;
-            i += 1;
-            continue;
+        match class_of(s[i]) {
+            Class::Feed => {
+                n += 1;
+                i += 1;
+                continue;
+            }
+            Class::Refused => return n,
+            _ => {
+                i += 1;
+                continue;
+            }
         }
-        if c < b' ' {
-            return n;
-        }
-        if b'~' < c {
-            return n;
-        }
-        i += 1;
     }
     if i == 0 {
         return 0;
     }
-    if s[i - 1] == b'\n' { 0 } else { n }
+    if is_feed(s[i - 1]) { 0 } else { n }
 }
 
 // The number behind a space.
 pub fn number_after(s: &[u8], at: usize) -> Number
     ensures { λ r. ⌜ r ≡ numberAfter (now (s .entry)) at ⌝ }
 {
-    if at8(s, at) != b' ' {
+    if !is_space(at8(s, at)) {
         return Number::None;
     }
     number_at(s, at + 1)
@@ -181,13 +185,13 @@ fn head_step(
 pub fn line_step(s: &[u8], at: usize, modules: u32, items: bool, seen: &[u8; EACH_NAME]) -> Step
     ensures { λ r. ⌜ r ≡ lineStep (now (s .entry)) at modules items (now (seen .entry)) ⌝ }
 {
-    if at8(s, at) != b'(' {
+    if !is_open(at8(s, at)) {
         return Step::Fault(3);
     }
     match part(s, at, Cat::L, DEPTH) {
         Parsed::Bad => Step::Fault(not_written(s, at + 1)),
         Parsed::Good { next, range } => {
-            if at8(s, next) != b'\n' {
+            if !is_feed(at8(s, next)) {
                 return Step::Fault(not_written(s, at + 1));
             }
             if !range {
@@ -202,57 +206,4 @@ pub fn line_step(s: &[u8], at: usize, modules: u32, items: bool, seen: &[u8; EAC
 pub enum Verdict {
     Refused(u32, u32),
     Formed(u32),
-}
-
-// 3 to 7, line by line.
-fn by_line(s: &[u8]) -> Verdict
-    requires { ⌜ Ended (now s) ⌝ }
-    ensures { λ r. ⌜ r ≡ told (lines-fault at-start 1 (lines (now (s .entry)))) (modules-in (lines (now (s .entry)))) ⌝ }
-{
-    let mut at = 0;
-    let mut row: u32 = 1;
-    let mut modules: u32 = 0;
-    let mut items = false;
-    let mut seen = [0u8; EACH_NAME];
-    while at < s.len() {
-        match line_step(s, at, modules, items, &seen) {
-            Step::Fault(k) => return Verdict::Refused(k, row),
-            Step::Module(feed) => {
-                modules += 1;
-                items = false;
-                seen = [0u8; EACH_NAME];
-                at = feed + 1;
-                row += 1;
-            }
-            Step::Kind(feed, name) => {
-                seen[name] = 1;
-                at = feed + 1;
-                row += 1;
-            }
-            Step::Val(feed) => {
-                at = feed + 1;
-                row += 1;
-            }
-            Step::Item(feed) => {
-                items = true;
-                at = feed + 1;
-                row += 1;
-            }
-        }
-    }
-    Verdict::Formed(modules)
-}
-
-// A text is well formed, or what it is refused with.
-pub fn verdict_of(s: &[u8]) -> Verdict
-    ensures { λ r. ⌜ r ≡ told (refusal (now (s .entry))) (length (decode (now (s .entry)))) ⌝ }
-{
-    if TEXT < s.len() {
-        return Verdict::Refused(1, 0);
-    }
-    let bad = set_line(s);
-    if bad != 0 {
-        return Verdict::Refused(2, bad);
-    }
-    by_line(s)
 }

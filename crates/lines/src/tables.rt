@@ -2,10 +2,11 @@
 ghost use mathlib.Core.Path.{_≡_};
 ghost use Prim.Native.Nat.{_+_, _*_, _<_};
 ghost use lib.ListN.{length, replicate};
-ghost use Rattle.spec.specs.Refusal.{decode};
-ghost use Rattle.lines.specs.Tables.{secondBehind, secondKey, flagOf, entries, marked, put-kinds, put-mods, Fitting};
-ghost use Rattle.lines.specs.Reader.{read-as, kinds-after, mods-after};
+ghost use Rattle.lines.specs.Tables.{secondBehind, secondKey, flagOf, entries, marked};
+ghost use Rattle.lines.specs.Pass.{at-first-line, at-fault, behind-module, behind-line, Standing, step-at, behind, kinds-behind, mods-behind, answer-of};
 use crate::bytes::at8;
+use crate::bytes::is_open;
+use crate::bytes::is_space;
 use crate::keys;
 use crate::parse::EACH_NAME;
 use crate::parse::Number;
@@ -15,7 +16,6 @@ use crate::read::Step;
 use crate::read::Verdict;
 use crate::read::line_step;
 use crate::read::number_after;
-use crate::read::verdict_of;
 
 // How long the tables of kinds and of modules' places are.
 pub const KINDS: usize = 32 * EACH_NAME;
@@ -28,7 +28,7 @@ fn second_behind(s: &[u8], n: Number) -> u64
     match n {
         Number::None => 0,
         Number::Is { value: _, next } => {
-            if at8(s, next) != b' ' {
+            if !is_space(at8(s, next)) {
                 return 0;
             }
             let w = word_at(s, next + 1);
@@ -41,7 +41,7 @@ fn second_behind(s: &[u8], n: Number) -> u64
 fn second_key(s: &[u8], at: usize) -> u64
     ensures { λ r. ⌜ r ≡ secondKey (now (s .entry)) at ⌝ }
 {
-    if at8(s, at) != b'(' {
+    if !is_open(at8(s, at)) {
         return 0;
     }
     let w = word_at(s, at + 1);
@@ -74,53 +74,136 @@ fn mark(mods: &mut [u32], m: usize, first: u32, end: u32)
     mods[m * 4 + 3] = end;
 }
 
-// The tables of a well formed text, over what they hold.
-fn tabulate(s: &[u8], kinds: &mut [u8], mods: &mut [u32])
-    requires { ⌜ Fitting (now s) (now kinds) (now mods) ⌝ }
-    ensures { λ r. ⌜ now (kinds .exit) ≡ put-kinds 0 (decode (now (s .entry))) (now (kinds .entry)) ⌝ }
-    ensures { λ r. ⌜ now (mods .exit) ≡ put-mods 0 0 (decode (now (s .entry))) (now (mods .entry)) ⌝ }
+// Where the reading stands: where the next line begins and which row it is, how many modules there are, whether the last of them
+// has an item, where its items begin so far, which names have a kind in it, and the fault that ended the reading, or 0.
+pub struct Progress {
+    pub next: usize,
+    pub row: u32,
+    pub modules: u32,
+    pub items: bool,
+    pub first: u32,
+    pub seen: [u8; EACH_NAME],
+    pub fault: u32,
+}
+
+pub(crate) fn start() -> Progress
+    ensures { λ r. ⌜ r ≡ at-first-line ⌝ }
 {
-    let mut at = 0;
-    let mut modules: u32 = 0;
-    let mut items = false;
-    let mut first: u32 = 0;
-    let mut seen = [0u8; EACH_NAME];
-    while at < s.len() {
-        match line_step(s, at, modules, items, &seen) {
-            Step::Fault(_) => return,
-            Step::Module(feed) => {
-                let flag = flag_of(second_key(s, at));
-                at = feed + 1;
-                first = at as u32;
-                enter(mods, modules as usize, flag, first);
-                modules += 1;
-                items = false;
-                seen = [0u8; EACH_NAME];
-            }
-            Step::Kind(feed, name) => {
-                let k = kind_of(second_key(s, at));
-                let m = (modules - 1) as usize;
-                kinds[m * EACH_NAME + name] = k;
-                at = feed + 1;
-                first = at as u32;
-                mark(mods, m, first, first);
-                seen[name] = 1;
-            }
-            Step::Val(feed) => {
-                at = feed + 1;
-                first = at as u32;
-                mark(mods, (modules - 1) as usize, first, first);
-            }
-            Step::Item(feed) => {
-                at = feed + 1;
-                mark(mods, (modules - 1) as usize, first, at as u32);
-                items = true;
-            }
+    Progress {
+        next: 0,
+        row: 1,
+        modules: 0,
+        items: false,
+        first: 0,
+        seen: [0u8; EACH_NAME],
+        fault: 0,
+    }
+}
+
+// A fault ends the reading: nothing is left to read.
+fn stopped(p: Progress, end: usize, fault: u32) -> Progress
+    ensures { λ r. ⌜ r ≡ at-fault p end fault ⌝ }
+{
+    let seen = p.seen;
+    Progress {
+        next: end,
+        row: p.row,
+        modules: p.modules,
+        items: p.items,
+        first: p.first,
+        seen,
+        fault,
+    }
+}
+
+// A module has no item and no kinds yet.
+fn behind_module(p: Progress, next: usize, first: u32) -> Progress
+    requires { ⌜ p .row < 32769 ⌝ }
+    requires { ⌜ p .modules < 32 ⌝ }
+    ensures { λ r. ⌜ r ≡ behind-module p next first ⌝ }
+{
+    Progress {
+        next,
+        row: p.row + 1,
+        modules: p.modules + 1,
+        items: false,
+        first,
+        seen: [0u8; EACH_NAME],
+        fault: 0,
+    }
+}
+
+// Another line of the last module.
+fn behind_line(p: Progress, next: usize, items: bool, first: u32, seen: [u8; EACH_NAME]) -> Progress
+    requires { ⌜ p .row < 32769 ⌝ }
+    ensures { λ r. ⌜ r ≡ behind-line p next items first seen ⌝ }
+{
+    Progress {
+        next,
+        row: p.row + 1,
+        modules: p.modules,
+        items,
+        first,
+        seen,
+        fault: 0,
+    }
+}
+
+// The line at a position: what it adds is entered into the tables.
+pub(crate) fn enter_line(
+    text: &[u8],
+    at: usize,
+    p: Progress,
+    kinds: &mut [u8],
+    mods: &mut [u32],
+) -> Progress
+    requires { ⌜ Standing (now text) at p (now kinds) (now mods) ⌝ }
+    ensures { λ r. ⌜ (r ≡ behind (step-at (now (text .entry)) at p) (now (text .entry)) p)
+        × ((now (kinds .exit) ≡ kinds-behind (step-at (now (text .entry)) at p) (now (text .entry)) at p (now (kinds .entry)))
+        × (now (mods .exit) ≡ mods-behind (step-at (now (text .entry)) at p) (now (text .entry)) at p (now (mods .entry)))) ⌝ }
+{
+    let seen = p.seen;
+    match line_step(text, at, p.modules, p.items, &seen) {
+        Step::Fault(k) => stopped(p, text.len(), k),
+        Step::Module(feed) => {
+            let flag = flag_of(second_key(text, at));
+            let first = (feed + 1) as u32;
+            enter(mods, p.modules as usize, flag, first);
+            behind_module(p, feed + 1, first)
+        }
+        Step::Kind(feed, name) => {
+            let k = kind_of(second_key(text, at));
+            let m = (p.modules - 1) as usize;
+            let first = (feed + 1) as u32;
+            kinds[m * EACH_NAME + name] = k;
+            mark(mods, m, first, first);
+            let mut names = seen;
+            names[name] = 1;
+            behind_line(p, feed + 1, p.items, first, names)
+        }
+        Step::Val(feed) => {
+            let first = (feed + 1) as u32;
+            mark(mods, (p.modules - 1) as usize, first, first);
+            behind_line(p, feed + 1, p.items, first, seen)
+        }
+        Step::Item(feed) => {
+            mark(mods, (p.modules - 1) as usize, p.first, (feed + 1) as u32);
+            behind_line(p, feed + 1, true, p.first, seen)
         }
     }
 }
 
-fn clear_kinds(s: &mut [u8])
+// What was found once nothing is left to read.
+pub(crate) fn answer(p: Progress) -> Verdict
+    ensures { λ r. ⌜ r ≡ answer-of p ⌝ }
+{
+    if p.fault == 0 {
+        return Verdict::Formed(p.modules);
+    }
+    Verdict::Refused(p.fault, p.row)
+}
+
+pub(crate) fn clear_kinds(s: &mut [u8])
     ensures { λ r. ⌜ now (s .exit) ≡ replicate (length (now (s .entry))) 0 ⌝ }
 {
     let mut i = 0;
@@ -130,7 +213,7 @@ fn clear_kinds(s: &mut [u8])
     }
 }
 
-fn clear_mods(s: &mut [u32])
+pub(crate) fn clear_mods(s: &mut [u32])
     ensures { λ r. ⌜ now (s .exit) ≡ replicate (length (now (s .entry))) 0 ⌝ }
 {
     let mut i = 0;
@@ -145,28 +228,4 @@ pub enum Read {
     Short,
     Refused(u32, u32),
     Accepted(u32),
-}
-
-// The text's lowest fault on its first faulty line, or its tables. Tables that are too short keep what they hold; of a text that
-// is refused they are zero.
-pub fn read_text(text: &[u8], kinds: &mut [u8], mods: &mut [u32]) -> Read
-    ensures { λ r. ⌜ r ≡ read-as (length (now (kinds .entry))) (length (now (mods .entry))) (now (text .entry)) ⌝ }
-    ensures { λ r. ⌜ now (kinds .exit) ≡ kinds-after (now (kinds .entry)) (length (now (mods .entry))) (now (text .entry)) ⌝ }
-    ensures { λ r. ⌜ now (mods .exit) ≡ mods-after (now (mods .entry)) (length (now (kinds .entry))) (now (text .entry)) ⌝ }
-{
-    if kinds.len() < KINDS {
-        return Read::Short;
-    }
-    if mods.len() < MODS {
-        return Read::Short;
-    }
-    clear_kinds(kinds);
-    clear_mods(mods);
-    match verdict_of(text) {
-        Verdict::Refused(k, n) => Read::Refused(k, n),
-        Verdict::Formed(m) => {
-            tabulate(text, kinds, mods);
-            Read::Accepted(m)
-        }
-    }
 }

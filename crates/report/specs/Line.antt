@@ -114,14 +114,25 @@ pub record Ran (l : Bytes) (at : ℕ) (p : Bytes) (r : ℕ) (l′ : Bytes) : Typ
   pub to : r ≡ at + length p
   pub left : l′ ≡ sets l at p
 
--- 01, The report: what a writer answers, and the buffer that it leaves
+-- 01, Refused because of the state: 21 where a piece does not fit in the buffer, else 0
+abbrev pub number-of : Put → ℕ
+number-of (put.At end) = 0
+number-of put.Full = 21
+
+-- 01, The report: where a written piece ends; 0 where it does not fit
+abbrev pub end-of : Put → ℕ
+end-of (put.At end) = end
+end-of put.Full = 0
+
+-- 01, The report: what a writer answers, its number and where the piece ends, and the buffer that it leaves
 pub record Written : Type 0 where
-  pub answer : Put
+  pub number : ℕ
+  pub end : ℕ
   pub buffer : Bytes
 
 -- 01, The report: the same, by its parts
 abbrev pub put-by : Put → Bytes → Written
-put-by r buf = record { answer = r; buffer = buf }
+put-by r buf = record { number = number-of r; end = end-of r; buffer = buf }
 
 -- 01, The report; Refused because of the state: a piece written at a place: those bytes and no other, and nothing where it does not fit
 unfoldable pub placed : Bytes → ℕ → Bytes → Written

@@ -1,4 +1,6 @@
 // Runs of items: where the item ends that starts at a place of the text.
+use lines::bytes::Class;
+use lines::bytes::class_of;
 ghost use mathlib.Core.Path.{_≡_};
 ghost use Prim.Native.Nat.{_+_};
 ghost use lib.ListN.{drop};
@@ -11,21 +13,25 @@ pub fn form_end(s: &[u8], from: usize) -> usize
     let mut i = from;
     let mut k: usize = 0;
     while i < s.len() {
-        let c = s[i];
-        if c == b'(' {
-            k += 1;
-            i += 1;
-            continue;
-        }
-        if c == b')' {
-            if k <= 1 {
-                return i + 1;
+        match class_of(s[i]) {
+            Class::Open => {
+                k += 1;
+                i += 1;
+                continue;
             }
-            k -= 1;
-            i += 1;
-            continue;
+            Class::Close => {
+                if k <= 1 {
+                    return i + 1;
+                }
+                k -= 1;
+                i += 1;
+                continue;
+            }
+            _ => {
+                i += 1;
+                continue;
+            }
         }
-        i += 1;
     }
     i
 }

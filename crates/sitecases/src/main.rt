@@ -1,6 +1,5 @@
 // The cases P3 to P7 through the code: sites are stored as the drives of the case's output, then its conflict and its coverage are
-// reported. P3, P4 and P5 once more through a run of records, for the conflict alone. Prints each case's name and the lines of its
-// reports.
+// reported. Prints each case's name and the lines of its reports.
 use report::Detail;
 use report::Put;
 use report::Report;
@@ -82,25 +81,6 @@ fn begin(own: &mut [u32], name: &[u8]) {
     sites::add_output(own, NAME, LINE, 0, 0);
 }
 
-// Two drives of the output as records, and their conflict.
-fn print_by_records(name: &[u8], a: Extent, b: Extent) {
-    io::write_all(libc::STDOUT_FILENO, name);
-    let first = Site {
-        name: NAME,
-        extent: a,
-        start: 20,
-    };
-    let second = Site {
-        name: NAME,
-        extent: b,
-        start: 30,
-    };
-    match records::conflict_of_two(first, second) {
-        Found::At(start) => print_report(start, NAME, Detail::Many),
-        Found::Nothing => {}
-    }
-}
-
 // The bits from high to low, both known.
 fn bits(high: u16, low: u16) -> Extent {
     sites::range_extent(true, true, ZERO + high as u32, true, ZERO + low as u32)
@@ -126,11 +106,4 @@ fn main() {
     begin(&mut own, b"P7\n");
     drive(&mut own, bits(4095, 0), 20);
     print_reports(&mut own, 5000);
-    print_by_records(b"P3 by records\n", bits(3, 0), bits(5, 3));
-    print_by_records(b"P4 by records\n", bits(3, 0), bits(5, 4));
-    print_by_records(
-        b"P5 by records\n",
-        sites::bit_extent(false, false, 0),
-        Extent::Whole,
-    );
 }

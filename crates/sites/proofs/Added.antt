@@ -1,15 +1,20 @@
--- What each addition does to all the tables. Assumes nothing.
-use mathlib.Core.Path.{_≡_, refl, sym}
+-- What each addition does to the run of numbers, and to all the tables. Assumes nothing.
+use mathlib.Core.Path.{_≡_, refl, sym, ap, _∙_}
 use mathlib.Core.Bool.{true, false}
-use mathlib.Core.List.{List, []}
+use mathlib.Core.List.{List, [], _∷_}
 use Prim.Native.Nat.{ℕ}
 use native.Mathlib.Omega.{arith}
-use lib.ListN.{length}
+use lib.ListN.{length, getD}
+use borrow.Author.Tests.{eq-eqb, ne-eqb}
 use Rattle.spec.specs.Site as site
 use Rattle.spec.specs.Block.{Pair, has-pair}
+use Rattle.sites.specs.declared.Extent.{Extent}
+use Rattle.sites.specs.declared.Extent.the-variants as extent
+use Rattle.sites.specs.declared.Misuse.{Misuse}
+use Rattle.sites.specs.declared.Misuse.the-variants as misuse
 use Rattle.sites.specs.declared.Stored.{Stored}
 use Rattle.sites.specs.declared.Stored.the-variants as stored
-use Rattle.sites.specs.Own.{Shape, places, items, own-of, added, pushed, push-answer, first-row, add-site, add-pair, add-output, add-reg, add-mem, add-misuse, site-table, pair-table, port-table, reg-table, mem-table, misuse-table, conflict-table, site-from, pair-from, port-from, storage-from, misused-from, conflict-from}
+use Rattle.sites.specs.Own.{Table, Shape, places, items, own-of, number-of, added, pushed, push-answer, first-row, row-added, pair-row-added, first-added, extent-of, extent-from, extent-numbers, misuse-of, misuse-from, misuse-number, add-site, add-pair, add-output, add-reg, add-mem, add-misuse, site-table, pair-table, port-table, reg-table, mem-table, misuse-table, conflict-table, site-from, pair-from, port-from, storage-from, misused-from, conflict-from}
 use Rattle.sites.proofs.Rows.{pushed-items, pushed-other, answer-items, first-items, first-other, same-own}
 
 pub site-shape : (own : List ℕ) → length own ≡ places → Shape site-table own
@@ -40,7 +45,7 @@ unfolding add-site own-of
 site-added own vs s h w e =
     let sh = site-shape own h in
     rw (← e) (λ i. record {
-      answer = answer-items site-from site-table own vs sh w i;
+      answer = number-of (answer-items site-from site-table own vs sh w i);
       own = same-own
           (pushed-items site-from site-table own vs sh w)
           (pushed-other pair-from site-table pair-table own vs w (tt, tt, tt, tt, tt, tt))
@@ -58,7 +63,7 @@ unfolding add-pair own-of
 pair-added own vs p h w e n =
     let sh = pair-shape own h in
     rw (n, add-pair, ← e) (λ i. record {
-      answer = answer-items pair-from pair-table own vs sh w i;
+      answer = number-of (answer-items pair-from pair-table own vs sh w i);
       own = same-own
           (pushed-other site-from pair-table site-table own vs w (tt, tt, tt, tt, tt, tt))
           (pushed-items pair-from pair-table own vs sh w)
@@ -128,3 +133,55 @@ misuse-added own vs h w =
 -- an answer and tables that are the same
 pub added-by : {r r′ : Stored} {l l′ : List ℕ} → r ≡ r′ → l ≡ l′ → added r (own-of l) ≡ added r′ (own-of l′)
 added-by p q = λ i. added (p i) (own-of (q i))
+
+-- the numbers of an extent and of a misuse mean it
+extent-read : (e : Extent) → extent-from (getD (extent-numbers e) 0 0) (getD (extent-numbers e) 1 0) (getD (extent-numbers e) 2 0) ≡ extent-of e
+unfolding extent-from
+extent-read extent.Whole = refl
+extent-read (extent.Range l h) = refl
+extent-read extent.Dynamic = refl
+extent-read extent.Unknown = refl
+
+pub extent-means : (e : Extent) (a b c : ℕ) → a ∷ b ∷ c ∷ [] ≡ extent-numbers e → extent-from a b c ≡ extent-of e
+extent-means e a b c q = ap (λ (l : List ℕ). extent-from (getD l 0 0) (getD l 1 0) (getD l 2 0)) q ∙ extent-read e
+
+misuse-read : (m : Misuse) → misuse-from (misuse-number m) ≡ misuse-of m
+unfolding misuse-from
+misuse-read misuse.Wire = refl
+misuse-read misuse.Reg = refl
+misuse-read misuse.Mem = refl
+misuse-read misuse.Arrow = refl
+
+pub misuse-means : (m : Misuse) (a : ℕ) → a ≡ misuse-number m → misuse-from a ≡ misuse-of m
+misuse-means m a q = ap misuse-from q ∙ misuse-read m
+
+-- the run of numbers, by its length
+module _ (t : Table) (own vs : List ℕ) where
+  pub row-none : ¬ (length own ≡ places) → added stored.Full own ≡ row-added t own vs
+  unfolding row-added
+  row-none d = sym (rw (ne-eqb (length own) places d, row-added))
+
+  pub row-put : (r : Stored) (own′ : List ℕ) → length own ≡ places → r ≡ push-answer t own → own′ ≡ pushed t own vs → added r own′ ≡ row-added t own vs
+  unfolding row-added
+  row-put r own′ h a w = (λ i. added (a i) (w i)) ∙ sym (rw (eq-eqb (length own) places h, row-added))
+
+  pub first-none : ¬ (length own ≡ places) → own ≡ first-added t own vs
+  unfolding first-added
+  first-none d = sym (rw (ne-eqb (length own) places d, first-added))
+
+  pub first-put : (own′ : List ℕ) → length own ≡ places → own′ ≡ first-row t own vs → own′ ≡ first-added t own vs
+  unfolding first-added
+  first-put own′ h w = w ∙ sym (rw (eq-eqb (length own) places h, first-added))
+
+module _ (p : Pair) (own : List ℕ) where
+  pub pair-none : ¬ (length own ≡ places) → added stored.Full own ≡ pair-row-added p own
+  unfolding pair-row-added
+  pair-none d = row-none pair-table own (p .name ∷ p .block ∷ []) d ∙ sym (rw (ne-eqb (length own) places d, pair-row-added))
+
+  pub pair-there : length own ≡ places → has-pair p (items pair-from pair-table own) ≡ true → added stored.Done own ≡ pair-row-added p own
+  unfolding pair-row-added
+  pair-there h n = sym (rw (eq-eqb (length own) places h, n, pair-row-added))
+
+  pub pair-put : (r : Stored) (own′ : List ℕ) → length own ≡ places → has-pair p (items pair-from pair-table own) ≡ false → r ≡ push-answer pair-table own → own′ ≡ pushed pair-table own (p .name ∷ p .block ∷ []) → added r own′ ≡ pair-row-added p own
+  unfolding pair-row-added
+  pair-put r own′ h n a w = row-put pair-table own (p .name ∷ p .block ∷ []) r own′ h a w ∙ sym (rw (eq-eqb (length own) places h, n, pair-row-added))

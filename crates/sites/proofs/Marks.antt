@@ -164,16 +164,16 @@ same-gap m ss limit b (suc k) h q = go (covered ss b) refl (same-gap m ss limit 
     go false e r = rw (q b (omega arith) ∙ e, unmarked-from, e, gap-from)
 
 -- no mark in what is fresh
-pub fresh : (b : ℕ) → b < 4096 → eqb (getD (replicate 4096 0) b 0) 1 ≡ false
-fresh b h = ap (λ (x : ℕ). eqb x 1) (getD-replicate 4096 b 0 0 h)
+pub fresh : (n b : ℕ) → b < n → eqb (getD (replicate n 0) b 0) 1 ≡ false
+fresh n b h = ap (λ (x : ℕ). eqb x 1) (getD-replicate n b 0 0 h)
 
 or-false : (t : Bool) → (t || false) ≡ t
 or-false true = refl
 or-false false = refl
 
-pub gap-found : (m₀ m : List ℕ) (ss : List Site) (width limit : ℕ) → limit ≡ min width 4096 → ((b : ℕ) → b < 4096 → eqb (getD m₀ b 0) 1 ≡ false)
+pub gap-found : (m₀ m : List ℕ) (ss : List Site) (width limit : ℕ) → limit ≡ min width 4096 → ((b : ℕ) → b < limit → eqb (getD m₀ b 0) 1 ≡ false)
     → Marked limit (covered ss) m₀ m → unmarked-from m 0 limit ≡ first-gap ss width
 unfolding first-gap
 gap-found m₀ m ss width limit e z k =
-    same-gap m ss limit 0 limit (omega arith) (λ j p. k .at j p ∙ ap (λ (t : Bool). covered ss j || t) (z j (omega arith)) ∙ or-false (covered ss j))
+    same-gap m ss limit 0 limit (omega arith) (λ j p. k .at j p ∙ ap (λ (t : Bool). covered ss j || t) (z j p) ∙ or-false (covered ss j))
     ∙ ap (λ (l : ℕ). gap-from ss 0 l) e

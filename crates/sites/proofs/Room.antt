@@ -20,7 +20,7 @@ use Rattle.spec.proofs.Lists.{once-length, once-append}
 use Rattle.spec.proofs.Flags.{unnamed}
 use Rattle.sites.specs.declared.Stored.{Stored}
 use Rattle.sites.specs.declared.Stored.the-variants as stored
-use Rattle.sites.specs.Own.{Own, Port, own-of, row, rows-in, site-table, pair-table, site-from, pair-from, names, entry-names, first-kept, grown, room, added, add-site, add-pair, add-output, add-reg, add-mem, add-misuse, with-pairs}
+use Rattle.sites.specs.Own.{Own, Port, own-of, row, rows-in, site-table, pair-table, site-from, pair-from, names, entry-names, first-kept, grown, room, number-of, added, add-site, add-pair, add-output, add-reg, add-mem, add-misuse, with-pairs}
 use Rattle.sites.proofs.Rows.{run-length, rows-limit}
 use Rattle.sites.proofs.Cleared.{no-rows}
 use Rattle.sites.proofs.Kept.{with-pair}
@@ -239,10 +239,10 @@ site-stored s o e =
     let h = ltb-false site-limit (length (o .sites ++ s ∷ [])) e in
     rw (lt-ltb (length (o .sites)) site-limit (omega (arith, length-end (o .sites) s)), add-site, grown, room)
 
-pub site-answer : (s : Site) (o : Own) → add-site s o .answer ≡ full-if (ltb site-limit (length (o .sites ++ s ∷ [])))
+pub site-answer : (s : Site) (o : Own) → add-site s o .answer ≡ number-of (full-if (ltb site-limit (length (o .sites ++ s ∷ []))))
 site-answer s o = go (ltb site-limit (length (o .sites ++ s ∷ []))) refl
   where
-    go : (b : Bool) → ltb site-limit (length (o .sites ++ s ∷ [])) ≡ b → add-site s o .answer ≡ full-if b
+    go : (b : Bool) → ltb site-limit (length (o .sites ++ s ∷ [])) ≡ b → add-site s o .answer ≡ number-of (full-if b)
     go true e = λ i. site-full s o e i .answer
     go false e = λ i. site-stored s o e i .answer
 
@@ -275,10 +275,10 @@ pair-stored p o e = go (has-pair p (o .pairs)) refl
         let h = ltb-false pair-limit (length (o .pairs ++ p ∷ [])) (pair-case p (o .pairs) false d ∙ e) in
         rw (d, lt-ltb (length (o .pairs)) pair-limit (omega (arith, length-end (o .pairs) p)), add-pair, grown, room) (stays false d)
 
-pub pair-answer : (p : Pair) (o : Own) → length (o .pairs) ≤ pair-limit → add-pair p o .answer ≡ full-if (ltb pair-limit (length (with-pair p (o .pairs))))
+pub pair-answer : (p : Pair) (o : Own) → length (o .pairs) ≤ pair-limit → add-pair p o .answer ≡ number-of (full-if (ltb pair-limit (length (with-pair p (o .pairs)))))
 pair-answer p o few = go (ltb pair-limit (length (with-pair p (o .pairs)))) refl
   where
-    go : (b : Bool) → ltb pair-limit (length (with-pair p (o .pairs))) ≡ b → add-pair p o .answer ≡ full-if b
+    go : (b : Bool) → ltb pair-limit (length (with-pair p (o .pairs))) ≡ b → add-pair p o .answer ≡ number-of (full-if b)
     go true e = λ i. pair-full p o few e i .answer
     go false e = λ i. pair-stored p o e i .answer
 

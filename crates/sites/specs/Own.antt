@@ -224,14 +224,20 @@ own-of own =
       conflicts = items conflict-from conflict-table own;
     }
 
--- 01, The site; The block; Refused because of the state: what an addition answers, and the tables that it leaves
-pub record Added : Type 0 where
-  pub answer : Stored
-  pub own : Own
+-- 01, Refused because of the state, 20: a working limit is passed; 0 where there is room
+abbrev pub number-of : Stored → ℕ
+number-of stored.Done = 0
+number-of stored.Full = 20
+
+-- 01, The site; The block; Refused because of the state: the number that an addition answers, and what it leaves: the run of numbers, or the
+-- tables that it means
+pub record Added (A : Type 0) : Type 0 where
+  pub answer : ℕ
+  pub own : A
 
 -- 01, The site; The block; Refused because of the state: the same, by its parts
-abbrev pub added : Stored → Own → Added
-added r o = record { answer = r; own = o }
+abbrev pub added : {A : Type 0} → Stored → A → Added A
+added r o = record { answer = number-of r; own = o }
 
 -- 01, The site; The block; Refused because of the state: one more at the end, where there is room
 unfoldable pub grown : {A : Type 0} → ℕ → A → List A → List A
@@ -251,7 +257,7 @@ unfoldable pub first-kept : {A : Type 0} → (A → ℕ) → A → List A → Li
 first-kept f x l = elim (has-name (f x) (entry-names f l)) [ true ↦ l | false ↦ grown names x l ]
 
 -- 01, Refused because of the state: 1,024 sites: one more, where there is room, and whether there was
-unfoldable pub add-site : site.Site → Own → Added
+unfoldable pub add-site : site.Site → Own → Added Own
 add-site s o =
     added (room site-limit (o .sites))
     (record { sites = grown site-limit s (o .sites); pairs = o .pairs; outputs = o .outputs; regs = o .regs; mems = o .mems; misuses = o .misuses; conflicts = o .conflicts })
@@ -262,7 +268,7 @@ with-pairs ps o = record { sites = o .sites; pairs = ps; outputs = o .outputs; r
 
 -- 01, Refused because of the state: 512 pairs of name and block, each once: one more, where it is new and there is room; and whether it
 -- is there now
-unfoldable pub add-pair : Pair → Own → Added
+unfoldable pub add-pair : Pair → Own → Added Own
 add-pair p o =
     elim (has-pair p (o .pairs)) [
       | true ↦ added stored.Done o
@@ -285,6 +291,41 @@ add-mem x o = record { sites = o .sites; pairs = o .pairs; outputs = o .outputs;
 unfoldable pub add-misuse : Misused → Own → Own
 add-misuse x o = record { sites = o .sites; pairs = o .pairs; outputs = o .outputs; regs = o .regs; mems = o .mems; misuses = first-kept (λ p. p .name) x (o .misuses); conflicts = o .conflicts }
 
+-- 01, The site: an extent as three numbers, as extent-from reads them
+abbrev pub extent-numbers : Extent → List ℕ
+extent-numbers extent.Whole = 0 ∷ 0 ∷ 0 ∷ []
+extent-numbers (extent.Range l h) = 1 ∷ l ∷ h ∷ []
+extent-numbers extent.Dynamic = 2 ∷ 0 ∷ 0 ∷ []
+extent-numbers extent.Unknown = 3 ∷ 0 ∷ 0 ∷ []
+
+-- 01, The site: a site as a row
+abbrev pub site-numbers : Site → List ℕ
+site-numbers s = s .name ∷ extent-numbers (s .extent) ++ s .start ∷ []
+
+-- 01, The site: a misuse as a number, as misuse-from reads it
+abbrev pub misuse-number : Misuse → ℕ
+misuse-number misuse.Wire = 0
+misuse-number misuse.Reg = 1
+misuse-number misuse.Mem = 2
+misuse-number misuse.Arrow = 3
+
+-- 01, Refused because of the state: one row more at the end of a table, where it has room, and whether it had. A run of numbers of another
+-- length has no tables: it stays, and there is no room
+unfoldable pub row-added : Table → List ℕ → List ℕ → Added (List ℕ)
+row-added t own vs = elim (eqb (length own) places) [ true ↦ added (push-answer t own) (pushed t own vs) | false ↦ added stored.Full own ]
+
+-- 01, Refused because of the state: 512 pairs of name and block, each once: the row of a pair, where the pair is new
+unfoldable pub pair-row-added : Pair → List ℕ → Added (List ℕ)
+pair-row-added p own =
+    elim (eqb (length own) places && has-pair p (items pair-from pair-table own)) [
+      | true ↦ added stored.Done own
+      | false ↦ row-added pair-table own (p .name ∷ p .block ∷ [])
+    ]
+
+-- 01, The site; The block: one row more, where no row has its name and there is room. A run of numbers of another length has no tables, and stays
+unfoldable pub first-added : Table → List ℕ → List ℕ → List ℕ
+first-added t own vs = elim (eqb (length own) places) [ true ↦ first-row t own vs | false ↦ own ]
+
 -- 01, The value: the whole number that is held as v + 2147483648
 unfoldable pub unbiased : ℕ → ℤ
 unbiased v = elim (ltb v 2147483648) [ true ↦ negsuc (2147483647 - v) | false ↦ pos (v - 2147483648) ]
@@ -298,21 +339,6 @@ value-of false v = missing
 abbrev pub found-of : Found → Option ℕ
 found-of (found.At x) = some x
 found-of found.Nothing = none
-
--- 01, The site: the sites of a name among the first k, the newest first
-unfoldable pub before : ℕ → (ℕ → site.Site) → ℕ → List site.Site
-before n f zero = []
-before n f (suc k) = elim (eqb n (f k .name)) [ true ↦ f k ∷ before n f k | false ↦ before n f k ]
-
--- 01, The site: of m rows, none before row i has a site of a name, and so the sites of the name stand from row i on
-pub record NoneBefore (n : ℕ) (f : ℕ → site.Site) (m i : ℕ) : Type 0 where
-  pub inside : i ≤ m
-  pub none : before n f i ≡ []
-  pub rest : site.sites-of n (run f i (m - i)) ≡ site.sites-of n (run f 0 m)
-
--- 01, The site: whether a site is one of a name and meets an extent
-unfoldable pub hits : ℕ → site.Extent → site.Site → Bool
-hits n x s = elim (eqb n (s .name)) [ true ↦ site.meets (s .extent) x | false ↦ false ]
 
 -- 01, The block: no block, one or several, by their number
 abbrev pub blocks-by : ℕ → Blocks
@@ -388,6 +414,15 @@ conflict-step own k cs =
       | true ↦ cs
       | false ↦ site.with-conflict (site-row own k .name) (site.first-conflict [] (site.sites-of (site-row own k .name) (items site-from site-table own))) cs
     ]
+
+-- 01, The site: the sites of a name from row i of a run of numbers on
+abbrev pub sites-from : ℕ → List ℕ → ℕ → List site.Site
+sites-from n own i = site.sites-of n (run (site-row own) i (rows-in site-table own - i))
+
+-- 01, The site: row i is the first from `from` on that has a site of a name, where it is below the limit; where it is not, there is none
+pub record NextSite (n : ℕ) (own : List ℕ) (from i : ℕ) : Type 0 where
+  pub here : i < site-limit → (length own ≡ places) × (from ≤ i) × (i < rows-in site-table own) × (sites-from n own from ≡ site-row own i ∷ sites-from n own (i + 1))
+  pub none : ¬ (i < site-limit) → length own ≡ places → sites-from n own from ≡ []
 
 -- 01, The site: the conflict in row i of a run of numbers
 abbrev pub conflict-row : List ℕ → ℕ → Conflict

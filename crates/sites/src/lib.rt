@@ -1,5 +1,7 @@
 // What is said of outputs, registers and memories of one module: drive sites, pairs of name and block, and what their lines are.
 // All tables stand in one lent run of numbers, `own`, with a fixed layout: seven counts, then the rows of each table.
+mod records;
+
 ghost use mathlib.Core.Path.{_≡_};
 ghost use Prim.Native.Nat.{_+_, _-_, _*_, _≤_, _<_, min};
 ghost use mathlib.Core.List.{[], _∷_, _++_};
@@ -8,13 +10,12 @@ ghost use lib.Seq.{sets};
 ghost use lib.Dec.{leb};
 ghost use mathlib.Core.Bool.{false, _&&_};
 ghost use Rattle.spec.specs.Site as site;
-ghost use Rattle.sites.specs.declared.Stored.the-variants as stored;
 ghost use Rattle.sites.specs.declared.Found.the-variants as found;
 ghost use Rattle.sites.specs.declared.Blocks.the-variants as blocks;
 ghost use Rattle.sites.specs.declared.Cover.the-variants as cover;
 ghost use Rattle.spec.specs.Refusal.{has-name};
 ghost use Rattle.spec.specs.Block.{has-pair, block-count};
-ghost use Rattle.sites.specs.Own.{extent-of, site-of, misuse-of, extent-from, misuse-from, pair-from, row, rows-in, pair-table, site-table, site-from, found-of, hits, value-of, blocks-by, cover-by, range-test, unmarked-from, within, Marked, conflict-of, conflict-row, conflict-rows, conflict-table, conflict-step, with-conflicts, poisoned-names, misuse-poison, row-names, skip-at, site-row, NoneBefore, Front, table, Shape, pushed, push-answer, first-row, places, run, own-of, added, add-site, add-pair, add-output, add-reg, add-mem, add-misuse, names, reg-table, mem-table, port-table, misuse-table, storage-of, storage-from, port-of, port-from, misused-of, misused-from};
+ghost use Rattle.sites.specs.Own.{extent-of, site-of, misuse-of, extent-from, misuse-from, pair-from, row, rows-in, pair-table, site-table, site-from, found-of, value-of, blocks-by, cover-by, range-test, unmarked-from, within, Marked, conflict-of, conflict-row, conflict-rows, conflict-table, conflict-step, with-conflicts, poisoned-names, misuse-poison, row-names, skip-at, site-row, NextSite, Front, table, Shape, pushed, push-answer, first-row, places, run, own-of, added, row-added, pair-row-added, first-added, site-numbers, extent-numbers, misuse-number, add-site, add-pair, add-output, add-reg, add-mem, add-misuse, names, reg-table, mem-table, port-table, misuse-table, storage-of, storage-from, port-of, port-from, misused-of, misused-from};
 
 // How many names there are at most.
 pub const NAMES: usize = 256;
@@ -158,7 +159,7 @@ struct Coded {
 }
 
 fn extent_code(e: Extent) -> Coded
-    ensures { λ r. ⌜ extent-from (r .code) (r .low) (r .high) ≡ extent-of e ⌝ }
+    ensures { λ r. ⌜ (r .code ∷ r .low ∷ r .high ∷ []) ≡ extent-numbers e ⌝ }
 {
     match e {
         Extent::Whole => Coded {
@@ -181,7 +182,7 @@ fn extent_code(e: Extent) -> Coded
 }
 
 fn misuse_code(m: Misuse) -> u32
-    ensures { λ r. ⌜ misuse-from r ≡ misuse-of m ⌝ }
+    ensures { λ r. ⌜ r ≡ misuse-number m ⌝ }
 {
     match m {
         Misuse::Wire => 0,
@@ -194,7 +195,7 @@ fn misuse_code(m: Misuse) -> u32
 // A drive site of an output; one past 1,024 gives Full.
 pub fn add_site(own: &mut [u32], s: Site) -> Stored
     ensures { λ r. ⌜ (length (now (own .entry)) ≡ places → added r (own-of (now (own .exit))) ≡ add-site (site-of s) (own-of (now (own .entry)))) ⌝ }
-    ensures { λ r. ⌜ (¬ (length (now (own .entry)) ≡ places) → (now (own .exit) ≡ now (own .entry)) × (r ≡ stored.Full)) ⌝ }
+    ensures { λ r. ⌜ added r (now (own .exit)) ≡ row-added site-table (now (own .entry)) (site-numbers s) ⌝ }
     ensures { λ _. ⌜ length (now (own .exit)) ≡ length (now (own .entry)) ⌝ }
 {
     if own.len() != OWN {
@@ -216,7 +217,7 @@ pub fn add_site(own: &mut [u32], s: Site) -> Stored
 pub fn add_output(own: &mut [u32], name: u32, start: u32, from: u32, to: u32)
     ensures { λ _. ⌜ (length (now (own .entry)) ≡ places → own-of (now (own .exit))
         ≡ add-output (record { name = name; start = start; from = from; to = to }) (own-of (now (own .entry)))) ⌝ }
-    ensures { λ _. ⌜ (¬ (length (now (own .entry)) ≡ places) → now (own .exit) ≡ now (own .entry)) ⌝ }
+    ensures { λ _. ⌜ now (own .exit) ≡ first-added port-table (now (own .entry)) (name ∷ start ∷ from ∷ to ∷ []) ⌝ }
     ensures { λ _. ⌜ length (now (own .exit)) ≡ length (now (own .entry)) ⌝ }
 {
     if own.len() != OWN {
@@ -228,7 +229,7 @@ pub fn add_output(own: &mut [u32], name: u32, start: u32, from: u32, to: u32)
 // A register's first collected line.
 pub fn add_reg(own: &mut [u32], name: u32, start: u32)
     ensures { λ _. ⌜ (length (now (own .entry)) ≡ places → own-of (now (own .exit)) ≡ add-reg (record { name = name; start = start }) (own-of (now (own .entry)))) ⌝ }
-    ensures { λ _. ⌜ (¬ (length (now (own .entry)) ≡ places) → now (own .exit) ≡ now (own .entry)) ⌝ }
+    ensures { λ _. ⌜ now (own .exit) ≡ first-added reg-table (now (own .entry)) (name ∷ start ∷ []) ⌝ }
     ensures { λ _. ⌜ length (now (own .exit)) ≡ length (now (own .entry)) ⌝ }
 {
     if own.len() != OWN {
@@ -240,7 +241,7 @@ pub fn add_reg(own: &mut [u32], name: u32, start: u32)
 // A memory's first collected line.
 pub fn add_mem(own: &mut [u32], name: u32, start: u32)
     ensures { λ _. ⌜ (length (now (own .entry)) ≡ places → own-of (now (own .exit)) ≡ add-mem (record { name = name; start = start }) (own-of (now (own .entry)))) ⌝ }
-    ensures { λ _. ⌜ (¬ (length (now (own .entry)) ≡ places) → now (own .exit) ≡ now (own .entry)) ⌝ }
+    ensures { λ _. ⌜ now (own .exit) ≡ first-added mem-table (now (own .entry)) (name ∷ start ∷ []) ⌝ }
     ensures { λ _. ⌜ length (now (own .exit)) ≡ length (now (own .entry)) ⌝ }
 {
     if own.len() != OWN {
@@ -253,7 +254,7 @@ pub fn add_mem(own: &mut [u32], name: u32, start: u32)
 pub fn add_misuse(own: &mut [u32], name: u32, start: u32, kind: Misuse)
     ensures { λ _. ⌜ (length (now (own .entry)) ≡ places → own-of (now (own .exit))
         ≡ add-misuse (record { name = name; start = start; misuse = misuse-of kind }) (own-of (now (own .entry)))) ⌝ }
-    ensures { λ _. ⌜ (¬ (length (now (own .entry)) ≡ places) → now (own .exit) ≡ now (own .entry)) ⌝ }
+    ensures { λ _. ⌜ now (own .exit) ≡ first-added misuse-table (now (own .entry)) (name ∷ start ∷ misuse-number kind ∷ []) ⌝ }
     ensures { λ _. ⌜ length (now (own .exit)) ≡ length (now (own .entry)) ⌝ }
 {
     if own.len() != OWN {
@@ -285,7 +286,7 @@ fn has_pair(own: &[u32], n: usize, name: u32, block: u32) -> bool
 // A pair of name and block, where it is a new one; one past 512 gives Full.
 pub fn add_pair(own: &mut [u32], name: u32, block: u32) -> Stored
     ensures { λ r. ⌜ (length (now (own .entry)) ≡ places → added r (own-of (now (own .exit))) ≡ add-pair (record { name = name; block = block }) (own-of (now (own .entry)))) ⌝ }
-    ensures { λ r. ⌜ (¬ (length (now (own .entry)) ≡ places) → (now (own .exit) ≡ now (own .entry)) × (r ≡ stored.Full)) ⌝ }
+    ensures { λ r. ⌜ added r (now (own .exit)) ≡ pair-row-added (record { name = name; block = block }) (now (own .entry)) ⌝ }
     ensures { λ _. ⌜ length (now (own .exit)) ≡ length (now (own .entry)) ⌝ }
 {
     if own.len() != OWN {
@@ -374,82 +375,50 @@ pub fn meets(a: Extent, b: Extent) -> bool
 fn ranges_meet(low: u32, high: u32, from: u32, to: u32) -> bool
     ensures { λ r. ⌜ r ≡ (leb low to && leb from high) ⌝ }
 {
-    if to < low {
+    if high < from {
         return false;
     }
-    let end = high as usize + 1;
-    (from as usize) < end
+    let end = to as usize + 1;
+    (low as usize) < end
 }
 
-// Whether the site in row i is one of the name and meets the extent. Two ranges, the usual pair, are compared without making the
-// site, first whether the one in the row ends below the other, as it does where a module drives its bits upwards.
-fn meets_at(own: &[u32], i: usize, name: u32, x: Extent) -> bool
-    requires { ⌜ (length (now own) ≡ places) × (i < 1024) ⌝ }
-    ensures { λ r. ⌜ r ≡ hits name (extent-of x) (site-from (row site-table (now (own .entry)) i)) ⌝ }
+// The site in row i; where there is no such row, an Unknown one.
+fn listed(own: &[u32], i: usize) -> Site
+    ensures { λ r. ⌜ (length (now (own .entry)) ≡ places → i < 1024 → site-of r ≡ site-row (now (own .entry)) i) ⌝ }
 {
-    let at = SITES + 5 * i;
-    if own[at] != name {
-        return false;
+    if own.len() != OWN {
+        return Site {
+            name: 0,
+            extent: Extent::Unknown,
+            start: 0,
+        };
     }
-    if let Extent::Range { low, high } = x {
-        if own[at + 1] == 1 {
-            if own[at + 3] < low {
-                return false;
-            }
-            return ranges_meet(own[at + 2], own[at + 3], low, high);
-        }
+    if SITE_LIMIT <= i {
+        return Site {
+            name: 0,
+            extent: Extent::Unknown,
+            start: 0,
+        };
     }
-    let s = site_at(own, i);
-    let y = s.extent;
-    meets(y, x)
+    site_at(own, i)
 }
 
-// A row before which no site has the name: that of its first site among n, or n. A search for conflicts needs no row before it; that it is the
-// first is a matter of speed alone.
-fn first_site(own: &[u32], n: usize, name: u32) -> usize
-    requires { ⌜ (length (now own) ≡ places) × (n ≤ 1024) ⌝ }
-    ensures { λ r. ⌜ NoneBefore name (site-row (now (own .entry))) n r ⌝ }
+// The first row from `from` on that has a site of the name; 1,024 where there is none.
+fn next_site(own: &[u32], from: usize, name: u32) -> usize
+    ensures { λ r. ⌜ NextSite name (now (own .entry)) from r ⌝ }
 {
-    let mut i: usize = 0;
+    if own.len() != OWN {
+        return SITE_LIMIT;
+    }
+    let n = site_count(own);
+    let mut i = from;
     while i < n {
         if own[SITES + 5 * i] == name {
             return i;
         }
         i += 1;
     }
-    i
-}
-
-// The START of the first later site of a name that meets an earlier one.
-pub fn first_conflict(own: &[u32], name: u32) -> Found
-    ensures { λ r. ⌜ (length (now (own .entry)) ≡ places → found-of r ≡ site.first-conflict [] (site.sites-of name (own-of (now (own .entry)) .sites))) ⌝ }
-    ensures { λ r. ⌜ (¬ (length (now (own .entry)) ≡ places) → r ≡ found.Nothing) ⌝ }
-{
-    if own.len() != OWN {
-        return Found::Nothing;
-    }
-    let n = site_count(own);
-    let first = first_site(own, n, name);
-    let mut found = Found::Nothing;
-    let mut later = first;
-    'search: while later < n {
-        if own[SITES + 5 * later] != name {
-            later += 1;
-            continue;
-        }
-        let s = site_at(own, later);
-        let x = s.extent;
-        let mut earlier = later;
-        while first < earlier {
-            earlier -= 1;
-            if meets_at(own, earlier, name, x) {
-                found = Found::At(s.start);
-                break 'search;
-            }
-        }
-        later += 1;
-    }
-    found
+    SITE_LIMIT
 }
 
 fn no_range(bound: bool) -> Extent
@@ -666,7 +635,7 @@ fn first_unmarked(marks: &[u8], limit: usize) -> Found
     Found::Nothing
 }
 
-// The first of the lowest min(width, 4,096) bits that no site of the name covers.
+// The first of the lowest min(width, 4,096) bits that no site of the name covers. Few bits have few marks, which are sooner cleared.
 pub fn first_gap(own: &[u32], name: u32, width: u32) -> Found
     ensures { λ r. ⌜ (length (now (own .entry)) ≡ places → found-of r ≡ site.first-gap (site.sites-of name (own-of (now (own .entry)) .sites)) width) ⌝ }
     ensures { λ r. ⌜ (¬ (length (now (own .entry)) ≡ places) → r ≡ found.Nothing) ⌝ }
@@ -674,8 +643,13 @@ pub fn first_gap(own: &[u32], name: u32, width: u32) -> Found
     if own.len() != OWN {
         return Found::Nothing;
     }
-    let mut marks = [0u8; 4096];
     let limit = least(width as usize, 4096);
+    if limit <= 64 {
+        let mut marks = [0u8; 64];
+        mark_sites(own, name, &mut marks, limit);
+        return first_unmarked(&marks, limit);
+    }
+    let mut marks = [0u8; 4096];
     mark_sites(own, name, &mut marks, limit);
     first_unmarked(&marks, limit)
 }
@@ -779,7 +753,19 @@ fn seen_before(own: &[u32], k: usize, name: u32) -> bool
     misused(own, name)
 }
 
-// The conflict of the name of row k, where that row is the name's first.
+// The START of the first later site of a name that meets an earlier one, by a run that has room for every site of the table.
+fn first_conflict(own: &[u32], name: u32) -> Found
+    requires { ⌜ length (now own) ≡ places ⌝ }
+    ensures { λ r. ⌜ found-of r ≡ site.first-conflict [] (site.sites-of name (own-of (now (own .entry)) .sites)) ⌝ }
+{
+    let n = site_count(own);
+    if n <= 64 {
+        return records::conflict_of_few(own, name);
+    }
+    records::conflict_of_name(own, name)
+}
+
+// The conflict of the name of row k, where that row is the name's first. A name with one site has none, and no run is filled for it.
 fn take_conflict(own: &mut [u32], k: usize)
     requires { ⌜ (length (now own) ≡ places) × (k < 1024) × (rows-in conflict-table (now own) < 1024) ⌝ }
     ensures { λ _. ⌜ Front (now (own .entry)) (now (own .exit))
@@ -788,6 +774,9 @@ fn take_conflict(own: &mut [u32], k: usize)
     let site = site_at(own, k);
     let name = site.name;
     if seen_before(own, k, name) {
+        return;
+    }
+    if SITE_LIMIT <= next_site(own, k + 1, name) {
         return;
     }
     match first_conflict(own, name) {
@@ -803,7 +792,7 @@ fn take_conflict(own: &mut [u32], k: usize)
 pub fn find_conflicts(own: &mut [u32])
     ensures { λ _. ⌜ (length (now (own .entry)) ≡ places → own-of (now (own .exit)) ≡ with-conflicts (site.conflicts (misuse-poison (now (own .entry)))
         (own-of (now (own .entry)) .sites) (own-of (now (own .entry)) .sites)) (own-of (now (own .entry)))) ⌝ }
-    ensures { λ _. ⌜ (¬ (length (now (own .entry)) ≡ places) → now (own .exit) ≡ now (own .entry)) ⌝ }
+    ensures { λ _. ⌜ Front (now (own .entry)) (now (own .exit)) × (¬ (length (now (own .entry)) ≡ places) → now (own .exit) ≡ now (own .entry)) ⌝ }
     ensures { λ _. ⌜ length (now (own .exit)) ≡ length (now (own .entry)) ⌝ }
 {
     if own.len() != OWN {

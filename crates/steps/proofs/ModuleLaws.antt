@@ -24,6 +24,7 @@ use Rattle.consteval.specs.declared.fill.Filled.{Filled}
 use Rattle.consteval.specs.declared.fill.Filled.the-variants as filled
 use Rattle.consteval.proofs.TableLaws.{fills}
 use Rattle.runs.specs.Text.{header-in-range, ModuleAt, items-run}
+use Rattle.steps.specs.Steps.{refused-if}
 use Rattle.steps.specs.Modules.{name-places, header-part, items-part, to-named, module-fill, named-by, table-by, NamesAre}
 use Rattle.steps.specs.declared.modules.Named.{Named}
 
@@ -191,8 +192,8 @@ right-named (filled.Used n) t T few enough r =
     let l = names-of-long t n in
     let m = ap length (r .0) in
     let b = r .2 in
-    (r .0, r .1, omega arith)
-right-named filled.Outside t T few enough r = r
+    (sym (ap refused-if (r .1)), (r .0, omega arith))
+right-named filled.Outside t T few enough r = (sym (ap refused-if r), tt)
 right-named filled.Short t T few enough r = absurd (omega arith)
 right-named filled.Bad t T few enough r = absurd r
 

@@ -2,7 +2,6 @@
 -- Worthless checks.
 -- To a reader: definitions that contracts of this and other crates cite; each such contract is proved; check_drivers' own promise needs only name-places.
 use mathlib.Core.Path.{_≡_}
-use mathlib.Core.Bool.{true, false}
 use mathlib.Core.List.{List}
 use Prim.Native.Nat.{ℕ, _+_, _-_, _*_, _/_, _≤_}
 use lib.ListN.{length, getD, take, drop}
@@ -12,6 +11,7 @@ use Rattle.consteval.specs.Worth.{names-of}
 use Rattle.consteval.specs.Fill.{Filling, fill-of}
 use Rattle.consteval.specs.declared.fill.Filled.{Filled}
 use Rattle.consteval.specs.declared.fill.Filled.the-variants as filled
+use Rattle.steps.specs.Steps.{refused-if}
 use Rattle.steps.specs.declared.modules.Named.{Named}
 use Rattle.steps.specs.declared.modules.Named.the-variants.{Used, Outside}
 
@@ -48,7 +48,16 @@ named-by text mods m names = to-named (module-fill text mods m names .answer)
 abbrev pub table-by : Bytes → List ℕ → ℕ → List ℕ → List ℕ
 table-by text mods m names = module-fill text mods m names .table
 
--- 01, The value: the table is the module's name table, with room for 32 pairs more; or a constant is outside INT
+-- 01, Refused because of the state: 20 where a constant of the module is outside INT
+abbrev pub named-number : Named → ℕ
+named-number (Used u) = 0
+named-number Outside = 20
+
+-- 01, The value: the pairs that are used are the name table, with room for 32 pairs more
+abbrev pub PairsAre : Named → List ℕ → Table → Type 0
+PairsAre (Used u) t T = (names-of t u ≡ T .names) × (u + 32 ≤ length t / 2)
+PairsAre Outside t T = Unit {0}
+
+-- 01, The value; Refused because of the state: what the answer means for a module: 20 where a constant is outside INT, else its name table
 abbrev pub NamesAre : Named → List ℕ → Table → Type 0
-NamesAre (Used u) t T = (names-of t u ≡ T .names) × (T .out ≡ false) × (u + 32 ≤ length t / 2)
-NamesAre Outside t T = T .out ≡ true
+NamesAre r t T = (named-number r ≡ refused-if (T .out)) × PairsAre r t T

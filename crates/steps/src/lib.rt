@@ -3,15 +3,10 @@ use consteval::Value;
 use lines::numbers;
 use lines::parts;
 ghost use mathlib.Core.Path.{_≡_};
-ghost use Prim.Native.Nat.{ℕ, _+_, _-_, _≤_, _<_, max};
-ghost use lib.ListN.{length};
-ghost use Rattle.spec.specs.Syntax.{Expr, Item, Items, repeat, const-if};
-ghost use Rattle.spec.specs.Value.{value};
-ghost use Rattle.lines.specs.Parts.{next-end};
+ghost use Prim.Native.Nat.{_-_};
 ghost use Rattle.consteval.specs.Worth.{worth, names-of};
-ghost use Rattle.runs.specs.Run.{third-end, ShowsItem};
-ghost use Rattle.steps.specs.Steps.{HeadIs, TimesAre, ChosenIs};
-ghost use Rattle.steps.specs.declared.Chosen.the-variants.{Run};
+ghost use Rattle.runs.specs.Run.{first-end, second-end};
+ghost use Rattle.steps.specs.Steps.{head-of, end-within, times-by, times-of, RoundsFit, value-between, body-at, run-behind, branch-of};
 
 pub mod modules;
 
@@ -25,7 +20,7 @@ pub enum Head {
 
 // What the item x is, by the bytes that tell its head word from the others.
 pub fn head_of(x: &[u8]) -> Head
-    ensures { λ r. ⌜ ((i : Item) (d : ℕ) → ShowsItem (now (x .entry)) d i → HeadIs r i) ⌝ }
+    ensures { λ r. ⌜ r ≡ head-of (now (x .entry)) ⌝ }
 {
     let c = parts::byte(x, 1);
     if c == b'i' {
@@ -46,15 +41,14 @@ pub fn head_of(x: &[u8]) -> Head
     Head::Plain
 }
 
-// The end of the part behind the byte at `before`, where that is a byte of x.
+// The end of the part behind the byte at `before`, or of x, if that comes first.
 fn next_end(x: &[u8], before: usize) -> usize
-    ensures { λ r. ⌜ (before < length (now (x .entry)) → r ≡ next-end (now (x .entry)) before) ⌝ }
-    ensures { λ r. ⌜ r ≤ max before (length (now (x .entry))) ⌝ }
+    ensures { λ r. ⌜ r ≡ end-within (now (x .entry)) before ⌝ }
 {
     if before < x.len() {
         return parts::part_end(x, before + 1);
     }
-    before
+    x.len()
 }
 
 // One bracket less.
@@ -78,7 +72,8 @@ pub enum Times {
 
 // The same by the values of both bounds.
 fn way_of(n: u64, low: Value, high: Value, left: u32) -> Times
-    ensures { λ r. ⌜ (n < 4294967296 → TimesAre r left n (worth low) (worth high)) ⌝ }
+    ensures { λ r. ⌜ r ≡ times-by left n (worth low) (worth high) ⌝ }
+    ensures { λ r. ⌜ RoundsFit r (worth low) ⌝ }
 {
     match low {
         Value::Known(l) => match high {
@@ -108,8 +103,8 @@ fn way_of(n: u64, low: Value, high: Value, left: u32) -> Times
 
 // How the `repeat` x runs with `left` rounds left; both bounds are evaluated.
 pub fn times_of(x: &[u8], depth: u32, names: &[u32], used: usize, left: u32) -> Times
-    ensures { λ r. ⌜ ((n : ℕ) (low high : Expr) (is : Items) → ShowsItem (now (x .entry)) depth (repeat n low high is)
-        → TimesAre r left n (value (names-of (now (names .entry)) used) low) (value (names-of (now (names .entry)) used) high)) ⌝ }
+    ensures { λ r. ⌜ r ≡ times-of (now (x .entry)) depth (names-of (now (names .entry)) used) left ⌝ }
+    ensures { λ r. ⌜ RoundsFit r (value-between (now (x .entry)) (first-end (now (x .entry))) (second-end (now (x .entry))) depth (names-of (now (names .entry)) used)) ⌝ }
 {
     let h = next_end(x, 0);
     let a = next_end(x, h);
@@ -124,8 +119,7 @@ pub fn times_of(x: &[u8], depth: u32, names: &[u32], used: usize, left: u32) -> 
 
 // Where the run of the body of a `repeat` begins.
 pub fn body_at(x: &[u8]) -> usize
-    ensures { λ r. ⌜ ((d n : ℕ) (low high : Expr) (is : Items) → ShowsItem (now (x .entry)) d (repeat n low high is) → r ≡ third-end (now (x .entry))) ⌝ }
-    ensures { λ r. ⌜ r ≤ length (now (x .entry)) ⌝ }
+    ensures { λ r. ⌜ r ≡ body-at (now (x .entry)) ⌝ }
 {
     let h = next_end(x, 0);
     let a = next_end(x, h);
@@ -142,7 +136,7 @@ pub enum Chosen {
 
 // The run inside the `(then I...)` or `(else I...)` that stands behind the byte at e.
 fn branch_at(x: &[u8], e: usize) -> Chosen
-    ensures { λ r. ⌜ (e < length (now (x .entry)) → e + 5 ≤ next-end (now (x .entry)) e → r ≡ Run (e + 5) (next-end (now (x .entry)) e)) ⌝ }
+    ensures { λ r. ⌜ r ≡ run-behind (now (x .entry)) e ⌝ }
 {
     let f = next_end(x, e);
     if f < 5 {
@@ -156,8 +150,7 @@ fn branch_at(x: &[u8], e: usize) -> Chosen
 
 // Which branch the `constif` x takes: `else` where its condition has no value.
 pub fn branch_of(x: &[u8], depth: u32, names: &[u32], used: usize) -> Chosen
-    ensures { λ r. ⌜ ((c : Expr) (is js : Items) → ShowsItem (now (x .entry)) depth (const-if c is js)
-        → ChosenIs r (now (x .entry)) depth (value (names-of (now (names .entry)) used) c) is js) ⌝ }
+    ensures { λ r. ⌜ r ≡ branch-of (now (x .entry)) depth (names-of (now (names .entry)) used) ⌝ }
 {
     let h = next_end(x, 0);
     let a = next_end(x, h);

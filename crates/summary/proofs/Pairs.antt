@@ -2,6 +2,7 @@
 -- Assumes nothing.
 use mathlib.Core.Path.{_≡_, refl, sym, _∙_, ap}
 use mathlib.Core.Bool.{Bool, true, false}
+use mathlib.Core.Logic.{_⊎_, inl, inr}
 use mathlib.Core.List.{List, [], _∷_, _++_, append-nil, append-assoc}
 use mathlib.Core.Option.{some}
 use Prim.Native.Nat.{ℕ, zero, suc, _+_, _-_, _*_, _≤_, _<_}
@@ -16,8 +17,10 @@ use Rattle.spec.specs.Summary.{Kept, kept-summary, triples, triple-limit, paire
 use Rattle.graph.specs.Reach.{words-below, found}
 use Rattle.edges.specs.Lines.{summary-at}
 use Rattle.walk.specs.Alike.{Alike}
+use Rattle.spec.specs.Cleared.{Cleared}
+use Rattle.spec.proofs.Cleared.{cleared-of}
 use Rattle.summary.specs.Keeps.{state-word, start-of, count-of, total-of, kept-places, pairs-of, StateIs, Keeps, recorded}
-use Rattle.summary.specs.Pairs.{Grown, Added}
+use Rattle.summary.specs.Pairs.{Grown, Written, Leaves, Added}
 use Rattle.summary.proofs.Table.{miss, pairs-same, Same, carried, name-other}
 
 -- pairs that stand one behind the other
@@ -30,6 +33,29 @@ at-more k first (suc n) e = ap (λ (z : Summary). (getD k first 0, getD k (first
 pub grown-none : (k : List ℕ) → kept-places ≤ length k → total-of k ≤ triple-limit → Grown k k []
 unfolding summary-at
 grown-none k z l = record { sized = z; same = λ i a b. refl; total = omega arith; few = l; pairs = refl }
+
+-- whatever the words stand for: no pair is written, or some and then others
+pub written-none : (k : List ℕ) → Written k k
+written-none k = record { size = refl; more = omega arith; few = omega arith; others = λ i a h. refl }
+
+pub written-then : {k k₁ k₂ : List ℕ} → Written k k₁ → Written k₁ k₂ → Written k k₂
+written-then {k} {k₁} {k₂} h g =
+    let a = h .more in
+    let b = g .more in
+    record {
+      size = g .size ∙ h .size;
+      more = omega arith;
+      few = omega (arith, h .few, g .few);
+      others = λ i n w. g .others i n (later i w) ∙ h .others i n (before i w);
+    }
+  where
+    later : (i : ℕ) → (i < 97 + 2 * total-of k) ⊎ (97 + 2 * total-of k₂ ≤ i) → (i < 97 + 2 * total-of k₁) ⊎ (97 + 2 * total-of k₂ ≤ i)
+    later i (inl x) = inl (omega (arith, h .more))
+    later i (inr x) = inr x
+
+    before : (i : ℕ) → (i < 97 + 2 * total-of k) ⊎ (97 + 2 * total-of k₂ ≤ i) → (i < 97 + 2 * total-of k) ⊎ (97 + 2 * total-of k₁ ≤ i)
+    before i (inl x) = inl x
+    before i (inr x) = inr (omega (arith, g .more))
 
 -- ---- one pair
 
@@ -72,19 +98,24 @@ module _ (k : List ℕ) (o i n : ℕ) (q : n ≡ getD k 96 0) where
           pairs = rw more (at-more k₃ first (length ps) {p = p} (omega arith) ∙ rw (old, new-output l z, new-input l z));
         }
 
-    -- whatever the slice, there are no fewer pairs
-    pub push-total : total-of k ≤ total-of k₃
-    push-total = go (ltb 96 (length k)) refl
+    -- whatever the slice
+    pub push-written : n < 1024 → Written k k₃
+    push-written l = go (ltb 96 (length k)) refl
       where
-        go : (b : Bool) → ltb 96 (length k) ≡ b → total-of k ≤ total-of k₃
+        go : (b : Bool) → ltb 96 (length k) ≡ b → Written k k₃
         go true e =
-            let l = ltb-true 96 (length k) e in
-            let t : getD k₃ 96 0 ≡ n + 1 = rw all-set (getD-set-same (set (set k p o) (p + 1) i) 96 (n + 1) 0 (simp length-set l)) in
-            omega arith
+            let z = ltb-true 96 (length k) e in
+            let t : getD k₃ 96 0 ≡ n + 1 = rw all-set (getD-set-same (set (set k p o) (p + 1) i) 96 (n + 1) 0 (simp length-set z)) in
+            record {
+              size = long;
+              more = omega arith;
+              few = omega arith;
+              others = λ j a h. elim h [ inl x ↦ other j a (λ d. omega arith) (λ d. omega arith) | inr x ↦ other j a (λ d. omega arith) (λ d. omega arith) ];
+            }
         go false e =
-            let l = ltb-false 96 (length k) e in
-            let t : k₃ ≡ k = all-set ∙ set-out (set (set k p o) (p + 1) i) 96 (n + 1) (simp length-set l) ∙ set-out (set k p o) (p + 1) i (simp length-set (omega arith)) ∙ set-out k p o (omega arith) in
-            rw t (omega arith)
+            let z = ltb-false 96 (length k) e in
+            let t : k₃ ≡ k = all-set ∙ set-out (set (set k p o) (p + 1) i) 96 (n + 1) (simp length-set z) ∙ set-out (set k p o) (p + 1) i (simp length-set (omega arith)) ∙ set-out k p o (omega arith) in
+            rw t (written-none k)
 
 -- ---- the pairs of an output
 
@@ -119,6 +150,13 @@ module _ (o : ℕ) (w : List ℕ) (n : ℕ) where
       rw t (h .grown)
 
 -- ---- the summary is kept
+
+-- whatever the words stand for: it is kept with the pairs that were written
+pub leaves-kept : {k w : List ℕ} → Written k w → (m : ℕ) {start end : ℕ} → start ≡ total-of k → end ≡ total-of w → {k′ : List ℕ} → k′ ≡ recorded w m start (end - start) → Leaves true k m k′
+leaves-kept {k} {w} h m a b q = (w, h, q ∙ rw (a, b))
+
+pub leaves-zero : (r : Bool) (k : List ℕ) (m : ℕ) (k′ : List ℕ) → r ≡ false → Leaves r k m k′ → Cleared k′
+leaves-zero r k m k′ e h = cleared-of (length k) k′ (rw e at h)
 
 -- `keep`
 pub kept-one : (k : List ℕ) (m start count : ℕ) {k₁ k₂ k₃ : List ℕ} → k₁ ≡ set k (32 + m) start → k₂ ≡ set k₁ (64 + m) count → k₃ ≡ set k₂ m 2 → k₃ ≡ recorded k m start count

@@ -18,7 +18,7 @@ use Rattle.graph.specs.Cycles.{Zeroed}
 use Rattle.graph.proofs.Sorting.{zeroed-none, zeroed-more}
 use Rattle.edges.specs.Lines.{summary-at}
 use Rattle.walk.specs.Alike.{Alike}
-use Rattle.summary.specs.Keeps.{state-word, start-of, count-of, total-of, kept-places, first-of, pairs-of, StateIs, Keeps, Says, Reset}
+use Rattle.summary.specs.Keeps.{state-word, start-of, count-of, total-of, kept-places, first-of, pairs-of, state-by, state-of, StateIs, Keeps, Says, Reset}
 use Rattle.summary.specs.declared.State.the-variants as states
 
 -- ---- words
@@ -67,23 +67,26 @@ name-other n m l h = rw (ne-eqb n m h)
 
 -- ---- what each function leaves
 
-module _ {k : List ℕ} {kept : Kept} {busy : List ℕ} (h : Keeps k kept busy) (m : ℕ) (small : m < 32) {s : ℕ} (q : s ≡ getD k m 0) where
-  here : StateIs s k m kept busy
-  here = rw q (h .each m small)
+-- `state_of`, by the word
+pub state-zero : (s : ℕ) → s ≡ 0 → states.New ≡ state-by s
+state-zero s e = rw e
 
-  pub says-new : s ≡ 0 → Says states.New k m kept busy
-  says-new e = rw e at here
+pub state-one : (s : ℕ) → s ≡ 1 → states.Busy ≡ state-by s
+state-one s e = rw e
 
-  pub says-busy : s ≡ 1 → Says states.Busy k m kept busy
-  says-busy e = rw e at here
+pub state-other : (s : ℕ) → ¬ (s ≡ 0) → ¬ (s ≡ 1) → states.Kept ≡ state-by s
+state-other zero a b = absurd (a refl)
+state-other (suc zero) a b = absurd (b refl)
+state-other (suc (suc s)) a b = refl
 
-  pub says-kept : ¬ (s ≡ 0) → ¬ (s ≡ 1) → Says states.Kept k m kept busy
-  says-kept a b = go s a b here
-    where
-      go : (n : ℕ) → ¬ (n ≡ 0) → ¬ (n ≡ 1) → StateIs n k m kept busy → Says states.Kept k m kept busy
-      go zero a b t = absurd (a refl)
-      go (suc zero) a b t = absurd (b refl)
-      go (suc (suc n)) a b t = t .0
+-- what the state of a module says where the table keeps summaries
+pub state-says : {k : List ℕ} {kept : Kept} {busy : List ℕ} → Keeps k kept busy → (m : ℕ) → m < 32 → Says (state-of k m) k m kept busy
+state-says {k} {kept} {busy} h m small = go (state-word k m) (h .each m small)
+  where
+    go : (n : ℕ) → StateIs n k m kept busy → Says (state-by n) k m kept busy
+    go zero t = t
+    go (suc zero) t = t
+    go (suc (suc n)) t = t .0
 
 -- the pairs of a module whose summary is kept
 pub kept-pairs : {k : List ℕ} {kept : Kept} {busy : List ℕ} → Keeps k kept busy → (m : ℕ) → m < 32 → (s : Summary) → kept-summary kept m ≡ some s → Alike (pairs-of k m) s
@@ -94,9 +97,9 @@ kept-pairs {k} {kept} {busy} h m small s e = go (state-word k m) (h .each m smal
     go (suc zero) t = absurd (Option·none-ne-some s (sym (t .0) ∙ e))
     go (suc (suc n)) t = let d : t .0 .0 ≡ s = cc (t .0 .1) in rw d at (t .0 .2)
 
--- `begin`
-pub began : (k : List ℕ) (m : ℕ) {k′ : List ℕ} → k′ ≡ set k m 1 → (kept : Kept) (busy : List ℕ) → Keeps k kept busy → m < 32 → kept-summary kept m ≡ none → Keeps k′ kept (m ∷ busy)
-began k m q kept busy h small e =
+-- a module that is begun
+pub began : {k : List ℕ} {kept : Kept} {busy : List ℕ} → Keeps k kept busy → (m : ℕ) → m < 32 → kept-summary kept m ≡ none → {k′ : List ℕ} → k′ ≡ set k m 1 → Keeps k′ kept (m ∷ busy)
+began {k} {kept} {busy} h m small e q =
     rw q
     (record {
       sized = rw length-set (h .sized);

@@ -1,5 +1,6 @@
 -- The table of summaries as the code holds it. 01: The edge; Refused because of the state.
--- To a reader: definitions that contracts of this and other crates cite; each such contract is proved; check_drivers' own promise needs only kept-places.
+-- To a reader: definitions that contracts of this and other crates cite; each such contract is proved; Says is a statement, proved in
+-- proofs/Table (state-says); check_drivers' own promise needs only kept-places.
 use mathlib.Core.Path.{_≡_}
 use mathlib.Core.Bool.{Bool, true, false}
 use mathlib.Core.List.{List, [], _∷_}
@@ -48,6 +49,16 @@ first-of k m = 97 + 2 * start-of k m
 -- 01, The edge: the pairs of module m
 abbrev pub pairs-of : List ℕ → ℕ → Summary
 pairs-of k m = summary-at k (first-of k m) (count-of k m)
+
+-- 01, The edge: the state that a word says: 0 neither kept nor in progress, 1 in progress, any other kept
+abbrev pub state-by : ℕ → S.State
+state-by zero = states.New
+state-by (suc zero) = states.Busy
+state-by (suc (suc n)) = states.Kept
+
+-- 01, The edge: the state of module m by its word, which is 0 past the end of the table
+abbrev pub state-of : List ℕ → ℕ → S.State
+state-of k m = state-by (state-word k m)
 
 -- 01, The edge: what the state of module m says: no summary of it is kept and it is not in progress, it is in progress and none is
 -- kept, or the table has its summary (`Alike`) and it is not in progress

@@ -1,11 +1,12 @@
 -- The pairs of a summary that is being made: each top-level output with the inputs that it reaches.
--- 01: The line; The edge; Refused because of the state.
+-- 01: The line; The edge; Refused because of the state; Worthless checks.
 -- To a reader: definitions that the contracts of this crate cite; each such contract is proved; check_drivers' own promise cites none of them.
 use mathlib.Core.Path.{_≡_}
 use mathlib.Core.Bool.{Bool, true, false}
+use mathlib.Core.Logic.{_⊎_}
 use mathlib.Core.List.{List, [], _++_}
-use Prim.Native.Nat.{ℕ, _+_, _*_, _≤_, _<_}
-use lib.ListN.{length, getD}
+use Prim.Native.Nat.{ℕ, _+_, _-_, _*_, _≤_, _<_, max}
+use lib.ListN.{length, getD, replicate}
 use Rattle.spec.specs.Syntax.{Width, Item, port, output, Header}
 use Rattle.spec.specs.Graph.{_∈_, Once}
 use Rattle.spec.specs.Site.{line-outputs}
@@ -13,7 +14,7 @@ use Rattle.spec.specs.Edge.{Head, Summary}
 use Rattle.spec.specs.Summary.{triple-limit, inputs-reached, paired}
 use Rattle.graph.specs.Reach.{Clean}
 use Rattle.edges.specs.Lines.{summary-at}
-use Rattle.summary.specs.Keeps.{total-of, kept-places}
+use Rattle.summary.specs.Keeps.{total-of, kept-places, recorded}
 use Rattle.summary.specs.declared.Port as P
 use Rattle.summary.specs.declared.Port.the-variants as ports
 
@@ -24,6 +25,20 @@ pub record Grown (k₀ k : List ℕ) (ps : Summary) : Type 0 where
   pub total : total-of k ≡ total-of k₀ + length ps
   pub few : total-of k ≤ triple-limit
   pub pairs : summary-at k (97 + 2 * total-of k₀) (length ps) ≡ ps
+
+-- 01, Worthless checks; Refused because of the state: what every lent byte becomes, whatever the words k stand for: pairs are written behind those
+-- that k counts, to 1,024 at most, and counted; every other word is as it was
+pub record Written (k k′ : List ℕ) : Type 0 where
+  pub size : length k′ ≡ length k
+  pub more : total-of k ≤ total-of k′
+  pub few : total-of k′ ≤ max (total-of k) triple-limit
+  pub others : (i : ℕ) → ¬ (i ≡ 96) → (i < 97 + 2 * total-of k) ⊎ (97 + 2 * total-of k′ ≤ i) → getD k′ i 0 ≡ getD k i 0
+
+-- 01, Worthless checks; Refused because of the state: what making the summary of module m leaves, whatever the words k stand for: pairs are written,
+-- and then module m is kept with just these; or there are too many, and every place is 0
+abbrev pub Leaves : Bool → List ℕ → ℕ → List ℕ → Type 0
+Leaves true k m k′ = (w : List ℕ) × Written k w × (k′ ≡ recorded w m (total-of k) (total-of w - total-of k))
+Leaves false k m k′ = k′ ≡ replicate (length k) 0
 
 -- 01, The edge; Refused because of the state: the pairs qs are added behind ps, or there are too many
 abbrev pub Added : Bool → List ℕ → List ℕ → Summary → Summary → Type 0

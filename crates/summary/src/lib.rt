@@ -4,21 +4,19 @@ use lines::numbers;
 use lines::parts;
 ghost use mathlib.Core.Path.{_≡_};
 ghost use mathlib.Core.Bool.{false};
-ghost use mathlib.Core.Option.{none};
 ghost use mathlib.Core.List.{List, [], _∷_};
-ghost use Prim.Native.Nat.{ℕ, _<_, _≤_};
-ghost use lib.ListN.{length, getD, set};
+ghost use Prim.Native.Nat.{ℕ, _<_};
+ghost use lib.ListN.{getD, set};
 ghost use Rattle.spec.specs.Syntax.{Item, Header, Module};
 ghost use Rattle.spec.specs.Refusal.{has-name};
 ghost use Rattle.spec.specs.Edge.{Head, Summary};
-ghost use Rattle.spec.specs.Summary.{Kept, kept-summary, paired};
+ghost use Rattle.spec.specs.Summary.{Kept, paired};
 ghost use Rattle.runs.specs.Run.{ShowsItem, RunOf};
 ghost use Rattle.graph.specs.Stands.{Stands};
 ghost use Rattle.graph.specs.Reach.{Clean, found};
-ghost use Rattle.spec.specs.Cleared.{ClearedUnless};
 ghost use Rattle.edges.specs.Reads.{KindsOf};
-ghost use Rattle.summary.specs.Keeps.{first-of, count-of, total-of, kept-places, Keeps, Says, recorded, Made, Reset};
-ghost use Rattle.summary.specs.Pairs.{Grown, Added, OutputAdded, PortIs, IsName};
+ghost use Rattle.summary.specs.Keeps.{state-of, first-of, count-of, Keeps, recorded, Made, Reset};
+ghost use Rattle.summary.specs.Pairs.{Grown, Written, Leaves, Added, OutputAdded, PortIs, IsName};
 
 // A module that no line asked for yet, one that is being summarised, one whose summary is kept.
 pub enum State {
@@ -67,7 +65,7 @@ fn put(k: &mut [u32], i: usize, v: u32)
 
 // The state of the module m.
 pub fn state_of(k: &[u32], m: u32) -> State
-    ensures { λ r. ⌜ ((kept : Kept) (busy : List ℕ) → Keeps (now (k .entry)) kept busy → m < 32 → Says r (now (k .entry)) m kept busy) ⌝ }
+    ensures { λ r. ⌜ r ≡ state-of (now (k .entry)) m ⌝ }
 {
     let s = at(k, m as usize);
     if s == 0 {
@@ -95,7 +93,6 @@ pub fn count(k: &[u32], m: u32) -> usize
 
 // The module m is in progress from now on.
 pub fn begin(k: &mut [u32], m: u32)
-    ensures { λ _. ⌜ ((kept : Kept) (busy : List ℕ) → Keeps (now (k .entry)) kept busy → m < 32 → kept-summary kept m ≡ none → Keeps (now (k .exit)) kept (m ∷ busy)) ⌝ }
     ensures { λ _. ⌜ now (k .exit) ≡ set (now (k .entry)) m 1 ⌝ }
 {
     put(k, m as usize, 1);
@@ -103,7 +100,6 @@ pub fn begin(k: &mut [u32], m: u32)
 
 // No summary is kept, and no module is in progress.
 pub fn reset(k: &mut [u32])
-    ensures { λ _. ⌜ (kept-places ≤ length (now (k .entry)) → Keeps (now (k .exit)) [] []) ⌝ }
     ensures { λ _. ⌜ Reset (now (k .entry)) (now (k .exit)) ⌝ }
 {
     let mut i: usize = 0;
@@ -142,7 +138,7 @@ fn port_of(x: &[u8]) -> Port
 // One pair more, if there is room for it.
 fn push(k: &mut [u32], o: u32, i: u32) -> bool
     ensures { λ r. ⌜ ((k₀ : List ℕ) (ps : Summary) → Grown k₀ (now (k .entry)) ps → Added r k₀ (now (k .exit)) ps ((o, i) ∷ [])) ⌝ }
-    ensures { λ _. ⌜ total-of (now (k .entry)) ≤ total-of (now (k .exit)) ⌝ }
+    ensures { λ _. ⌜ Written (now (k .entry)) (now (k .exit)) ⌝ }
 {
     let n = at(k, TOTAL);
     if TRIPLES <= n {
@@ -158,7 +154,7 @@ fn push(k: &mut [u32], o: u32, i: u32) -> bool
 // A pair of the output o with each of the n names that the last search found.
 fn push_found(k: &mut [u32], w: &[u32], n: u32, o: u32) -> bool
     ensures { λ r. ⌜ ((k₀ : List ℕ) (ps : Summary) → Grown k₀ (now (k .entry)) ps → Added r k₀ (now (k .exit)) ps (paired o (found (now (w .entry)) n))) ⌝ }
-    ensures { λ _. ⌜ total-of (now (k .entry)) ≤ total-of (now (k .exit)) ⌝ }
+    ensures { λ _. ⌜ Written (now (k .entry)) (now (k .exit)) ⌝ }
 {
     let mut i = n;
     while 0 < i {
@@ -174,7 +170,7 @@ fn push_found(k: &mut [u32], w: &[u32], n: u32, o: u32) -> bool
 fn add_output(kinds: &[u8], g: &[u32], w: &mut [u32], k: &mut [u32], o: u32) -> bool
     ensures { λ r. ⌜ ((header : List Header) (heads : List Head) → KindsOf (now (kinds .entry)) header → Stands (now (g .entry)) heads → Clean (now (w .entry))
         → (k₀ : List ℕ) (ps : Summary) → Grown k₀ (now (k .entry)) ps → OutputAdded r (now (w .exit)) k₀ (now (k .exit)) ps header heads o) ⌝ }
-    ensures { λ _. ⌜ total-of (now (k .entry)) ≤ total-of (now (k .exit)) ⌝ }
+    ensures { λ _. ⌜ Written (now (k .entry)) (now (k .exit)) ⌝ }
 {
     let n = graph::reach(g, kinds, w, o);
     push_found(k, w, n, o)
@@ -195,7 +191,7 @@ pub fn summarise(s: &[u8], kinds: &[u8], g: &[u32], k: &mut [u32], m: u32) -> bo
     ensures { λ r. ⌜ ((d : ℕ) (M : Module) (heads : List Head) (kept : Kept) (busy : List ℕ)
         → RunOf d (now (s .entry)) (M .items) → KindsOf (now (kinds .entry)) (M .header) → Stands (now (g .entry)) heads → Keeps (now (k .entry)) kept (m ∷ busy) → m < 32
         → has-name m busy ≡ false → Made r (now (k .exit)) m M heads kept busy) ⌝ }
-    ensures { λ r. ⌜ ClearedUnless r (now (k .exit)) ⌝ }
+    ensures { λ r. ⌜ Leaves r (now (k .entry)) m (now (k .exit)) ⌝ }
 {
     let start = at(k, TOTAL);
     let mut seen = [0u8; NAMES];

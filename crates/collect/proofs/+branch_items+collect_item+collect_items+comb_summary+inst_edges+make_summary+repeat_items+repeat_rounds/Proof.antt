@@ -15,7 +15,7 @@ use Rattle.collect.proofs.Parts.{piece-short}
 use Rattle.collect.proofs.Tables.{run-short}
 use Rattle.collect.proofs.Items.{framed-same, framed-again, within-more, On, starts, ended, after, item-next, item-full, body-walked, inst-walked, inst-full, plain-walked, plain-full}
 use Rattle.collect.proofs.Bodies.{not-shallow, Rounds, bounds-outside, no-round, body-once, never-short, never-wide, rounds-done, rounds-start, rounds-end, push-held, push-framed, rounds-framed, rounds-next, rounds-full, not-flat, test-outside, branch-some, branch-done}
-use Rattle.collect.proofs.Asking.{index-outside, summary-full, summary-empty, summary-kept, spent-at, ask-past, ask-again, ask-within, ask-new, not-long, make-outside, make-stops, make-over, make-kept}
+use Rattle.collect.proofs.Asking.{index-outside, summary-full, summary-empty, summary-kept, spent-at, ask-past, ask-again, ask-within, ask-new, not-long, make-outside, make-stops, make-over, make-kept, outside-number}
 use Rattle.graph.proofs.Limits.{stands-empty}
 use Prim.Native.Nat.{_<_}
 use Rattle.spec.proofs.Cleared.{cleared-of, false-cleared}
@@ -65,6 +65,7 @@ use Rattle.steps.proofs.head_of.Reads as head-of-reads
 use Rattle.steps.proofs.modules.items_of_module.Reads as items-of-module-reads
 use Rattle.steps.proofs.modules.names_of_module.Reads as names-of-module-reads
 use Rattle.steps.proofs.times_of.Reads as times-of-reads
+use Rattle.summary.proofs.Pairs.{leaves-zero}
 use Rattle.summary.proofs.begin.Reads as begin-reads
 use Rattle.summary.proofs.count.Reads as count-reads
 use Rattle.summary.proofs.first.Reads as first-reads
@@ -561,7 +562,7 @@ inst-edges-same-length-2 : (t : ℕ) → inst-edges-lts.Need-same-length-2 (inst
 inst-edges-same-length-2 t c = c .before .before .clear2 .kept .0
 
 inst-edges-returns : (t : ℕ) → inst-edges-lts.Need-returns (inst-edges-claims t) (inst-edges-at t) inst-edges.Post
-inst-edges-returns t c = (λ mo own from w G. index-outside (c .before .before .before .before .before .before .before .before .before .before .before .before .before .before .before .before .before .before .before .args .pass .fuel) (c .before .before .before .before .before .before .before .before .before .before .before .before .before .before .before .before .before .before .before .args .text .now) (c .before .before .before .before .before .before .before .before .before .before .before .before .before .before .before .before .before .before .before .args .kinds .now) (c .before .before .before .before .before .before .before .before .before .before .before .before .before .before .before .before .before .before .before .args .mods .now) (c .before .before .before .before .before .before .before .before .before .before .before .before .before .before .before .before .before .before .before .args .pass .count) (c .before .before .before .before .before .before .before .before .before .before .before .before .before .before .before .before .before .before .before .args .x .now) (c .before .before .before .before .before .before .before .before .before .before .before .before .before .before .before .before .before .before .before .args .pass .depth) (c .before .before .before .before .before .before .before .before .before .before .before .before .before .before .before .before .before .before .before .args .ks .now) (c .before .before .before .before .before .before .before .before .before .before .before .before .before .before .before .before .before .before .before .args .names .now) (c .before .before .before .before .before .before .before .before .before .before .before .before .before .before .before .before .before .before .before .args .pass .used) (c .before .before .before .before .before .before .before .before .before .before .before .before .before .before .before .before .before .before .before .args .g .now) (c .before .before .before .before .before .before .before .before .before .before .before .before .before .before .before .before .before .before .before .args .k .now) mo own from w G _ (c .before .before .before .before .before .before .before .before .before .before .inst-index .ensures) (sym (c .before .before .before .before .before .before .before .before .before .is-outside .ensures) ∙ c .before .before .before .before .before .before .before .before .if1 .taken), (cleared-of (length (c .before .before .before .before .before .before .before .before .before .before .before .before .before .before .before .before .before .before .before .args .g .now)) (c .before .before .before .before .before .before .clear .last .0) (c .before .before .before .before .before .before .clear .ensures), cleared-of (length (c .before .before .before .before .before .before .before .before .before .before .before .before .before .before .before .before .before .before .before .args .k .now)) (c .before .before .clear2 .last .0) (c .before .before .clear2 .ensures)))
+inst-edges-returns t c = (λ mo own from w G. index-outside (c .before .before .before .before .before .before .before .before .before .before .before .before .before .before .before .before .before .before .before .args .pass .fuel) (c .before .before .before .before .before .before .before .before .before .before .before .before .before .before .before .before .before .before .before .args .text .now) (c .before .before .before .before .before .before .before .before .before .before .before .before .before .before .before .before .before .before .before .args .kinds .now) (c .before .before .before .before .before .before .before .before .before .before .before .before .before .before .before .before .before .before .before .args .mods .now) (c .before .before .before .before .before .before .before .before .before .before .before .before .before .before .before .before .before .before .before .args .pass .count) (c .before .before .before .before .before .before .before .before .before .before .before .before .before .before .before .before .before .before .before .args .x .now) (c .before .before .before .before .before .before .before .before .before .before .before .before .before .before .before .before .before .before .before .args .pass .depth) (c .before .before .before .before .before .before .before .before .before .before .before .before .before .before .before .before .before .before .before .args .ks .now) (c .before .before .before .before .before .before .before .before .before .before .before .before .before .before .before .before .before .before .before .args .names .now) (c .before .before .before .before .before .before .before .before .before .before .before .before .before .before .before .before .before .before .before .args .pass .used) (c .before .before .before .before .before .before .before .before .before .before .before .before .before .before .before .before .before .before .before .args .g .now) (c .before .before .before .before .before .before .before .before .before .before .before .before .before .before .before .before .before .before .before .args .k .now) mo own from w G _ (c .before .before .before .before .before .before .before .before .before .before .inst-index .ensures) (sym (c .before .before .before .before .before .before .before .before .before .is-outside .ensures ∙ outside-number (c .before .before .before .before .before .before .before .before .before .before .inst-index .result)) ∙ c .before .before .before .before .before .before .before .before .if1 .taken), (cleared-of (length (c .before .before .before .before .before .before .before .before .before .before .before .before .before .before .before .before .before .before .before .args .g .now)) (c .before .before .before .before .before .before .clear .last .0) (c .before .before .before .before .before .before .clear .ensures), cleared-of (length (c .before .before .before .before .before .before .before .before .before .before .before .before .before .before .before .before .before .before .before .args .k .now)) (c .before .before .clear2 .last .0) (c .before .before .clear2 .ensures)))
 
 inst-edges-inst-module-requires : (t : ℕ) → inst-edges-lts.Need-inst-module-requires (inst-edges-claims t) (inst-edges-at t) inst-edges.Post
 inst-edges-inst-module-requires t c κs = search needs
@@ -600,7 +601,7 @@ inst-edges-same-length-4 : (t : ℕ) → inst-edges-lts.Need-same-length-4 (inst
 inst-edges-same-length-4 t c = c .before .before .before .before .before .before .before .before .comb-summary .kept .1 .1 .1 .1 .1 .0
 
 inst-edges-returns-2 : (t : ℕ) → inst-edges-lts.Need-returns-2 (inst-edges-claims t) (inst-edges-at t) inst-edges.Post
-inst-edges-returns-2 t c = (λ mo own from w G. summary-full (c .before .before .before .before .before .before .before .before .before .before .before .before .before .before .before .before .before .before .before .before .before .before .args .pass .fuel) (c .before .before .before .before .before .before .before .before .before .before .before .before .before .before .before .before .before .before .before .before .before .before .args .text .now) (c .before .before .before .before .before .before .before .before .before .before .before .before .before .before .before .before .before .before .before .before .before .before .args .kinds .now) (c .before .before .before .before .before .before .before .before .before .before .before .before .before .before .before .before .before .before .before .before .before .before .args .mods .now) (c .before .before .before .before .before .before .before .before .before .before .before .before .before .before .before .before .before .before .before .before .before .before .args .pass .count) (c .before .before .before .before .before .before .before .before .before .before .before .before .before .before .before .before .before .before .before .before .before .before .args .x .now) (c .before .before .before .before .before .before .before .before .before .before .before .before .before .before .before .before .before .before .before .before .before .before .args .pass .depth) (c .before .before .before .before .before .before .before .before .before .before .before .before .before .before .before .before .before .before .before .before .before .before .args .ks .now) (c .before .before .before .before .before .before .before .before .before .before .before .before .before .before .before .before .before .before .before .before .before .before .args .names .now) (c .before .before .before .before .before .before .before .before .before .before .before .before .before .before .before .before .before .before .before .before .before .before .args .pass .used) (c .before .before .before .before .before .before .before .before .before .before .before .before .before .before .before .before .before .before .before .before .before .before .args .g .now) (c .before .before .before .before .before .before .before .before .before .before .before .before .before .before .before .before .before .before .before .before .before .before .args .k .now) mo own from w G _ (c .before .before .before .before .before .before .before .before .before .before .before .before .before .inst-index .ensures) (sym (c .before .before .before .before .before .before .before .before .before .before .before .before .is-outside .ensures) ∙ c .before .before .before .before .before .before .before .before .before .before .before .if1 .left) (c .before .before .before .before .before .before .before .before .before .before .inst-module .result) (c .before .before .before .before .before .before .before .before .before .before .inst-module .ensures) (subst (λ x. AskedFor x (c .before .before .before .before .before .before .before .before .comb-summary .last .1 .1 .1 .1 .1 .0) (c .before .before .before .before .before .before .before .before .before .before .inst-module .result) (w .busy) (ask-walk (c .before .before .before .before .before .before .before .before .before .before .before .before .before .before .before .before .before .before .before .before .before .before .args .pass .fuel) (decode (c .before .before .before .before .before .before .before .before .before .before .before .before .before .before .before .before .before .before .before .before .before .before .args .text .now)) (w .busy) (w .state .kept) (c .before .before .before .before .before .before .before .before .before .before .inst-module .result))) (c .before .before .before .before .enum-told .given .1) (c .before .before .before .before .before .before .before .before .comb-summary .ensures .0 (w .state .kept) (w .busy) (G .tabled) (G .holding .keeps))), (cleared-of (length (c .before .before .before .before .before .before .before .before .before .before .before .before .before .before .before .before .before .before .before .before .before .before .args .g .now)) (c .before .before .clear3 .last .0) (c .before .before .clear3 .ensures), ask-cleared (c .before .before .before .before .before .before .before .before .comb-summary .result) (c .before .before .before .before .before .before .before .before .comb-summary .last .1 .1 .1 .1 .1 .0) (c .before .before .before .before .enum-told .given .1) (c .before .before .before .before .before .before .before .before .comb-summary .ensures .1)))
+inst-edges-returns-2 t c = (λ mo own from w G. summary-full (c .before .before .before .before .before .before .before .before .before .before .before .before .before .before .before .before .before .before .before .before .before .before .args .pass .fuel) (c .before .before .before .before .before .before .before .before .before .before .before .before .before .before .before .before .before .before .before .before .before .before .args .text .now) (c .before .before .before .before .before .before .before .before .before .before .before .before .before .before .before .before .before .before .before .before .before .before .args .kinds .now) (c .before .before .before .before .before .before .before .before .before .before .before .before .before .before .before .before .before .before .before .before .before .before .args .mods .now) (c .before .before .before .before .before .before .before .before .before .before .before .before .before .before .before .before .before .before .before .before .before .before .args .pass .count) (c .before .before .before .before .before .before .before .before .before .before .before .before .before .before .before .before .before .before .before .before .before .before .args .x .now) (c .before .before .before .before .before .before .before .before .before .before .before .before .before .before .before .before .before .before .before .before .before .before .args .pass .depth) (c .before .before .before .before .before .before .before .before .before .before .before .before .before .before .before .before .before .before .before .before .before .before .args .ks .now) (c .before .before .before .before .before .before .before .before .before .before .before .before .before .before .before .before .before .before .before .before .before .before .args .names .now) (c .before .before .before .before .before .before .before .before .before .before .before .before .before .before .before .before .before .before .before .before .before .before .args .pass .used) (c .before .before .before .before .before .before .before .before .before .before .before .before .before .before .before .before .before .before .before .before .before .before .args .g .now) (c .before .before .before .before .before .before .before .before .before .before .before .before .before .before .before .before .before .before .before .before .before .before .args .k .now) mo own from w G _ (c .before .before .before .before .before .before .before .before .before .before .before .before .before .inst-index .ensures) (sym (c .before .before .before .before .before .before .before .before .before .before .before .before .is-outside .ensures ∙ outside-number (c .before .before .before .before .before .before .before .before .before .before .before .before .before .inst-index .result)) ∙ c .before .before .before .before .before .before .before .before .before .before .before .if1 .left) (c .before .before .before .before .before .before .before .before .before .before .inst-module .result) (c .before .before .before .before .before .before .before .before .before .before .inst-module .ensures) (subst (λ x. AskedFor x (c .before .before .before .before .before .before .before .before .comb-summary .last .1 .1 .1 .1 .1 .0) (c .before .before .before .before .before .before .before .before .before .before .inst-module .result) (w .busy) (ask-walk (c .before .before .before .before .before .before .before .before .before .before .before .before .before .before .before .before .before .before .before .before .before .before .args .pass .fuel) (decode (c .before .before .before .before .before .before .before .before .before .before .before .before .before .before .before .before .before .before .before .before .before .before .args .text .now)) (w .busy) (w .state .kept) (c .before .before .before .before .before .before .before .before .before .before .inst-module .result))) (c .before .before .before .before .enum-told .given .1) (c .before .before .before .before .before .before .before .before .comb-summary .ensures .0 (w .state .kept) (w .busy) (G .tabled) (G .holding .keeps))), (cleared-of (length (c .before .before .before .before .before .before .before .before .before .before .before .before .before .before .before .before .before .before .before .before .before .before .args .g .now)) (c .before .before .clear3 .last .0) (c .before .before .clear3 .ensures), ask-cleared (c .before .before .before .before .before .before .before .before .comb-summary .result) (c .before .before .before .before .before .before .before .before .comb-summary .last .1 .1 .1 .1 .1 .0) (c .before .before .before .before .enum-told .given .1) (c .before .before .before .before .before .before .before .before .comb-summary .ensures .1)))
 
 inst-edges-same-length-5 : (t : ℕ) → inst-edges-lts.Need-same-length-5 (inst-edges-claims t) (inst-edges-at t) inst-edges.Post
 inst-edges-same-length-5 t c = c .before .before .before .before .inst-line .kept .1 .1 .1 .1 .1 .1 .1 .1 .1 .0
@@ -609,7 +610,7 @@ inst-edges-same-length-6 : (t : ℕ) → inst-edges-lts.Need-same-length-6 (inst
 inst-edges-same-length-6 t c = c .before .before .before .before .inst-line .kept .1 .1 .1 .0 ∙ c .before .before .before .before .before .before .before .before .before .before .before .comb-summary .kept .1 .1 .1 .1 .1 .0
 
 inst-edges-returns-3 : (t : ℕ) → inst-edges-lts.Need-returns-3 (inst-edges-claims t) (inst-edges-at t) inst-edges.Post
-inst-edges-returns-3 t c = (λ mo own from w G. inst-stepped (c .before .before .before .before .inst-line .result) mo (c .before .before .before .before .before .before .before .before .before .before .before .before .before .before .before .before .before .before .before .before .before .before .before .before .before .args .text .now) own (c .before .before .before .before .inst-line .last .1 .1 .1 .1 .1 .1 .1 .1 .1 .0) (c .before .before .before .before .before .before .before .before .before .before .before .comb-summary .last .1 .1 .1 .1 .1 .0) (c .before .before .before .before .inst-line .last .1 .1 .1 .0) (w .busy) _ (c .before .before .before .before .inst-line .ensures .1) (summary-empty (c .before .before .before .before .before .before .before .before .before .before .before .before .before .before .before .before .before .before .before .before .before .before .before .before .before .args .pass .fuel) (c .before .before .before .before .before .before .before .before .before .before .before .before .before .before .before .before .before .before .before .before .before .before .before .before .before .args .text .now) (c .before .before .before .before .before .before .before .before .before .before .before .before .before .before .before .before .before .before .before .before .before .before .before .before .before .args .kinds .now) (c .before .before .before .before .before .before .before .before .before .before .before .before .before .before .before .before .before .before .before .before .before .before .before .before .before .args .mods .now) (c .before .before .before .before .before .before .before .before .before .before .before .before .before .before .before .before .before .before .before .before .before .before .before .before .before .args .pass .count) (c .before .before .before .before .before .before .before .before .before .before .before .before .before .before .before .before .before .before .before .before .before .before .before .before .before .args .x .now) (c .before .before .before .before .before .before .before .before .before .before .before .before .before .before .before .before .before .before .before .before .before .before .before .before .before .args .pass .depth) (c .before .before .before .before .before .before .before .before .before .before .before .before .before .before .before .before .before .before .before .before .before .before .before .before .before .args .ks .now) (c .before .before .before .before .before .before .before .before .before .before .before .before .before .before .before .before .before .before .before .before .before .before .before .before .before .args .names .now) (c .before .before .before .before .before .before .before .before .before .before .before .before .before .before .before .before .before .before .before .before .before .before .before .before .before .args .pass .used) (c .before .before .before .before .before .before .before .before .before .before .before .before .before .before .before .before .before .before .before .before .before .before .before .before .before .args .g .now) (c .before .before .before .before .before .before .before .before .before .before .before .before .before .before .before .before .before .before .before .before .before .before .before .before .before .args .k .now) mo own from w G _ (c .before .before .before .before .before .before .before .before .before .before .before .before .before .before .before .before .inst-index .ensures) (sym (c .before .before .before .before .before .before .before .before .before .before .before .before .before .before .before .is-outside .ensures) ∙ c .before .before .before .before .before .before .before .before .before .before .before .before .before .before .if1 .left) (c .before .before .before .before .before .before .before .before .before .before .before .before .before .inst-module .result) (c .before .before .before .before .before .before .before .before .before .before .before .before .before .inst-module .ensures) (c .before .before .before .before .before .before .before .before .before .before .before .comb-summary .last .1 .1 .1 .1 .1 .0) (subst (λ x. AskedFor x (c .before .before .before .before .before .before .before .before .before .before .before .comb-summary .last .1 .1 .1 .1 .1 .0) (c .before .before .before .before .before .before .before .before .before .before .before .before .before .inst-module .result) (w .busy) (ask-walk (c .before .before .before .before .before .before .before .before .before .before .before .before .before .before .before .before .before .before .before .before .before .before .before .before .before .args .pass .fuel) (decode (c .before .before .before .before .before .before .before .before .before .before .before .before .before .before .before .before .before .before .before .before .before .before .before .before .before .args .text .now)) (w .busy) (w .state .kept) (c .before .before .before .before .before .before .before .before .before .before .before .before .before .inst-module .result))) (c .before .before .before .before .before .before .before .enum-told2 .given .1) (c .before .before .before .before .before .before .before .before .before .before .before .comb-summary .ensures .0 (w .state .kept) (w .busy) (G .tabled) (G .holding .keeps))) (c .before .before .before .before .inst-line .result) (c .before .before .before .before .inst-line .last .1 .1 .1 .1 .1 .1 .1 .1 .1 .0) (c .before .before .before .before .inst-line .ensures .0)), inst-cleared (c .before .before .before .before .inst-line .result) (c .before .before .before .before .inst-line .last .1 .1 .1 .1 .1 .1 .1 .1 .1 .0) (c .before .before .before .before .before .before .before .before .before .before .before .comb-summary .last .1 .1 .1 .1 .1 .0) (c .before .before .before .before .inst-line .last .1 .1 .1 .0) (c .before .before .before .before .inst-line .ensures .1))
+inst-edges-returns-3 t c = (λ mo own from w G. inst-stepped (c .before .before .before .before .inst-line .result) mo (c .before .before .before .before .before .before .before .before .before .before .before .before .before .before .before .before .before .before .before .before .before .before .before .before .before .args .text .now) own (c .before .before .before .before .inst-line .last .1 .1 .1 .1 .1 .1 .1 .1 .1 .0) (c .before .before .before .before .before .before .before .before .before .before .before .comb-summary .last .1 .1 .1 .1 .1 .0) (c .before .before .before .before .inst-line .last .1 .1 .1 .0) (w .busy) _ (c .before .before .before .before .inst-line .ensures .1) (summary-empty (c .before .before .before .before .before .before .before .before .before .before .before .before .before .before .before .before .before .before .before .before .before .before .before .before .before .args .pass .fuel) (c .before .before .before .before .before .before .before .before .before .before .before .before .before .before .before .before .before .before .before .before .before .before .before .before .before .args .text .now) (c .before .before .before .before .before .before .before .before .before .before .before .before .before .before .before .before .before .before .before .before .before .before .before .before .before .args .kinds .now) (c .before .before .before .before .before .before .before .before .before .before .before .before .before .before .before .before .before .before .before .before .before .before .before .before .before .args .mods .now) (c .before .before .before .before .before .before .before .before .before .before .before .before .before .before .before .before .before .before .before .before .before .before .before .before .before .args .pass .count) (c .before .before .before .before .before .before .before .before .before .before .before .before .before .before .before .before .before .before .before .before .before .before .before .before .before .args .x .now) (c .before .before .before .before .before .before .before .before .before .before .before .before .before .before .before .before .before .before .before .before .before .before .before .before .before .args .pass .depth) (c .before .before .before .before .before .before .before .before .before .before .before .before .before .before .before .before .before .before .before .before .before .before .before .before .before .args .ks .now) (c .before .before .before .before .before .before .before .before .before .before .before .before .before .before .before .before .before .before .before .before .before .before .before .before .before .args .names .now) (c .before .before .before .before .before .before .before .before .before .before .before .before .before .before .before .before .before .before .before .before .before .before .before .before .before .args .pass .used) (c .before .before .before .before .before .before .before .before .before .before .before .before .before .before .before .before .before .before .before .before .before .before .before .before .before .args .g .now) (c .before .before .before .before .before .before .before .before .before .before .before .before .before .before .before .before .before .before .before .before .before .before .before .before .before .args .k .now) mo own from w G _ (c .before .before .before .before .before .before .before .before .before .before .before .before .before .before .before .before .inst-index .ensures) (sym (c .before .before .before .before .before .before .before .before .before .before .before .before .before .before .before .is-outside .ensures ∙ outside-number (c .before .before .before .before .before .before .before .before .before .before .before .before .before .before .before .before .inst-index .result)) ∙ c .before .before .before .before .before .before .before .before .before .before .before .before .before .before .if1 .left) (c .before .before .before .before .before .before .before .before .before .before .before .before .before .inst-module .result) (c .before .before .before .before .before .before .before .before .before .before .before .before .before .inst-module .ensures) (c .before .before .before .before .before .before .before .before .before .before .before .comb-summary .last .1 .1 .1 .1 .1 .0) (subst (λ x. AskedFor x (c .before .before .before .before .before .before .before .before .before .before .before .comb-summary .last .1 .1 .1 .1 .1 .0) (c .before .before .before .before .before .before .before .before .before .before .before .before .before .inst-module .result) (w .busy) (ask-walk (c .before .before .before .before .before .before .before .before .before .before .before .before .before .before .before .before .before .before .before .before .before .before .before .before .before .args .pass .fuel) (decode (c .before .before .before .before .before .before .before .before .before .before .before .before .before .before .before .before .before .before .before .before .before .before .before .before .before .args .text .now)) (w .busy) (w .state .kept) (c .before .before .before .before .before .before .before .before .before .before .before .before .before .inst-module .result))) (c .before .before .before .before .before .before .before .enum-told2 .given .1) (c .before .before .before .before .before .before .before .before .before .before .before .comb-summary .ensures .0 (w .state .kept) (w .busy) (G .tabled) (G .holding .keeps))) (c .before .before .before .before .inst-line .result) (c .before .before .before .before .inst-line .last .1 .1 .1 .1 .1 .1 .1 .1 .1 .0) (c .before .before .before .before .inst-line .ensures .0)), inst-cleared (c .before .before .before .before .inst-line .result) (c .before .before .before .before .inst-line .last .1 .1 .1 .1 .1 .1 .1 .1 .1 .0) (c .before .before .before .before .before .before .before .before .before .before .before .comb-summary .last .1 .1 .1 .1 .1 .0) (c .before .before .before .before .inst-line .last .1 .1 .1 .0) (c .before .before .before .before .inst-line .ensures .1))
 
 inst-edges-same-length-7 : (t : ℕ) → inst-edges-lts.Need-same-length-7 (inst-edges-claims t) (inst-edges-at t) inst-edges.Post
 inst-edges-same-length-7 t c = c .before .before .before .before .inst-line2 .kept .1 .1 .1 .1 .1 .1 .1 .1 .1 .0
@@ -618,7 +619,7 @@ inst-edges-same-length-8 : (t : ℕ) → inst-edges-lts.Need-same-length-8 (inst
 inst-edges-same-length-8 t c = c .before .before .before .before .inst-line2 .kept .1 .1 .1 .0 ∙ c .before .before .before .before .before .before .before .before .before .before .before .before .before .before .before .comb-summary .kept .1 .1 .1 .1 .1 .0
 
 inst-edges-returns-4 : (t : ℕ) → inst-edges-lts.Need-returns-4 (inst-edges-claims t) (inst-edges-at t) inst-edges.Post
-inst-edges-returns-4 t c = (λ mo own from w G. inst-stepped (c .before .before .before .before .inst-line2 .result) mo (c .before .before .before .before .before .before .before .before .before .before .before .before .before .before .before .before .before .before .before .before .before .before .before .before .before .before .before .before .before .args .text .now) own (c .before .before .before .before .inst-line2 .last .1 .1 .1 .1 .1 .1 .1 .1 .1 .0) (c .before .before .before .before .before .before .before .before .before .before .before .before .before .before .before .comb-summary .last .1 .1 .1 .1 .1 .0) (c .before .before .before .before .inst-line2 .last .1 .1 .1 .0) (w .busy) _ (c .before .before .before .before .inst-line2 .ensures .1) (summary-kept (c .before .before .before .before .before .before .before .before .before .before .before .before .before .before .before .before .before .before .before .before .before .before .before .before .before .before .before .before .before .args .pass .fuel) (c .before .before .before .before .before .before .before .before .before .before .before .before .before .before .before .before .before .before .before .before .before .before .before .before .before .before .before .before .before .args .text .now) (c .before .before .before .before .before .before .before .before .before .before .before .before .before .before .before .before .before .before .before .before .before .before .before .before .before .before .before .before .before .args .kinds .now) (c .before .before .before .before .before .before .before .before .before .before .before .before .before .before .before .before .before .before .before .before .before .before .before .before .before .before .before .before .before .args .mods .now) (c .before .before .before .before .before .before .before .before .before .before .before .before .before .before .before .before .before .before .before .before .before .before .before .before .before .before .before .before .before .args .pass .count) (c .before .before .before .before .before .before .before .before .before .before .before .before .before .before .before .before .before .before .before .before .before .before .before .before .before .before .before .before .before .args .x .now) (c .before .before .before .before .before .before .before .before .before .before .before .before .before .before .before .before .before .before .before .before .before .before .before .before .before .before .before .before .before .args .pass .depth) (c .before .before .before .before .before .before .before .before .before .before .before .before .before .before .before .before .before .before .before .before .before .before .before .before .before .before .before .before .before .args .ks .now) (c .before .before .before .before .before .before .before .before .before .before .before .before .before .before .before .before .before .before .before .before .before .before .before .before .before .before .before .before .before .args .names .now) (c .before .before .before .before .before .before .before .before .before .before .before .before .before .before .before .before .before .before .before .before .before .before .before .before .before .before .before .before .before .args .pass .used) (c .before .before .before .before .before .before .before .before .before .before .before .before .before .before .before .before .before .before .before .before .before .before .before .before .before .before .before .before .before .args .g .now) (c .before .before .before .before .before .before .before .before .before .before .before .before .before .before .before .before .before .before .before .before .before .before .before .before .before .before .before .before .before .args .k .now) mo own from w G _ (c .before .before .before .before .before .before .before .before .before .before .before .before .before .before .before .before .before .before .before .before .inst-index .ensures) (sym (c .before .before .before .before .before .before .before .before .before .before .before .before .before .before .before .before .before .before .before .is-outside .ensures) ∙ c .before .before .before .before .before .before .before .before .before .before .before .before .before .before .before .before .before .before .if1 .left) (c .before .before .before .before .before .before .before .before .before .before .before .before .before .before .before .before .before .inst-module .result) (c .before .before .before .before .before .before .before .before .before .before .before .before .before .before .before .before .before .inst-module .ensures) (c .before .before .before .before .before .before .before .before .before .before .before .before .before .before .before .comb-summary .last .1 .1 .1 .1 .1 .0) (subst (λ x. AskedFor x (c .before .before .before .before .before .before .before .before .before .before .before .before .before .before .before .comb-summary .last .1 .1 .1 .1 .1 .0) (c .before .before .before .before .before .before .before .before .before .before .before .before .before .before .before .before .before .inst-module .result) (w .busy) (ask-walk (c .before .before .before .before .before .before .before .before .before .before .before .before .before .before .before .before .before .before .before .before .before .before .before .before .before .before .before .before .before .args .pass .fuel) (decode (c .before .before .before .before .before .before .before .before .before .before .before .before .before .before .before .before .before .before .before .before .before .before .before .before .before .before .before .before .before .args .text .now)) (w .busy) (w .state .kept) (c .before .before .before .before .before .before .before .before .before .before .before .before .before .before .before .before .before .inst-module .result))) (c .before .before .before .before .before .before .before .before .before .before .before .enum-told3 .given .1) (c .before .before .before .before .before .before .before .before .before .before .before .before .before .before .before .comb-summary .ensures .0 (w .state .kept) (w .busy) (G .tabled) (G .holding .keeps))) (c .before .before .before .before .before .before .before .before .before .first .result) (c .before .before .before .before .before .before .before .count .result) (c .before .before .before .before .before .before .before .before .before .first .ensures) (c .before .before .before .before .before .before .before .count .ensures) (c .before .before .before .before .inst-line2 .result) (c .before .before .before .before .inst-line2 .last .1 .1 .1 .1 .1 .1 .1 .1 .1 .0) (c .before .before .before .before .inst-line2 .ensures .0)), inst-cleared (c .before .before .before .before .inst-line2 .result) (c .before .before .before .before .inst-line2 .last .1 .1 .1 .1 .1 .1 .1 .1 .1 .0) (c .before .before .before .before .before .before .before .before .before .before .before .before .before .before .before .comb-summary .last .1 .1 .1 .1 .1 .0) (c .before .before .before .before .inst-line2 .last .1 .1 .1 .0) (c .before .before .before .before .inst-line2 .ensures .1))
+inst-edges-returns-4 t c = (λ mo own from w G. inst-stepped (c .before .before .before .before .inst-line2 .result) mo (c .before .before .before .before .before .before .before .before .before .before .before .before .before .before .before .before .before .before .before .before .before .before .before .before .before .before .before .before .before .args .text .now) own (c .before .before .before .before .inst-line2 .last .1 .1 .1 .1 .1 .1 .1 .1 .1 .0) (c .before .before .before .before .before .before .before .before .before .before .before .before .before .before .before .comb-summary .last .1 .1 .1 .1 .1 .0) (c .before .before .before .before .inst-line2 .last .1 .1 .1 .0) (w .busy) _ (c .before .before .before .before .inst-line2 .ensures .1) (summary-kept (c .before .before .before .before .before .before .before .before .before .before .before .before .before .before .before .before .before .before .before .before .before .before .before .before .before .before .before .before .before .args .pass .fuel) (c .before .before .before .before .before .before .before .before .before .before .before .before .before .before .before .before .before .before .before .before .before .before .before .before .before .before .before .before .before .args .text .now) (c .before .before .before .before .before .before .before .before .before .before .before .before .before .before .before .before .before .before .before .before .before .before .before .before .before .before .before .before .before .args .kinds .now) (c .before .before .before .before .before .before .before .before .before .before .before .before .before .before .before .before .before .before .before .before .before .before .before .before .before .before .before .before .before .args .mods .now) (c .before .before .before .before .before .before .before .before .before .before .before .before .before .before .before .before .before .before .before .before .before .before .before .before .before .before .before .before .before .args .pass .count) (c .before .before .before .before .before .before .before .before .before .before .before .before .before .before .before .before .before .before .before .before .before .before .before .before .before .before .before .before .before .args .x .now) (c .before .before .before .before .before .before .before .before .before .before .before .before .before .before .before .before .before .before .before .before .before .before .before .before .before .before .before .before .before .args .pass .depth) (c .before .before .before .before .before .before .before .before .before .before .before .before .before .before .before .before .before .before .before .before .before .before .before .before .before .before .before .before .before .args .ks .now) (c .before .before .before .before .before .before .before .before .before .before .before .before .before .before .before .before .before .before .before .before .before .before .before .before .before .before .before .before .before .args .names .now) (c .before .before .before .before .before .before .before .before .before .before .before .before .before .before .before .before .before .before .before .before .before .before .before .before .before .before .before .before .before .args .pass .used) (c .before .before .before .before .before .before .before .before .before .before .before .before .before .before .before .before .before .before .before .before .before .before .before .before .before .before .before .before .before .args .g .now) (c .before .before .before .before .before .before .before .before .before .before .before .before .before .before .before .before .before .before .before .before .before .before .before .before .before .before .before .before .before .args .k .now) mo own from w G _ (c .before .before .before .before .before .before .before .before .before .before .before .before .before .before .before .before .before .before .before .before .inst-index .ensures) (sym (c .before .before .before .before .before .before .before .before .before .before .before .before .before .before .before .before .before .before .before .is-outside .ensures ∙ outside-number (c .before .before .before .before .before .before .before .before .before .before .before .before .before .before .before .before .before .before .before .before .inst-index .result)) ∙ c .before .before .before .before .before .before .before .before .before .before .before .before .before .before .before .before .before .before .if1 .left) (c .before .before .before .before .before .before .before .before .before .before .before .before .before .before .before .before .before .inst-module .result) (c .before .before .before .before .before .before .before .before .before .before .before .before .before .before .before .before .before .inst-module .ensures) (c .before .before .before .before .before .before .before .before .before .before .before .before .before .before .before .comb-summary .last .1 .1 .1 .1 .1 .0) (subst (λ x. AskedFor x (c .before .before .before .before .before .before .before .before .before .before .before .before .before .before .before .comb-summary .last .1 .1 .1 .1 .1 .0) (c .before .before .before .before .before .before .before .before .before .before .before .before .before .before .before .before .before .inst-module .result) (w .busy) (ask-walk (c .before .before .before .before .before .before .before .before .before .before .before .before .before .before .before .before .before .before .before .before .before .before .before .before .before .before .before .before .before .args .pass .fuel) (decode (c .before .before .before .before .before .before .before .before .before .before .before .before .before .before .before .before .before .before .before .before .before .before .before .before .before .before .before .before .before .args .text .now)) (w .busy) (w .state .kept) (c .before .before .before .before .before .before .before .before .before .before .before .before .before .before .before .before .before .inst-module .result))) (c .before .before .before .before .before .before .before .before .before .before .before .enum-told3 .given .1) (c .before .before .before .before .before .before .before .before .before .before .before .before .before .before .before .comb-summary .ensures .0 (w .state .kept) (w .busy) (G .tabled) (G .holding .keeps))) (c .before .before .before .before .before .before .before .before .before .first .result) (c .before .before .before .before .before .before .before .count .result) (c .before .before .before .before .before .before .before .before .before .first .ensures) (c .before .before .before .before .before .before .before .count .ensures) (c .before .before .before .before .inst-line2 .result) (c .before .before .before .before .inst-line2 .last .1 .1 .1 .1 .1 .1 .1 .1 .1 .0) (c .before .before .before .before .inst-line2 .ensures .0)), inst-cleared (c .before .before .before .before .inst-line2 .result) (c .before .before .before .before .inst-line2 .last .1 .1 .1 .1 .1 .1 .1 .1 .1 .0) (c .before .before .before .before .before .before .before .before .before .before .before .before .before .before .before .comb-summary .last .1 .1 .1 .1 .1 .0) (c .before .before .before .before .inst-line2 .last .1 .1 .1 .0) (c .before .before .before .before .inst-line2 .ensures .1))
 
 make-summary-clear-requires : (t : ℕ) → make-summary-lts.Need-clear-requires (make-summary-claims t) (make-summary-at t) make-summary.Post
 make-summary-clear-requires t c κs = search needs
@@ -688,7 +689,7 @@ make-summary-same-length-3 : (t : ℕ) → make-summary-lts.Need-same-length-3 (
 make-summary-same-length-3 t c = c .before .before .before .before .before .before .before .collect-items .kept .1 .1 .1 .1 .1 .1 .1 .1 .1 .1 .1 .0 ∙ c .before .before .before .before .before .before .before .before .before .before .before .before .before .before .before .before .before .begin .kept .0
 
 make-summary-returns-3 : (t : ℕ) → make-summary-lts.Need-returns-3 (make-summary-claims t) (make-summary-at t) make-summary.Post
-make-summary-returns-3 t c = (λ kept busy t h small new free. make-stops (c .before .before .before .before .before .before .before .before .before .before .before .before .before .before .before .before .before .before .before .before .before .before .before .before .before .before .before .before .before .before .args .text .now) (c .before .before .before .before .before .before .before .before .before .before .before .before .before .before .before .before .before .before .before .before .before .before .before .before .before .before .before .before .before .before .args .kinds .now) (c .before .before .before .before .before .before .before .before .before .before .before .before .before .before .before .before .before .before .before .before .before .before .before .before .before .before .before .before .before .before .args .mods .now) (c .before .before .before .before .before .before .before .before .before .before .before .before .before .before .before .before .before .before .before .before .before .before .before .before .before .before .before .before .before .before .args .pass .count) (c .before .before .before .before .before .before .before .before .before .before .before .before .before .before .before .before .before .before .before .before .before .before .before .before .before .before .before .before .before .before .args .m) (c .before .before .before .before .before .before .before .before .before .before .before .before .before .before .before .before .before .before .before .before .before .before .before .before .before .before .before .before .before .before .args .k .now) kept busy t h (c .before .before .before .before .before .before .before .before .before .before .before .before .before .before .before .before .before .before .before .before .before .before .before .before .before .before .before .before .before .before .args .pass .fuel) small new free (c .before .before .before .before .before .before .before .before .before .before .before .before .before .before .before .before .before .before .before .before .before .before .before .names-of-module .result) (c .before .before .before .before .before .before .before .before .before .before .before .before .before .before .before .before .before .before .before .before .before .before .before .names-of-module .last .1 .1 .1 .0) (λ x M. c .before .before .before .before .before .before .before .before .before .before .before .before .before .before .before .before .before .before .before .before .before .before .before .names-of-module .ensures .1 .1 x M (omega (arith, length-replicate {A = ℕ} 6616 0))) _ (c .before .before .before .before .before .before .before .before .before .before .before .before .before .before .before .before .before .before .before .before .used .given .1) _ _ (c .before .before .before .before .before .before .before .before .before .before .before .before .before .before .before .before .before .begin .last .0) (stands-empty 16898 (omega arith)) (c .before .before .before .before .before .before .before .before .before .before .before .before .before .before .before .before .before .begin .ensures .0) (c .before .before .before .before .before .before .before .before .before .before .before .before .before .before .items-of-module .result .now) (c .before .before .before .before .before .before .before .before .before .before .before .before .before .before .items-of-module .ensures) (c .before .before .before .before .before .before .before .before .before .before .before .before .run-at .result) (c .before .before .before .before .before .before .before .before .before .before .before .before .run-at .ensures) (c .before .before .before .before .before .before .before .before .before .before .before .before .before .module-kinds .result .now) (c .before .before .before .before .before .before .before .before .before .before .before .before .before .module-kinds .ensures) (c .before .before .before .before .before .before .before .collect-items .result) (c .before .before .before .before .before .before .before .collect-items .last .1 .1 .1 .1 .1 .1 .1 .1 .1 .0) (c .before .before .before .before .before .before .before .collect-items .last .1 .1 .1 .1 .1 .1 .1 .1 .1 .1 .0) (c .before .before .before .before .before .before .before .collect-items .last .1 .1 .1 .1 .1 .1 .1 .1 .1 .1 .1 .0) (c .before .before .before .before .before .before .before .collect-items .ensures .0) (c .enum-told3 .given .1), (walk-cleared (c .before .before .before .before .before .before .before .collect-items .result) false _ _ _ _ (c .enum-told3 .given .1) (c .before .before .before .before .before .before .before .collect-items .ensures .1 .1)) .2)
+make-summary-returns-3 t c = (λ kept busy t h small new free. make-stops (c .before .before .before .before .before .before .before .before .before .before .before .before .before .before .before .before .before .before .before .before .before .before .before .before .before .before .before .before .before .before .args .text .now) (c .before .before .before .before .before .before .before .before .before .before .before .before .before .before .before .before .before .before .before .before .before .before .before .before .before .before .before .before .before .before .args .kinds .now) (c .before .before .before .before .before .before .before .before .before .before .before .before .before .before .before .before .before .before .before .before .before .before .before .before .before .before .before .before .before .before .args .mods .now) (c .before .before .before .before .before .before .before .before .before .before .before .before .before .before .before .before .before .before .before .before .before .before .before .before .before .before .before .before .before .before .args .pass .count) (c .before .before .before .before .before .before .before .before .before .before .before .before .before .before .before .before .before .before .before .before .before .before .before .before .before .before .before .before .before .before .args .m) (c .before .before .before .before .before .before .before .before .before .before .before .before .before .before .before .before .before .before .before .before .before .before .before .before .before .before .before .before .before .before .args .k .now) kept busy t h (c .before .before .before .before .before .before .before .before .before .before .before .before .before .before .before .before .before .before .before .before .before .before .before .before .before .before .before .before .before .before .args .pass .fuel) small new free (c .before .before .before .before .before .before .before .before .before .before .before .before .before .before .before .before .before .before .before .before .before .before .before .names-of-module .result) (c .before .before .before .before .before .before .before .before .before .before .before .before .before .before .before .before .before .before .before .before .before .before .before .names-of-module .last .1 .1 .1 .0) (λ x M. c .before .before .before .before .before .before .before .before .before .before .before .before .before .before .before .before .before .before .before .before .before .before .before .names-of-module .ensures .1 .1 x M (omega (arith, length-replicate {A = ℕ} 6616 0))) _ (c .before .before .before .before .before .before .before .before .before .before .before .before .before .before .before .before .before .before .before .before .used .given .1) _ _ (c .before .before .before .before .before .before .before .before .before .before .before .before .before .before .before .before .before .begin .last .0) (stands-empty 16898 (omega arith)) (c .before .before .before .before .before .before .before .before .before .before .before .before .before .before .before .before .before .begin .ensures) (c .before .before .before .before .before .before .before .before .before .before .before .before .before .before .items-of-module .result .now) (c .before .before .before .before .before .before .before .before .before .before .before .before .before .before .items-of-module .ensures) (c .before .before .before .before .before .before .before .before .before .before .before .before .run-at .result) (c .before .before .before .before .before .before .before .before .before .before .before .before .run-at .ensures) (c .before .before .before .before .before .before .before .before .before .before .before .before .before .module-kinds .result .now) (c .before .before .before .before .before .before .before .before .before .before .before .before .before .module-kinds .ensures) (c .before .before .before .before .before .before .before .collect-items .result) (c .before .before .before .before .before .before .before .collect-items .last .1 .1 .1 .1 .1 .1 .1 .1 .1 .0) (c .before .before .before .before .before .before .before .collect-items .last .1 .1 .1 .1 .1 .1 .1 .1 .1 .1 .0) (c .before .before .before .before .before .before .before .collect-items .last .1 .1 .1 .1 .1 .1 .1 .1 .1 .1 .1 .0) (c .before .before .before .before .before .before .before .collect-items .ensures .0) (c .enum-told3 .given .1), (walk-cleared (c .before .before .before .before .before .before .before .collect-items .result) false _ _ _ _ (c .enum-told3 .given .1) (c .before .before .before .before .before .before .before .collect-items .ensures .1 .1)) .2)
 
 make-summary-slice-aggregate-summarise : (t : ℕ) → make-summary-lts.Need-slice-aggregate-summarise (make-summary-claims t) (make-summary-at t) make-summary.Post
 make-summary-slice-aggregate-summarise t c = search needs
@@ -700,13 +701,13 @@ make-summary-same-length-4 : (t : ℕ) → make-summary-lts.Need-same-length-4 (
 make-summary-same-length-4 t c = c .before .before .before .summarise .kept .1 .1 .1 .0 ∙ c .before .before .before .before .before .before .before .before .before .before .before .before .before .collect-items .kept .1 .1 .1 .1 .1 .1 .1 .1 .1 .1 .1 .0 ∙ c .before .before .before .before .before .before .before .before .before .before .before .before .before .before .before .before .before .before .before .before .before .before .before .begin .kept .0
 
 make-summary-returns-4 : (t : ℕ) → make-summary-lts.Need-returns-4 (make-summary-claims t) (make-summary-at t) make-summary.Post
-make-summary-returns-4 t c = (λ kept busy t h small new free. make-kept (c .before .before .before .before .before .before .before .before .before .before .before .before .before .before .before .before .before .before .before .before .before .before .before .before .before .before .before .before .before .before .before .before .before .before .before .before .args .text .now) (c .before .before .before .before .before .before .before .before .before .before .before .before .before .before .before .before .before .before .before .before .before .before .before .before .before .before .before .before .before .before .before .before .before .before .before .before .args .kinds .now) (c .before .before .before .before .before .before .before .before .before .before .before .before .before .before .before .before .before .before .before .before .before .before .before .before .before .before .before .before .before .before .before .before .before .before .before .before .args .mods .now) (c .before .before .before .before .before .before .before .before .before .before .before .before .before .before .before .before .before .before .before .before .before .before .before .before .before .before .before .before .before .before .before .before .before .before .before .before .args .pass .count) (c .before .before .before .before .before .before .before .before .before .before .before .before .before .before .before .before .before .before .before .before .before .before .before .before .before .before .before .before .before .before .before .before .before .before .before .before .args .m) (c .before .before .before .before .before .before .before .before .before .before .before .before .before .before .before .before .before .before .before .before .before .before .before .before .before .before .before .before .before .before .before .before .before .before .before .before .args .k .now) kept busy t h (c .before .before .before .before .before .before .before .before .before .before .before .before .before .before .before .before .before .before .before .before .before .before .before .before .before .before .before .before .before .before .before .before .before .before .before .before .args .pass .fuel) small new free (c .before .before .before .before .before .before .before .before .before .before .before .before .before .before .before .before .before .before .before .before .before .before .before .before .before .before .before .before .before .names-of-module .result) (c .before .before .before .before .before .before .before .before .before .before .before .before .before .before .before .before .before .before .before .before .before .before .before .before .before .before .before .before .before .names-of-module .last .1 .1 .1 .0) (λ x M. c .before .before .before .before .before .before .before .before .before .before .before .before .before .before .before .before .before .before .before .before .before .before .before .before .before .before .before .before .before .names-of-module .ensures .1 .1 x M (omega (arith, length-replicate {A = ℕ} 6616 0))) _ (c .before .before .before .before .before .before .before .before .before .before .before .before .before .before .before .before .before .before .before .before .before .before .before .before .before .before .used .given .1) _ _ (c .before .before .before .before .before .before .before .before .before .before .before .before .before .before .before .before .before .before .before .before .before .before .before .begin .last .0) (stands-empty 16898 (omega arith)) (c .before .before .before .before .before .before .before .before .before .before .before .before .before .before .before .before .before .before .before .before .before .before .before .begin .ensures .0) (c .before .before .before .before .before .before .before .before .before .before .before .before .before .before .before .before .before .before .before .before .items-of-module .result .now) (c .before .before .before .before .before .before .before .before .before .before .before .before .before .before .before .before .before .before .before .before .items-of-module .ensures) (c .before .before .before .before .before .before .before .before .before .before .before .before .before .before .before .before .before .before .run-at .result) (c .before .before .before .before .before .before .before .before .before .before .before .before .before .before .before .before .before .before .run-at .ensures) (c .before .before .before .before .before .before .before .before .before .before .before .before .before .before .before .before .before .before .before .module-kinds .result .now) (c .before .before .before .before .before .before .before .before .before .before .before .before .before .before .before .before .before .before .before .module-kinds .ensures) (c .before .before .before .before .before .before .before .before .before .before .before .before .before .collect-items .result) (c .before .before .before .before .before .before .before .before .before .before .before .before .before .collect-items .last .1 .1 .1 .1 .1 .1 .1 .1 .1 .0) (c .before .before .before .before .before .before .before .before .before .before .before .before .before .collect-items .last .1 .1 .1 .1 .1 .1 .1 .1 .1 .1 .0) (c .before .before .before .before .before .before .before .before .before .before .before .before .before .collect-items .last .1 .1 .1 .1 .1 .1 .1 .1 .1 .1 .1 .0) (c .before .before .before .before .before .before .before .before .before .before .before .before .before .collect-items .ensures .0) _ (c .before .before .before .before .before .before .enum-told2 .given .1) (c .before .before .before .summarise .result) (c .before .before .before .summarise .last .1 .1 .1 .0) (c .before .before .before .summarise .ensures .0) (c .if2 .taken), tt)
+make-summary-returns-4 t c = (λ kept busy t h small new free. make-kept (c .before .before .before .before .before .before .before .before .before .before .before .before .before .before .before .before .before .before .before .before .before .before .before .before .before .before .before .before .before .before .before .before .before .before .before .before .args .text .now) (c .before .before .before .before .before .before .before .before .before .before .before .before .before .before .before .before .before .before .before .before .before .before .before .before .before .before .before .before .before .before .before .before .before .before .before .before .args .kinds .now) (c .before .before .before .before .before .before .before .before .before .before .before .before .before .before .before .before .before .before .before .before .before .before .before .before .before .before .before .before .before .before .before .before .before .before .before .before .args .mods .now) (c .before .before .before .before .before .before .before .before .before .before .before .before .before .before .before .before .before .before .before .before .before .before .before .before .before .before .before .before .before .before .before .before .before .before .before .before .args .pass .count) (c .before .before .before .before .before .before .before .before .before .before .before .before .before .before .before .before .before .before .before .before .before .before .before .before .before .before .before .before .before .before .before .before .before .before .before .before .args .m) (c .before .before .before .before .before .before .before .before .before .before .before .before .before .before .before .before .before .before .before .before .before .before .before .before .before .before .before .before .before .before .before .before .before .before .before .before .args .k .now) kept busy t h (c .before .before .before .before .before .before .before .before .before .before .before .before .before .before .before .before .before .before .before .before .before .before .before .before .before .before .before .before .before .before .before .before .before .before .before .before .args .pass .fuel) small new free (c .before .before .before .before .before .before .before .before .before .before .before .before .before .before .before .before .before .before .before .before .before .before .before .before .before .before .before .before .before .names-of-module .result) (c .before .before .before .before .before .before .before .before .before .before .before .before .before .before .before .before .before .before .before .before .before .before .before .before .before .before .before .before .before .names-of-module .last .1 .1 .1 .0) (λ x M. c .before .before .before .before .before .before .before .before .before .before .before .before .before .before .before .before .before .before .before .before .before .before .before .before .before .before .before .before .before .names-of-module .ensures .1 .1 x M (omega (arith, length-replicate {A = ℕ} 6616 0))) _ (c .before .before .before .before .before .before .before .before .before .before .before .before .before .before .before .before .before .before .before .before .before .before .before .before .before .before .used .given .1) _ _ (c .before .before .before .before .before .before .before .before .before .before .before .before .before .before .before .before .before .before .before .before .before .before .before .begin .last .0) (stands-empty 16898 (omega arith)) (c .before .before .before .before .before .before .before .before .before .before .before .before .before .before .before .before .before .before .before .before .before .before .before .begin .ensures) (c .before .before .before .before .before .before .before .before .before .before .before .before .before .before .before .before .before .before .before .before .items-of-module .result .now) (c .before .before .before .before .before .before .before .before .before .before .before .before .before .before .before .before .before .before .before .before .items-of-module .ensures) (c .before .before .before .before .before .before .before .before .before .before .before .before .before .before .before .before .before .before .run-at .result) (c .before .before .before .before .before .before .before .before .before .before .before .before .before .before .before .before .before .before .run-at .ensures) (c .before .before .before .before .before .before .before .before .before .before .before .before .before .before .before .before .before .before .before .module-kinds .result .now) (c .before .before .before .before .before .before .before .before .before .before .before .before .before .before .before .before .before .before .before .module-kinds .ensures) (c .before .before .before .before .before .before .before .before .before .before .before .before .before .collect-items .result) (c .before .before .before .before .before .before .before .before .before .before .before .before .before .collect-items .last .1 .1 .1 .1 .1 .1 .1 .1 .1 .0) (c .before .before .before .before .before .before .before .before .before .before .before .before .before .collect-items .last .1 .1 .1 .1 .1 .1 .1 .1 .1 .1 .0) (c .before .before .before .before .before .before .before .before .before .before .before .before .before .collect-items .last .1 .1 .1 .1 .1 .1 .1 .1 .1 .1 .1 .0) (c .before .before .before .before .before .before .before .before .before .before .before .before .before .collect-items .ensures .0) _ (c .before .before .before .before .before .before .enum-told2 .given .1) (c .before .before .before .summarise .result) (c .before .before .before .summarise .last .1 .1 .1 .0) (c .before .before .before .summarise .ensures .0) (c .if2 .taken), tt)
 
 make-summary-same-length-5 : (t : ℕ) → make-summary-lts.Need-same-length-5 (make-summary-claims t) (make-summary-at t) make-summary.Post
 make-summary-same-length-5 t c = c .before .before .before .summarise .kept .1 .1 .1 .0 ∙ c .before .before .before .before .before .before .before .before .before .before .before .before .before .collect-items .kept .1 .1 .1 .1 .1 .1 .1 .1 .1 .1 .1 .0 ∙ c .before .before .before .before .before .before .before .before .before .before .before .before .before .before .before .before .before .before .before .before .before .before .before .begin .kept .0
 
 make-summary-returns-5 : (t : ℕ) → make-summary-lts.Need-returns-5 (make-summary-claims t) (make-summary-at t) make-summary.Post
-make-summary-returns-5 t c = (λ kept busy t h small new free. make-over (c .before .before .before .before .before .before .before .before .before .before .before .before .before .before .before .before .before .before .before .before .before .before .before .before .before .before .before .before .before .before .before .before .before .before .before .before .args .text .now) (c .before .before .before .before .before .before .before .before .before .before .before .before .before .before .before .before .before .before .before .before .before .before .before .before .before .before .before .before .before .before .before .before .before .before .before .before .args .kinds .now) (c .before .before .before .before .before .before .before .before .before .before .before .before .before .before .before .before .before .before .before .before .before .before .before .before .before .before .before .before .before .before .before .before .before .before .before .before .args .mods .now) (c .before .before .before .before .before .before .before .before .before .before .before .before .before .before .before .before .before .before .before .before .before .before .before .before .before .before .before .before .before .before .before .before .before .before .before .before .args .pass .count) (c .before .before .before .before .before .before .before .before .before .before .before .before .before .before .before .before .before .before .before .before .before .before .before .before .before .before .before .before .before .before .before .before .before .before .before .before .args .m) (c .before .before .before .before .before .before .before .before .before .before .before .before .before .before .before .before .before .before .before .before .before .before .before .before .before .before .before .before .before .before .before .before .before .before .before .before .args .k .now) kept busy t h (c .before .before .before .before .before .before .before .before .before .before .before .before .before .before .before .before .before .before .before .before .before .before .before .before .before .before .before .before .before .before .before .before .before .before .before .before .args .pass .fuel) small new free (c .before .before .before .before .before .before .before .before .before .before .before .before .before .before .before .before .before .before .before .before .before .before .before .before .before .before .before .before .before .names-of-module .result) (c .before .before .before .before .before .before .before .before .before .before .before .before .before .before .before .before .before .before .before .before .before .before .before .before .before .before .before .before .before .names-of-module .last .1 .1 .1 .0) (λ x M. c .before .before .before .before .before .before .before .before .before .before .before .before .before .before .before .before .before .before .before .before .before .before .before .before .before .before .before .before .before .names-of-module .ensures .1 .1 x M (omega (arith, length-replicate {A = ℕ} 6616 0))) _ (c .before .before .before .before .before .before .before .before .before .before .before .before .before .before .before .before .before .before .before .before .before .before .before .before .before .before .used .given .1) _ _ (c .before .before .before .before .before .before .before .before .before .before .before .before .before .before .before .before .before .before .before .before .before .before .before .begin .last .0) (stands-empty 16898 (omega arith)) (c .before .before .before .before .before .before .before .before .before .before .before .before .before .before .before .before .before .before .before .before .before .before .before .begin .ensures .0) (c .before .before .before .before .before .before .before .before .before .before .before .before .before .before .before .before .before .before .before .before .items-of-module .result .now) (c .before .before .before .before .before .before .before .before .before .before .before .before .before .before .before .before .before .before .before .before .items-of-module .ensures) (c .before .before .before .before .before .before .before .before .before .before .before .before .before .before .before .before .before .before .run-at .result) (c .before .before .before .before .before .before .before .before .before .before .before .before .before .before .before .before .before .before .run-at .ensures) (c .before .before .before .before .before .before .before .before .before .before .before .before .before .before .before .before .before .before .before .module-kinds .result .now) (c .before .before .before .before .before .before .before .before .before .before .before .before .before .before .before .before .before .before .before .module-kinds .ensures) (c .before .before .before .before .before .before .before .before .before .before .before .before .before .collect-items .result) (c .before .before .before .before .before .before .before .before .before .before .before .before .before .collect-items .last .1 .1 .1 .1 .1 .1 .1 .1 .1 .0) (c .before .before .before .before .before .before .before .before .before .before .before .before .before .collect-items .last .1 .1 .1 .1 .1 .1 .1 .1 .1 .1 .0) (c .before .before .before .before .before .before .before .before .before .before .before .before .before .collect-items .last .1 .1 .1 .1 .1 .1 .1 .1 .1 .1 .1 .0) (c .before .before .before .before .before .before .before .before .before .before .before .before .before .collect-items .ensures .0) _ (c .before .before .before .before .before .before .enum-told2 .given .1) (c .before .before .before .summarise .result) (c .before .before .before .summarise .last .1 .1 .1 .0) (c .before .before .before .summarise .ensures .0) (c .if2 .left), false-cleared (c .before .before .before .summarise .result) _ (c .if2 .left) (c .before .before .before .summarise .ensures .1))
+make-summary-returns-5 t c = (λ kept busy t h small new free. make-over (c .before .before .before .before .before .before .before .before .before .before .before .before .before .before .before .before .before .before .before .before .before .before .before .before .before .before .before .before .before .before .before .before .before .before .before .before .args .text .now) (c .before .before .before .before .before .before .before .before .before .before .before .before .before .before .before .before .before .before .before .before .before .before .before .before .before .before .before .before .before .before .before .before .before .before .before .before .args .kinds .now) (c .before .before .before .before .before .before .before .before .before .before .before .before .before .before .before .before .before .before .before .before .before .before .before .before .before .before .before .before .before .before .before .before .before .before .before .before .args .mods .now) (c .before .before .before .before .before .before .before .before .before .before .before .before .before .before .before .before .before .before .before .before .before .before .before .before .before .before .before .before .before .before .before .before .before .before .before .before .args .pass .count) (c .before .before .before .before .before .before .before .before .before .before .before .before .before .before .before .before .before .before .before .before .before .before .before .before .before .before .before .before .before .before .before .before .before .before .before .before .args .m) (c .before .before .before .before .before .before .before .before .before .before .before .before .before .before .before .before .before .before .before .before .before .before .before .before .before .before .before .before .before .before .before .before .before .before .before .before .args .k .now) kept busy t h (c .before .before .before .before .before .before .before .before .before .before .before .before .before .before .before .before .before .before .before .before .before .before .before .before .before .before .before .before .before .before .before .before .before .before .before .before .args .pass .fuel) small new free (c .before .before .before .before .before .before .before .before .before .before .before .before .before .before .before .before .before .before .before .before .before .before .before .before .before .before .before .before .before .names-of-module .result) (c .before .before .before .before .before .before .before .before .before .before .before .before .before .before .before .before .before .before .before .before .before .before .before .before .before .before .before .before .before .names-of-module .last .1 .1 .1 .0) (λ x M. c .before .before .before .before .before .before .before .before .before .before .before .before .before .before .before .before .before .before .before .before .before .before .before .before .before .before .before .before .before .names-of-module .ensures .1 .1 x M (omega (arith, length-replicate {A = ℕ} 6616 0))) _ (c .before .before .before .before .before .before .before .before .before .before .before .before .before .before .before .before .before .before .before .before .before .before .before .before .before .before .used .given .1) _ _ (c .before .before .before .before .before .before .before .before .before .before .before .before .before .before .before .before .before .before .before .before .before .before .before .begin .last .0) (stands-empty 16898 (omega arith)) (c .before .before .before .before .before .before .before .before .before .before .before .before .before .before .before .before .before .before .before .before .before .before .before .begin .ensures) (c .before .before .before .before .before .before .before .before .before .before .before .before .before .before .before .before .before .before .before .before .items-of-module .result .now) (c .before .before .before .before .before .before .before .before .before .before .before .before .before .before .before .before .before .before .before .before .items-of-module .ensures) (c .before .before .before .before .before .before .before .before .before .before .before .before .before .before .before .before .before .before .run-at .result) (c .before .before .before .before .before .before .before .before .before .before .before .before .before .before .before .before .before .before .run-at .ensures) (c .before .before .before .before .before .before .before .before .before .before .before .before .before .before .before .before .before .before .before .module-kinds .result .now) (c .before .before .before .before .before .before .before .before .before .before .before .before .before .before .before .before .before .before .before .module-kinds .ensures) (c .before .before .before .before .before .before .before .before .before .before .before .before .before .collect-items .result) (c .before .before .before .before .before .before .before .before .before .before .before .before .before .collect-items .last .1 .1 .1 .1 .1 .1 .1 .1 .1 .0) (c .before .before .before .before .before .before .before .before .before .before .before .before .before .collect-items .last .1 .1 .1 .1 .1 .1 .1 .1 .1 .1 .0) (c .before .before .before .before .before .before .before .before .before .before .before .before .before .collect-items .last .1 .1 .1 .1 .1 .1 .1 .1 .1 .1 .1 .0) (c .before .before .before .before .before .before .before .before .before .before .before .before .before .collect-items .ensures .0) _ (c .before .before .before .before .before .before .enum-told2 .given .1) (c .before .before .before .summarise .result) (c .before .before .before .summarise .last .1 .1 .1 .0) (c .before .before .before .summarise .ensures .0) (c .if2 .left), leaves-zero (c .before .before .before .summarise .result) (c .before .before .before .before .before .before .before .before .before .before .before .before .before .collect-items .last .1 .1 .1 .1 .1 .1 .1 .1 .1 .1 .1 .0) (c .before .before .before .before .before .before .before .before .before .before .before .before .before .before .before .before .before .before .before .before .before .before .before .before .before .before .before .before .before .before .before .before .before .before .before .before .args .m) (c .before .before .before .summarise .last .1 .1 .1 .0) (c .if2 .left) (c .before .before .before .summarise .ensures .1))
 
 repeat-items-clear-tables-requires : (t : ℕ) → repeat-items-lts.Need-clear-tables-requires (repeat-items-claims t) (repeat-items-at t) repeat-items.Post
 repeat-items-clear-tables-requires t c κs = search needs
@@ -730,10 +731,10 @@ repeat-items-rest-requires : (t : ℕ) → repeat-items-lts.Need-rest-requires (
 repeat-items-rest-requires t c κs = search needs
 
 repeat-items-cast-base : (t : ℕ) → repeat-items-lts.Need-cast-base (repeat-items-claims t) (repeat-items-at t) repeat-items.Post
-repeat-items-cast-base t c = omega (arith, c .before .before .before .before .before .before .before .before .before .before .before .before .before .pre, c .before .body-at .ensures .1)
+repeat-items-cast-base t c = omega (arith, c .before .before .before .before .before .before .before .before .before .before .before .before .before .pre, c .before .body-at .ensures)
 
 repeat-items-add-base : (t : ℕ) → repeat-items-lts.Need-add-base (repeat-items-claims t) (repeat-items-at t) repeat-items.Post
-repeat-items-add-base t c = omega (arith, c .before .before .before .before .before .before .before .before .before .before .before .before .before .pre, c .before .body-at .ensures .1)
+repeat-items-add-base t c = omega (arith, c .before .before .before .before .before .before .before .before .before .before .before .before .before .pre, c .before .body-at .ensures)
 
 repeat-items-sub-deep : (t : ℕ) → repeat-items-lts.Need-sub-deep (repeat-items-claims t) (repeat-items-at t) repeat-items.Post
 repeat-items-sub-deep t c = omega (arith, c .before .before .before .if1 .left)
@@ -754,7 +755,7 @@ repeat-items-enum-told-3 : (t : ℕ) → repeat-items-lts.Need-enum-told-3 (repe
 repeat-items-enum-told-3 t c = search needs
 
 repeat-items-collect-items-requires : (t : ℕ) → repeat-items-lts.Need-collect-items-requires (repeat-items-claims t) (repeat-items-at t) repeat-items.Post
-repeat-items-collect-items-requires t c κs = (omega (arith, c .before .before .before .before .before .before .before .before .before .before .before .before .before .before .before .before .before .before .before .before .before .before .pre, c .before .before .before .before .before .before .before .before .before .before .before .if1 .left), omega (arith, c .before .before .before .before .before .before .before .before .before .before .before .before .before .before .before .before .before .before .before .before .before .before .pre, c .before .before .before .before .before .before .before .before .before .before .body-at .ensures .1, length-drop (c .before .before .before .before .before .before .before .before .before .before .body-at .result) (c .before .before .before .before .before .before .before .before .before .before .before .before .before .before .before .before .before .before .before .before .before .before .args .x .now), ap length (c .before .before .before .before .before .before .before .before .before .rest .ensures)))
+repeat-items-collect-items-requires t c κs = (omega (arith, c .before .before .before .before .before .before .before .before .before .before .before .before .before .before .before .before .before .before .before .before .before .before .pre, c .before .before .before .before .before .before .before .before .before .before .before .if1 .left), omega (arith, c .before .before .before .before .before .before .before .before .before .before .before .before .before .before .before .before .before .before .before .before .before .before .pre, c .before .before .before .before .before .before .before .before .before .before .body-at .ensures, length-drop (c .before .before .before .before .before .before .before .before .before .before .body-at .result) (c .before .before .before .before .before .before .before .before .before .before .before .before .before .before .before .before .before .before .before .before .before .before .args .x .now), ap length (c .before .before .before .before .before .before .before .before .before .rest .ensures)))
 
 repeat-items-enum-known-n : (t : ℕ) → repeat-items-lts.Need-enum-known-n (repeat-items-claims t) (repeat-items-at t) repeat-items.Post
 repeat-items-enum-known-n t c = search needs
@@ -775,7 +776,7 @@ repeat-items-same-length-7 : (t : ℕ) → repeat-items-lts.Need-same-length-7 (
 repeat-items-same-length-7 t c = c .before .before .before .before .before .before .clear-tables3 .kept .1 .1 .0
 
 repeat-items-returns-2 : (t : ℕ) → repeat-items-lts.Need-returns-2 (repeat-items-claims t) (repeat-items-at t) repeat-items.Post
-repeat-items-returns-2 t c = (never-short (c .before .before .before .before .before .before .before .before .before .before .before .before .before .before .before .before .before .before .before .before .before .before .before .before .before .before .before .before .before .before .args .pass .fuel) (mode (c .before .before .before .before .before .before .before .before .before .before .before .before .before .before .before .before .before .before .before .before .before .before .before .before .before .before .before .before .before .before .args .pass .checking) (c .before .before .before .before .before .before .before .before .before .before .before .before .before .before .before .before .before .before .before .before .before .before .before .before .before .before .before .before .before .before .args .pass .bound)) (c .before .before .before .before .before .before .before .before .before .before .before .before .before .before .before .before .before .before .before .before .before .before .before .before .before .before .before .before .before .before .args .text .now) (c .before .before .before .before .before .before .before .before .before .before .before .before .before .before .before .before .before .before .before .before .before .before .before .before .before .before .before .before .before .before .args .kinds .now) (c .before .before .before .before .before .before .before .before .before .before .before .before .before .before .before .before .before .before .before .before .before .before .before .before .before .before .before .before .before .before .args .mods .now) (c .before .before .before .before .before .before .before .before .before .before .before .before .before .before .before .before .before .before .before .before .before .before .before .before .before .before .before .before .before .before .args .pass .count) (c .before .before .before .before .before .before .before .before .before .before .before .before .before .before .before .before .before .before .before .before .before .before .before .before .before .before .before .before .before .before .args .x .now) (c .before .before .before .before .before .before .before .before .before .before .before .before .before .before .before .before .before .before .before .before .before .before .before .before .before .before .before .before .before .before .args .from) (c .before .before .before .before .before .before .before .before .before .before .before .before .before .before .before .before .before .before .before .before .before .before .before .before .before .before .before .before .before .before .args .pass .depth) (c .before .before .before .before .before .before .before .before .before .before .before .before .before .before .before .before .before .before .before .before .before .before .before .before .before .before .before .before .before .before .args .ks .now) (c .before .before .before .before .before .before .before .before .before .before .before .before .before .before .before .before .before .before .before .before .before .before .before .before .before .before .before .before .before .before .args .names .now) (c .before .before .before .before .before .before .before .before .before .before .before .before .before .before .before .before .before .before .before .before .before .before .before .before .before .before .before .before .before .before .args .pass .used) (c .before .before .before .before .before .before .before .before .before .before .before .before .before .before .before .before .before .before .before .before .before .before .before .before .before .before .before .before .before .before .args .left) (c .before .before .before .before .before .before .before .before .before .before .before .before .before .before .before .before .before .before .before .before .before .before .before .before .before .before .before .before .before .before .args .own .now) (c .before .before .before .before .before .before .before .before .before .before .before .before .before .before .before .before .before .before .before .before .before .before .before .before .before .before .before .before .before .before .args .g .now) (c .before .before .before .before .before .before .before .before .before .before .before .before .before .before .before .before .before .before .before .before .before .before .before .before .before .before .before .before .before .before .args .k .now) (c .before .before .before .before .before .before .before .before .before .before .before .before .before .before .times-of .result) (c .before .before .before .before .before .before .before .before .before .before .before .before .before .before .times-of .ensures) (c .before .before .before .before .before .before .before .before .before .before .before .before .before .before .before .before .before .before .body-at .result) (c .before .before .before .before .before .before .before .before .before .before .before .before .before .before .before .before .before .before .body-at .ensures .0) (c .before .before .before .before .before .before .before .before .before .before .before .before .before .before .before .before .before .before .body-at .ensures .1) (c .before .before .before .before .before .before .before .before .before .before .before .before .before .before .before .before .before .rest .result .now) (c .before .before .before .before .before .before .before .before .before .before .before .before .before .before .before .before .before .rest .ensures) _ _ _ (c .before .before .before .before .before .before .before .before .before .before .before .before .n .given .1) (c .before .before .before .before .before .before .before .before .before .before .if2 .taken), ((framed-same, tt), c .before .before .before .before .before .before .clear-tables3 .ensures))
+repeat-items-returns-2 t c = (never-short (c .before .before .before .before .before .before .before .before .before .before .before .before .before .before .before .before .before .before .before .before .before .before .before .before .before .before .before .before .before .before .args .pass .fuel) (mode (c .before .before .before .before .before .before .before .before .before .before .before .before .before .before .before .before .before .before .before .before .before .before .before .before .before .before .before .before .before .before .args .pass .checking) (c .before .before .before .before .before .before .before .before .before .before .before .before .before .before .before .before .before .before .before .before .before .before .before .before .before .before .before .before .before .before .args .pass .bound)) (c .before .before .before .before .before .before .before .before .before .before .before .before .before .before .before .before .before .before .before .before .before .before .before .before .before .before .before .before .before .before .args .text .now) (c .before .before .before .before .before .before .before .before .before .before .before .before .before .before .before .before .before .before .before .before .before .before .before .before .before .before .before .before .before .before .args .kinds .now) (c .before .before .before .before .before .before .before .before .before .before .before .before .before .before .before .before .before .before .before .before .before .before .before .before .before .before .before .before .before .before .args .mods .now) (c .before .before .before .before .before .before .before .before .before .before .before .before .before .before .before .before .before .before .before .before .before .before .before .before .before .before .before .before .before .before .args .pass .count) (c .before .before .before .before .before .before .before .before .before .before .before .before .before .before .before .before .before .before .before .before .before .before .before .before .before .before .before .before .before .before .args .x .now) (c .before .before .before .before .before .before .before .before .before .before .before .before .before .before .before .before .before .before .before .before .before .before .before .before .before .before .before .before .before .before .args .from) (c .before .before .before .before .before .before .before .before .before .before .before .before .before .before .before .before .before .before .before .before .before .before .before .before .before .before .before .before .before .before .args .pass .depth) (c .before .before .before .before .before .before .before .before .before .before .before .before .before .before .before .before .before .before .before .before .before .before .before .before .before .before .before .before .before .before .args .ks .now) (c .before .before .before .before .before .before .before .before .before .before .before .before .before .before .before .before .before .before .before .before .before .before .before .before .before .before .before .before .before .before .args .names .now) (c .before .before .before .before .before .before .before .before .before .before .before .before .before .before .before .before .before .before .before .before .before .before .before .before .before .before .before .before .before .before .args .pass .used) (c .before .before .before .before .before .before .before .before .before .before .before .before .before .before .before .before .before .before .before .before .before .before .before .before .before .before .before .before .before .before .args .left) (c .before .before .before .before .before .before .before .before .before .before .before .before .before .before .before .before .before .before .before .before .before .before .before .before .before .before .before .before .before .before .args .own .now) (c .before .before .before .before .before .before .before .before .before .before .before .before .before .before .before .before .before .before .before .before .before .before .before .before .before .before .before .before .before .before .args .g .now) (c .before .before .before .before .before .before .before .before .before .before .before .before .before .before .before .before .before .before .before .before .before .before .before .before .before .before .before .before .before .before .args .k .now) (c .before .before .before .before .before .before .before .before .before .before .before .before .before .before .times-of .result) (c .before .before .before .before .before .before .before .before .before .before .before .before .before .before .times-of .ensures) (c .before .before .before .before .before .before .before .before .before .before .before .before .before .before .before .before .before .before .body-at .result) (c .before .before .before .before .before .before .before .before .before .before .before .before .before .before .before .before .before .before .body-at .ensures) (c .before .before .before .before .before .before .before .before .before .before .before .before .before .before .before .before .before .rest .result .now) (c .before .before .before .before .before .before .before .before .before .before .before .before .before .before .before .before .before .rest .ensures) _ _ _ (c .before .before .before .before .before .before .before .before .before .before .before .before .n .given .1) (c .before .before .before .before .before .before .before .before .before .before .if2 .taken), ((framed-same, tt), c .before .before .before .before .before .before .clear-tables3 .ensures))
 
 repeat-items-sub-if3 : (t : ℕ) → repeat-items-lts.Need-sub-if3 (repeat-items-claims t) (repeat-items-at t) repeat-items.Post
 repeat-items-sub-if3 t c = search needs
@@ -796,10 +797,10 @@ repeat-items-same-length-11 : (t : ℕ) → repeat-items-lts.Need-same-length-11
 repeat-items-same-length-11 t c = c .before .before .before .before .before .before .clear-tables4 .kept .1 .1 .0
 
 repeat-items-returns-3 : (t : ℕ) → repeat-items-lts.Need-returns-3 (repeat-items-claims t) (repeat-items-at t) repeat-items.Post
-repeat-items-returns-3 t c = (never-wide (c .before .before .before .before .before .before .before .before .before .before .before .before .before .before .before .before .before .before .before .before .before .before .before .before .before .before .before .before .before .before .before .args .pass .fuel) (mode (c .before .before .before .before .before .before .before .before .before .before .before .before .before .before .before .before .before .before .before .before .before .before .before .before .before .before .before .before .before .before .before .args .pass .checking) (c .before .before .before .before .before .before .before .before .before .before .before .before .before .before .before .before .before .before .before .before .before .before .before .before .before .before .before .before .before .before .before .args .pass .bound)) (c .before .before .before .before .before .before .before .before .before .before .before .before .before .before .before .before .before .before .before .before .before .before .before .before .before .before .before .before .before .before .before .args .text .now) (c .before .before .before .before .before .before .before .before .before .before .before .before .before .before .before .before .before .before .before .before .before .before .before .before .before .before .before .before .before .before .before .args .kinds .now) (c .before .before .before .before .before .before .before .before .before .before .before .before .before .before .before .before .before .before .before .before .before .before .before .before .before .before .before .before .before .before .before .args .mods .now) (c .before .before .before .before .before .before .before .before .before .before .before .before .before .before .before .before .before .before .before .before .before .before .before .before .before .before .before .before .before .before .before .args .pass .count) (c .before .before .before .before .before .before .before .before .before .before .before .before .before .before .before .before .before .before .before .before .before .before .before .before .before .before .before .before .before .before .before .args .x .now) (c .before .before .before .before .before .before .before .before .before .before .before .before .before .before .before .before .before .before .before .before .before .before .before .before .before .before .before .before .before .before .before .args .from) (c .before .before .before .before .before .before .before .before .before .before .before .before .before .before .before .before .before .before .before .before .before .before .before .before .before .before .before .before .before .before .before .args .pass .depth) (c .before .before .before .before .before .before .before .before .before .before .before .before .before .before .before .before .before .before .before .before .before .before .before .before .before .before .before .before .before .before .before .args .ks .now) (c .before .before .before .before .before .before .before .before .before .before .before .before .before .before .before .before .before .before .before .before .before .before .before .before .before .before .before .before .before .before .before .args .names .now) (c .before .before .before .before .before .before .before .before .before .before .before .before .before .before .before .before .before .before .before .before .before .before .before .before .before .before .before .before .before .before .before .args .pass .used) (c .before .before .before .before .before .before .before .before .before .before .before .before .before .before .before .before .before .before .before .before .before .before .before .before .before .before .before .before .before .before .before .args .left) (c .before .before .before .before .before .before .before .before .before .before .before .before .before .before .before .before .before .before .before .before .before .before .before .before .before .before .before .before .before .before .before .args .own .now) (c .before .before .before .before .before .before .before .before .before .before .before .before .before .before .before .before .before .before .before .before .before .before .before .before .before .before .before .before .before .before .before .args .g .now) (c .before .before .before .before .before .before .before .before .before .before .before .before .before .before .before .before .before .before .before .before .before .before .before .before .before .before .before .before .before .before .before .args .k .now) (c .before .before .before .before .before .before .before .before .before .before .before .before .before .before .before .times-of .result) (c .before .before .before .before .before .before .before .before .before .before .before .before .before .before .before .times-of .ensures) (c .before .before .before .before .before .before .before .before .before .before .before .before .before .before .before .before .before .before .before .body-at .result) (c .before .before .before .before .before .before .before .before .before .before .before .before .before .before .before .before .before .before .before .body-at .ensures .0) (c .before .before .before .before .before .before .before .before .before .before .before .before .before .before .before .before .before .before .before .body-at .ensures .1) (c .before .before .before .before .before .before .before .before .before .before .before .before .before .before .before .before .before .before .rest .result .now) (c .before .before .before .before .before .before .before .before .before .before .before .before .before .before .before .before .before .before .rest .ensures) _ _ _ (c .before .before .before .before .before .before .before .before .before .before .before .before .before .n .given .1) (c .before .before .before .before .before .before .before .before .before .before .if3 .taken), ((framed-same, tt), c .before .before .before .before .before .before .clear-tables4 .ensures))
+repeat-items-returns-3 t c = (never-wide (c .before .before .before .before .before .before .before .before .before .before .before .before .before .before .before .before .before .before .before .before .before .before .before .before .before .before .before .before .before .before .before .args .pass .fuel) (mode (c .before .before .before .before .before .before .before .before .before .before .before .before .before .before .before .before .before .before .before .before .before .before .before .before .before .before .before .before .before .before .before .args .pass .checking) (c .before .before .before .before .before .before .before .before .before .before .before .before .before .before .before .before .before .before .before .before .before .before .before .before .before .before .before .before .before .before .before .args .pass .bound)) (c .before .before .before .before .before .before .before .before .before .before .before .before .before .before .before .before .before .before .before .before .before .before .before .before .before .before .before .before .before .before .before .args .text .now) (c .before .before .before .before .before .before .before .before .before .before .before .before .before .before .before .before .before .before .before .before .before .before .before .before .before .before .before .before .before .before .before .args .kinds .now) (c .before .before .before .before .before .before .before .before .before .before .before .before .before .before .before .before .before .before .before .before .before .before .before .before .before .before .before .before .before .before .before .args .mods .now) (c .before .before .before .before .before .before .before .before .before .before .before .before .before .before .before .before .before .before .before .before .before .before .before .before .before .before .before .before .before .before .before .args .pass .count) (c .before .before .before .before .before .before .before .before .before .before .before .before .before .before .before .before .before .before .before .before .before .before .before .before .before .before .before .before .before .before .before .args .x .now) (c .before .before .before .before .before .before .before .before .before .before .before .before .before .before .before .before .before .before .before .before .before .before .before .before .before .before .before .before .before .before .before .args .from) (c .before .before .before .before .before .before .before .before .before .before .before .before .before .before .before .before .before .before .before .before .before .before .before .before .before .before .before .before .before .before .before .args .pass .depth) (c .before .before .before .before .before .before .before .before .before .before .before .before .before .before .before .before .before .before .before .before .before .before .before .before .before .before .before .before .before .before .before .args .ks .now) (c .before .before .before .before .before .before .before .before .before .before .before .before .before .before .before .before .before .before .before .before .before .before .before .before .before .before .before .before .before .before .before .args .names .now) (c .before .before .before .before .before .before .before .before .before .before .before .before .before .before .before .before .before .before .before .before .before .before .before .before .before .before .before .before .before .before .before .args .pass .used) (c .before .before .before .before .before .before .before .before .before .before .before .before .before .before .before .before .before .before .before .before .before .before .before .before .before .before .before .before .before .before .before .args .left) (c .before .before .before .before .before .before .before .before .before .before .before .before .before .before .before .before .before .before .before .before .before .before .before .before .before .before .before .before .before .before .before .args .own .now) (c .before .before .before .before .before .before .before .before .before .before .before .before .before .before .before .before .before .before .before .before .before .before .before .before .before .before .before .before .before .before .before .args .g .now) (c .before .before .before .before .before .before .before .before .before .before .before .before .before .before .before .before .before .before .before .before .before .before .before .before .before .before .before .before .before .before .before .args .k .now) (c .before .before .before .before .before .before .before .before .before .before .before .before .before .before .before .times-of .result) (c .before .before .before .before .before .before .before .before .before .before .before .before .before .before .before .times-of .ensures) (c .before .before .before .before .before .before .before .before .before .before .before .before .before .before .before .before .before .before .before .body-at .result) (c .before .before .before .before .before .before .before .before .before .before .before .before .before .before .before .before .before .before .before .body-at .ensures) (c .before .before .before .before .before .before .before .before .before .before .before .before .before .before .before .before .before .before .rest .result .now) (c .before .before .before .before .before .before .before .before .before .before .before .before .before .before .before .before .before .before .rest .ensures) _ _ _ (c .before .before .before .before .before .before .before .before .before .before .before .before .before .n .given .1) (c .before .before .before .before .before .before .before .before .before .before .if3 .taken), ((framed-same, tt), c .before .before .before .before .before .before .clear-tables4 .ensures))
 
 repeat-items-repeat-rounds-requires : (t : ℕ) → repeat-items-lts.Need-repeat-rounds-requires (repeat-items-claims t) (repeat-items-at t) repeat-items.Post
-repeat-items-repeat-rounds-requires t c κs = (omega (arith, c .before .before .before .before .before .before .before .before .before .before .before .before .before .before .before .before .before .before .before .before .before .before .before .before .before .pre, c .before .before .before .before .before .before .before .before .before .before .before .before .before .before .if1 .left), (omega (arith, c .before .before .before .before .before .before .before .before .before .before .before .before .before .before .before .before .before .before .before .before .before .before .before .before .before .pre, c .before .before .before .before .before .before .before .before .before .before .before .before .before .body-at .ensures .1, length-drop (c .before .before .before .before .before .before .before .before .before .before .before .before .before .body-at .result) (c .before .before .before .before .before .before .before .before .before .before .before .before .before .before .before .before .before .before .before .before .before .before .before .before .before .args .x .now), ap length (c .before .before .before .before .before .before .before .before .before .before .before .before .rest .ensures)), omega (arith, c .before .before .before .before .if3 .left)))
+repeat-items-repeat-rounds-requires t c κs = (omega (arith, c .before .before .before .before .before .before .before .before .before .before .before .before .before .before .before .before .before .before .before .before .before .before .before .before .before .pre, c .before .before .before .before .before .before .before .before .before .before .before .before .before .before .if1 .left), (omega (arith, c .before .before .before .before .before .before .before .before .before .before .before .before .before .before .before .before .before .before .before .before .before .before .before .before .before .pre, c .before .before .before .before .before .before .before .before .before .before .before .before .before .body-at .ensures, length-drop (c .before .before .before .before .before .before .before .before .before .before .before .before .before .body-at .result) (c .before .before .before .before .before .before .before .before .before .before .before .before .before .before .before .before .before .before .before .before .before .before .before .before .before .args .x .now), ap length (c .before .before .before .before .before .before .before .before .before .before .before .before .rest .ensures)), omega (arith, c .before .before .before .before .if3 .left)))
 
 repeat-items-same-length-12 : (t : ℕ) → repeat-items-lts.Need-same-length-12 (repeat-items-claims t) (repeat-items-at t) repeat-items.Post
 repeat-items-same-length-12 t c = search needs
@@ -835,7 +836,7 @@ repeat-items-same-length-20 : (t : ℕ) → repeat-items-lts.Need-same-length-20
 repeat-items-same-length-20 t c = c .before .before .before .before .before .before .before .before .collect-items .kept .1 .1 .1 .1 .1 .1 .1 .1 .1 .1 .1 .0
 
 repeat-items-returns-6 : (t : ℕ) → repeat-items-lts.Need-returns-6 (repeat-items-claims t) (repeat-items-at t) repeat-items.Post
-repeat-items-returns-6 t c = (body-once (c .before .before .before .before .before .before .before .before .before .before .before .before .before .before .before .before .before .before .before .before .before .before .before .before .before .before .before .before .before .before .before .args .pass .fuel) (mode (c .before .before .before .before .before .before .before .before .before .before .before .before .before .before .before .before .before .before .before .before .before .before .before .before .before .before .before .before .before .before .before .args .pass .checking) (c .before .before .before .before .before .before .before .before .before .before .before .before .before .before .before .before .before .before .before .before .before .before .before .before .before .before .before .before .before .before .before .args .pass .bound)) (c .before .before .before .before .before .before .before .before .before .before .before .before .before .before .before .before .before .before .before .before .before .before .before .before .before .before .before .before .before .before .before .args .text .now) (c .before .before .before .before .before .before .before .before .before .before .before .before .before .before .before .before .before .before .before .before .before .before .before .before .before .before .before .before .before .before .before .args .kinds .now) (c .before .before .before .before .before .before .before .before .before .before .before .before .before .before .before .before .before .before .before .before .before .before .before .before .before .before .before .before .before .before .before .args .mods .now) (c .before .before .before .before .before .before .before .before .before .before .before .before .before .before .before .before .before .before .before .before .before .before .before .before .before .before .before .before .before .before .before .args .pass .count) (c .before .before .before .before .before .before .before .before .before .before .before .before .before .before .before .before .before .before .before .before .before .before .before .before .before .before .before .before .before .before .before .args .x .now) (c .before .before .before .before .before .before .before .before .before .before .before .before .before .before .before .before .before .before .before .before .before .before .before .before .before .before .before .before .before .before .before .args .from) (c .before .before .before .before .before .before .before .before .before .before .before .before .before .before .before .before .before .before .before .before .before .before .before .before .before .before .before .before .before .before .before .args .pass .depth) (c .before .before .before .before .before .before .before .before .before .before .before .before .before .before .before .before .before .before .before .before .before .before .before .before .before .before .before .before .before .before .before .args .ks .now) (c .before .before .before .before .before .before .before .before .before .before .before .before .before .before .before .before .before .before .before .before .before .before .before .before .before .before .before .before .before .before .before .args .names .now) (c .before .before .before .before .before .before .before .before .before .before .before .before .before .before .before .before .before .before .before .before .before .before .before .before .before .before .before .before .before .before .before .args .pass .used) (c .before .before .before .before .before .before .before .before .before .before .before .before .before .before .before .before .before .before .before .before .before .before .before .before .before .before .before .before .before .before .before .args .left) (c .before .before .before .before .before .before .before .before .before .before .before .before .before .before .before .before .before .before .before .before .before .before .before .before .before .before .before .before .before .before .before .args .own .now) (c .before .before .before .before .before .before .before .before .before .before .before .before .before .before .before .before .before .before .before .before .before .before .before .before .before .before .before .before .before .before .before .args .g .now) (c .before .before .before .before .before .before .before .before .before .before .before .before .before .before .before .before .before .before .before .before .before .before .before .before .before .before .before .before .before .before .before .args .k .now) (c .before .before .before .before .before .before .before .before .before .before .before .before .before .before .before .times-of .result) (c .before .before .before .before .before .before .before .before .before .before .before .before .before .before .before .times-of .ensures) (c .before .before .before .before .before .before .before .before .before .before .before .before .before .before .before .before .before .before .before .body-at .result) (c .before .before .before .before .before .before .before .before .before .before .before .before .before .before .before .before .before .before .before .body-at .ensures .0) (c .before .before .before .before .before .before .before .before .before .before .before .before .before .before .before .before .before .before .before .body-at .ensures .1) (c .before .before .before .before .before .before .before .before .before .before .before .before .before .before .before .before .before .before .rest .result .now) (c .before .before .before .before .before .before .before .before .before .before .before .before .before .before .before .before .before .before .rest .ensures) (c .before .before .before .before .before .before .before .before .before .before .before .before .before .enum-told3 .given .1) (c .before .before .before .before .before .before .before .before .collect-items .result) (c .before .before .before .before .before .before .before .before .collect-items .last .1 .1 .1 .1 .1 .1 .1 .1 .1 .0) (c .before .before .before .before .before .before .before .before .collect-items .last .1 .1 .1 .1 .1 .1 .1 .1 .1 .1 .0) (c .before .before .before .before .before .before .before .before .collect-items .last .1 .1 .1 .1 .1 .1 .1 .1 .1 .1 .1 .0) (c .before .before .before .before .before .before .before .before .collect-items .ensures .0), c .before .before .before .before .before .before .before .before .collect-items .ensures .1)
+repeat-items-returns-6 t c = (body-once (c .before .before .before .before .before .before .before .before .before .before .before .before .before .before .before .before .before .before .before .before .before .before .before .before .before .before .before .before .before .before .before .args .pass .fuel) (mode (c .before .before .before .before .before .before .before .before .before .before .before .before .before .before .before .before .before .before .before .before .before .before .before .before .before .before .before .before .before .before .before .args .pass .checking) (c .before .before .before .before .before .before .before .before .before .before .before .before .before .before .before .before .before .before .before .before .before .before .before .before .before .before .before .before .before .before .before .args .pass .bound)) (c .before .before .before .before .before .before .before .before .before .before .before .before .before .before .before .before .before .before .before .before .before .before .before .before .before .before .before .before .before .before .before .args .text .now) (c .before .before .before .before .before .before .before .before .before .before .before .before .before .before .before .before .before .before .before .before .before .before .before .before .before .before .before .before .before .before .before .args .kinds .now) (c .before .before .before .before .before .before .before .before .before .before .before .before .before .before .before .before .before .before .before .before .before .before .before .before .before .before .before .before .before .before .before .args .mods .now) (c .before .before .before .before .before .before .before .before .before .before .before .before .before .before .before .before .before .before .before .before .before .before .before .before .before .before .before .before .before .before .before .args .pass .count) (c .before .before .before .before .before .before .before .before .before .before .before .before .before .before .before .before .before .before .before .before .before .before .before .before .before .before .before .before .before .before .before .args .x .now) (c .before .before .before .before .before .before .before .before .before .before .before .before .before .before .before .before .before .before .before .before .before .before .before .before .before .before .before .before .before .before .before .args .from) (c .before .before .before .before .before .before .before .before .before .before .before .before .before .before .before .before .before .before .before .before .before .before .before .before .before .before .before .before .before .before .before .args .pass .depth) (c .before .before .before .before .before .before .before .before .before .before .before .before .before .before .before .before .before .before .before .before .before .before .before .before .before .before .before .before .before .before .before .args .ks .now) (c .before .before .before .before .before .before .before .before .before .before .before .before .before .before .before .before .before .before .before .before .before .before .before .before .before .before .before .before .before .before .before .args .names .now) (c .before .before .before .before .before .before .before .before .before .before .before .before .before .before .before .before .before .before .before .before .before .before .before .before .before .before .before .before .before .before .before .args .pass .used) (c .before .before .before .before .before .before .before .before .before .before .before .before .before .before .before .before .before .before .before .before .before .before .before .before .before .before .before .before .before .before .before .args .left) (c .before .before .before .before .before .before .before .before .before .before .before .before .before .before .before .before .before .before .before .before .before .before .before .before .before .before .before .before .before .before .before .args .own .now) (c .before .before .before .before .before .before .before .before .before .before .before .before .before .before .before .before .before .before .before .before .before .before .before .before .before .before .before .before .before .before .before .args .g .now) (c .before .before .before .before .before .before .before .before .before .before .before .before .before .before .before .before .before .before .before .before .before .before .before .before .before .before .before .before .before .before .before .args .k .now) (c .before .before .before .before .before .before .before .before .before .before .before .before .before .before .before .times-of .result) (c .before .before .before .before .before .before .before .before .before .before .before .before .before .before .before .times-of .ensures) (c .before .before .before .before .before .before .before .before .before .before .before .before .before .before .before .before .before .before .before .body-at .result) (c .before .before .before .before .before .before .before .before .before .before .before .before .before .before .before .before .before .before .before .body-at .ensures) (c .before .before .before .before .before .before .before .before .before .before .before .before .before .before .before .before .before .before .rest .result .now) (c .before .before .before .before .before .before .before .before .before .before .before .before .before .before .before .before .before .before .rest .ensures) (c .before .before .before .before .before .before .before .before .before .before .before .before .before .enum-told3 .given .1) (c .before .before .before .before .before .before .before .before .collect-items .result) (c .before .before .before .before .before .before .before .before .collect-items .last .1 .1 .1 .1 .1 .1 .1 .1 .1 .0) (c .before .before .before .before .before .before .before .before .collect-items .last .1 .1 .1 .1 .1 .1 .1 .1 .1 .1 .0) (c .before .before .before .before .before .before .before .before .collect-items .last .1 .1 .1 .1 .1 .1 .1 .1 .1 .1 .1 .0) (c .before .before .before .before .before .before .before .before .collect-items .ensures .0), c .before .before .before .before .before .before .before .before .collect-items .ensures .1)
 
 repeat-items-same-length-21 : (t : ℕ) → repeat-items-lts.Need-same-length-21 (repeat-items-claims t) (repeat-items-at t) repeat-items.Post
 repeat-items-same-length-21 t c = c .before .before .before .before .before .before .before .before .repeat-rounds .kept .1 .1 .1 .1 .1 .1 .1 .1 .0
@@ -850,7 +851,7 @@ repeat-items-same-length-24 : (t : ℕ) → repeat-items-lts.Need-same-length-24
 repeat-items-same-length-24 t c = c .before .before .before .before .before .before .before .before .repeat-rounds .kept .1 .1 .1 .1 .1 .1 .1 .1 .1 .1 .1 .0
 
 repeat-items-returns-7 : (t : ℕ) → repeat-items-lts.Need-returns-7 (repeat-items-claims t) (repeat-items-at t) repeat-items.Post
-repeat-items-returns-7 t c = (rounds-done (c .before .before .before .before .before .before .before .before .before .before .before .before .before .before .before .before .before .before .before .before .before .before .before .before .before .before .before .before .before .before .before .before .before .before .args .pass .fuel) (mode (c .before .before .before .before .before .before .before .before .before .before .before .before .before .before .before .before .before .before .before .before .before .before .before .before .before .before .before .before .before .before .before .before .before .before .args .pass .checking) (c .before .before .before .before .before .before .before .before .before .before .before .before .before .before .before .before .before .before .before .before .before .before .before .before .before .before .before .before .before .before .before .before .before .before .args .pass .bound)) (c .before .before .before .before .before .before .before .before .before .before .before .before .before .before .before .before .before .before .before .before .before .before .before .before .before .before .before .before .before .before .before .before .before .before .args .text .now) (c .before .before .before .before .before .before .before .before .before .before .before .before .before .before .before .before .before .before .before .before .before .before .before .before .before .before .before .before .before .before .before .before .before .before .args .kinds .now) (c .before .before .before .before .before .before .before .before .before .before .before .before .before .before .before .before .before .before .before .before .before .before .before .before .before .before .before .before .before .before .before .before .before .before .args .mods .now) (c .before .before .before .before .before .before .before .before .before .before .before .before .before .before .before .before .before .before .before .before .before .before .before .before .before .before .before .before .before .before .before .before .before .before .args .pass .count) (c .before .before .before .before .before .before .before .before .before .before .before .before .before .before .before .before .before .before .before .before .before .before .before .before .before .before .before .before .before .before .before .before .before .before .args .x .now) (c .before .before .before .before .before .before .before .before .before .before .before .before .before .before .before .before .before .before .before .before .before .before .before .before .before .before .before .before .before .before .before .before .before .before .args .from) (c .before .before .before .before .before .before .before .before .before .before .before .before .before .before .before .before .before .before .before .before .before .before .before .before .before .before .before .before .before .before .before .before .before .before .args .pass .depth) (c .before .before .before .before .before .before .before .before .before .before .before .before .before .before .before .before .before .before .before .before .before .before .before .before .before .before .before .before .before .before .before .before .before .before .args .ks .now) (c .before .before .before .before .before .before .before .before .before .before .before .before .before .before .before .before .before .before .before .before .before .before .before .before .before .before .before .before .before .before .before .before .before .before .args .names .now) (c .before .before .before .before .before .before .before .before .before .before .before .before .before .before .before .before .before .before .before .before .before .before .before .before .before .before .before .before .before .before .before .before .before .before .args .pass .used) (c .before .before .before .before .before .before .before .before .before .before .before .before .before .before .before .before .before .before .before .before .before .before .before .before .before .before .before .before .before .before .before .before .before .before .args .left) (c .before .before .before .before .before .before .before .before .before .before .before .before .before .before .before .before .before .before .before .before .before .before .before .before .before .before .before .before .before .before .before .before .before .before .args .own .now) (c .before .before .before .before .before .before .before .before .before .before .before .before .before .before .before .before .before .before .before .before .before .before .before .before .before .before .before .before .before .before .before .before .before .before .args .g .now) (c .before .before .before .before .before .before .before .before .before .before .before .before .before .before .before .before .before .before .before .before .before .before .before .before .before .before .before .before .before .before .before .before .before .before .args .k .now) (c .before .before .before .before .before .before .before .before .before .before .before .before .before .before .before .before .before .before .times-of .result) (c .before .before .before .before .before .before .before .before .before .before .before .before .before .before .before .before .before .before .times-of .ensures) (c .before .before .before .before .before .before .before .before .before .before .before .before .before .before .before .before .before .before .before .before .before .before .body-at .result) (c .before .before .before .before .before .before .before .before .before .before .before .before .before .before .before .before .before .before .before .before .before .before .body-at .ensures .0) (c .before .before .before .before .before .before .before .before .before .before .before .before .before .before .before .before .before .before .before .before .before .before .body-at .ensures .1) (c .before .before .before .before .before .before .before .before .before .before .before .before .before .before .before .before .before .before .before .before .before .rest .result .now) (c .before .before .before .before .before .before .before .before .before .before .before .before .before .before .before .before .before .before .before .before .before .rest .ensures) _ _ _ (c .before .before .before .before .before .before .before .before .before .before .before .before .before .before .before .before .n .given .1) (c .before .before .before .before .before .before .before .before .repeat-rounds .result) (c .before .before .before .before .before .before .before .before .repeat-rounds .last .1 .1 .1 .1 .1 .1 .1 .1 .1 .0) (c .before .before .before .before .before .before .before .before .repeat-rounds .last .1 .1 .1 .1 .1 .1 .1 .1 .1 .1 .0) (c .before .before .before .before .before .before .before .before .repeat-rounds .last .1 .1 .1 .1 .1 .1 .1 .1 .1 .1 .1 .0) (c .before .before .before .before .before .before .before .before .repeat-rounds .ensures .0), ((c .before .before .before .before .before .before .before .before .repeat-rounds .ensures .1 .0 .0, within-more (c .before .before .before .before .before .before .before .before .repeat-rounds .result) _ (c .before .before .before .before .before .before .before .before .before .before .before .before .before .before .before .before .before .before .before .before .before .before .before .before .before .before .before .before .before .before .before .before .before .before .args .left) (omega arith) (c .before .before .before .before .before .before .before .before .repeat-rounds .ensures .1 .0 .1)), c .before .before .before .before .before .before .before .before .repeat-rounds .ensures .1 .1))
+repeat-items-returns-7 t c = (rounds-done (c .before .before .before .before .before .before .before .before .before .before .before .before .before .before .before .before .before .before .before .before .before .before .before .before .before .before .before .before .before .before .before .before .before .before .args .pass .fuel) (mode (c .before .before .before .before .before .before .before .before .before .before .before .before .before .before .before .before .before .before .before .before .before .before .before .before .before .before .before .before .before .before .before .before .before .before .args .pass .checking) (c .before .before .before .before .before .before .before .before .before .before .before .before .before .before .before .before .before .before .before .before .before .before .before .before .before .before .before .before .before .before .before .before .before .before .args .pass .bound)) (c .before .before .before .before .before .before .before .before .before .before .before .before .before .before .before .before .before .before .before .before .before .before .before .before .before .before .before .before .before .before .before .before .before .before .args .text .now) (c .before .before .before .before .before .before .before .before .before .before .before .before .before .before .before .before .before .before .before .before .before .before .before .before .before .before .before .before .before .before .before .before .before .before .args .kinds .now) (c .before .before .before .before .before .before .before .before .before .before .before .before .before .before .before .before .before .before .before .before .before .before .before .before .before .before .before .before .before .before .before .before .before .before .args .mods .now) (c .before .before .before .before .before .before .before .before .before .before .before .before .before .before .before .before .before .before .before .before .before .before .before .before .before .before .before .before .before .before .before .before .before .before .args .pass .count) (c .before .before .before .before .before .before .before .before .before .before .before .before .before .before .before .before .before .before .before .before .before .before .before .before .before .before .before .before .before .before .before .before .before .before .args .x .now) (c .before .before .before .before .before .before .before .before .before .before .before .before .before .before .before .before .before .before .before .before .before .before .before .before .before .before .before .before .before .before .before .before .before .before .args .from) (c .before .before .before .before .before .before .before .before .before .before .before .before .before .before .before .before .before .before .before .before .before .before .before .before .before .before .before .before .before .before .before .before .before .before .args .pass .depth) (c .before .before .before .before .before .before .before .before .before .before .before .before .before .before .before .before .before .before .before .before .before .before .before .before .before .before .before .before .before .before .before .before .before .before .args .ks .now) (c .before .before .before .before .before .before .before .before .before .before .before .before .before .before .before .before .before .before .before .before .before .before .before .before .before .before .before .before .before .before .before .before .before .before .args .names .now) (c .before .before .before .before .before .before .before .before .before .before .before .before .before .before .before .before .before .before .before .before .before .before .before .before .before .before .before .before .before .before .before .before .before .before .args .pass .used) (c .before .before .before .before .before .before .before .before .before .before .before .before .before .before .before .before .before .before .before .before .before .before .before .before .before .before .before .before .before .before .before .before .before .before .args .left) (c .before .before .before .before .before .before .before .before .before .before .before .before .before .before .before .before .before .before .before .before .before .before .before .before .before .before .before .before .before .before .before .before .before .before .args .own .now) (c .before .before .before .before .before .before .before .before .before .before .before .before .before .before .before .before .before .before .before .before .before .before .before .before .before .before .before .before .before .before .before .before .before .before .args .g .now) (c .before .before .before .before .before .before .before .before .before .before .before .before .before .before .before .before .before .before .before .before .before .before .before .before .before .before .before .before .before .before .before .before .before .before .args .k .now) (c .before .before .before .before .before .before .before .before .before .before .before .before .before .before .before .before .before .before .times-of .result) (c .before .before .before .before .before .before .before .before .before .before .before .before .before .before .before .before .before .before .times-of .ensures) (c .before .before .before .before .before .before .before .before .before .before .before .before .before .before .before .before .before .before .before .before .before .before .body-at .result) (c .before .before .before .before .before .before .before .before .before .before .before .before .before .before .before .before .before .before .before .before .before .before .body-at .ensures) (c .before .before .before .before .before .before .before .before .before .before .before .before .before .before .before .before .before .before .before .before .before .rest .result .now) (c .before .before .before .before .before .before .before .before .before .before .before .before .before .before .before .before .before .before .before .before .before .rest .ensures) _ _ _ (c .before .before .before .before .before .before .before .before .before .before .before .before .before .before .before .before .n .given .1) (c .before .before .before .before .before .before .before .before .repeat-rounds .result) (c .before .before .before .before .before .before .before .before .repeat-rounds .last .1 .1 .1 .1 .1 .1 .1 .1 .1 .0) (c .before .before .before .before .before .before .before .before .repeat-rounds .last .1 .1 .1 .1 .1 .1 .1 .1 .1 .1 .0) (c .before .before .before .before .before .before .before .before .repeat-rounds .last .1 .1 .1 .1 .1 .1 .1 .1 .1 .1 .1 .0) (c .before .before .before .before .before .before .before .before .repeat-rounds .ensures .0), ((c .before .before .before .before .before .before .before .before .repeat-rounds .ensures .1 .0 .0, within-more (c .before .before .before .before .before .before .before .before .repeat-rounds .result) _ (c .before .before .before .before .before .before .before .before .before .before .before .before .before .before .before .before .before .before .before .before .before .before .before .before .before .before .before .before .before .before .before .before .before .before .args .left) (omega arith) (c .before .before .before .before .before .before .before .before .repeat-rounds .ensures .1 .0 .1)), c .before .before .before .before .before .before .before .before .repeat-rounds .ensures .1 .1))
 
 abbrev repeat-rounds-Inv-loop : repeat-rounds-lts.InvT-loop
 repeat-rounds-Inv-loop text kinds mods s base pass turn ks names₀ own₀ g₀ k₀ left₀ i₀ names own g k left i = Rounds (pass .fuel) (mode (pass .checking) (pass .bound)) text kinds mods (pass .count) s base (pass .depth) ks names₀ (pass .used) (turn .name) (turn .low) (turn .rounds) (turn .left) own₀ g₀ k₀ i left names own g k

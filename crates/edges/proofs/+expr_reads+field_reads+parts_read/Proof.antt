@@ -8,6 +8,7 @@ use Prim.Native.Nat.{_*_, _+_, _-_}
 use lib.ListN.{length, drop}
 use borrow.Author.Tests.{not-true, not-false}
 use Rattle.consteval.specs.Worth.{names-of}
+use Rattle.lines.proofs.Laws.{byte-is, byte-not}
 use Rattle.lines.proofs.PartLaws.{follows-in}
 use Rattle.edges.specs.Shows.{PartsRead}
 use Rattle.spec.proofs.Cleared.{false-cleared}
@@ -32,6 +33,7 @@ use Rattle.edges.proofs.next_end.Reads as next-end-reads
 use Rattle.edges.proofs.number_at.Reads as number-at-reads
 use Rattle.edges.proofs.output_read.Reads as output-read-reads
 use Rattle.edges.proofs.under.Reads as under-reads
+use Rattle.lines.proofs.bytes.is_open.Reads as is-open-reads
 use Rattle.lines.proofs.parts.between.Reads as between-reads
 use Rattle.lines.proofs.parts.byte.Reads as byte-reads
 use Rattle.lines.proofs.parts.more.Reads as more-reads
@@ -74,7 +76,7 @@ parts-read-below t =
 
 -- what the functions that it calls ask and say
 abbrev expr-reads-claims : ℕ → expr-reads-lts.Claims
-expr-reads-claims t = (byte-reads.Asked, byte-reads.Learnt, name-of-reads.Asked, name-of-reads.Learnt, name-read-reads.Asked, name-read-reads.Learnt, field-reads-below t, field-reads.Post, part-end-reads.Asked, part-end-reads.Learnt, parts-read-below t, parts-read.Post)
+expr-reads-claims t = (byte-reads.Asked, byte-reads.Learnt, is-open-reads.Asked, is-open-reads.Learnt, name-of-reads.Asked, name-of-reads.Learnt, name-read-reads.Asked, name-read-reads.Learnt, field-reads-below t, field-reads.Post, part-end-reads.Asked, part-end-reads.Learnt, parts-read-below t, parts-read.Post)
 
 abbrev field-reads-claims : ℕ → field-reads-lts.Claims
 field-reads-claims t = (next-end-reads.Asked, next-end-reads.Learnt, between-reads.Asked, between-reads.Learnt, number-at-reads.Asked, number-at-reads.Learnt, field-of-reads.Asked, field-of-reads.Learnt, output-read-reads.Asked, output-read-reads.Learnt, part-end-reads.Asked, part-end-reads.Learnt, under-reads.Asked, under-reads.Learnt, index-read-reads.Asked, index-read-reads.Learnt, expr-reads-below t, expr-reads.Post)
@@ -85,8 +87,11 @@ parts-read-claims t = (more-reads.Asked, more-reads.Learnt, part-end-reads.Asked
 expr-reads-byte-requires : (t : ℕ) → expr-reads-lts.Need-byte-requires (expr-reads-claims t) (expr-reads-at t) expr-reads.Post
 expr-reads-byte-requires t c κs = search needs
 
+expr-reads-is-open-requires : (t : ℕ) → expr-reads-lts.Need-is-open-requires (expr-reads-claims t) (expr-reads-at t) expr-reads.Post
+expr-reads-is-open-requires t c κs = search needs
+
 expr-reads-returns : (t : ℕ) → expr-reads-lts.Need-returns (expr-reads-claims t) (expr-reads-at t) expr-reads.Post
-expr-reads-returns t c = (expr-atom (c .before .before .before .before .before .before .args .e .now) (c .before .before .before .before .before .before .args .depth) (c .before .before .before .before .before .before .args .kinds .now) (names-of (c .before .before .before .before .before .before .args .names .now) (c .before .before .before .before .before .before .args .used)) (c .before .before .before .before .before .before .args .g .now) (c .before .before .before .before .before .before .args .from) (λ e. c .if1 .taken (c .before .byte .ensures ∙ e)), tt)
+expr-reads-returns t c = (expr-atom (c .before .before .before .before .before .before .before .args .e .now) (c .before .before .before .before .before .before .before .args .depth) (c .before .before .before .before .before .before .before .args .kinds .now) (names-of (c .before .before .before .before .before .before .before .args .names .now) (c .before .before .before .before .before .before .before .args .used)) (c .before .before .before .before .before .before .before .args .g .now) (c .before .before .before .before .before .before .before .args .from) (byte-not _ _ _ 40 (c .before .is-open .ensures) (c .before .before .byte .ensures) (not-true _ (c .if1 .taken))), tt)
 
 expr-reads-name-of-requires : (t : ℕ) → expr-reads-lts.Need-name-of-requires (expr-reads-claims t) (expr-reads-at t) expr-reads.Post
 expr-reads-name-of-requires t c κs = search needs
@@ -101,7 +106,7 @@ expr-reads-enum-told : (t : ℕ) → expr-reads-lts.Need-enum-told (expr-reads-c
 expr-reads-enum-told t c = search needs
 
 expr-reads-returns-2 : (t : ℕ) → expr-reads-lts.Need-returns-2 (expr-reads-claims t) (expr-reads-at t) expr-reads.Post
-expr-reads-returns-2 t c = (expr-shut (c .before .before .before .before .before .before .before .before .before .before .args .e .now) (c .before .before .before .before .before .before .before .before .before .before .args .depth) (c .before .before .before .before .before .before .before .before .before .before .args .kinds .now) (names-of (c .before .before .before .before .before .before .before .before .before .before .args .names .now) (c .before .before .before .before .before .before .before .before .before .before .args .used)) (c .before .before .before .before .before .before .before .before .before .before .args .g .now) (c .before .before .before .before .before .before .before .before .before .before .args .from) (c .before .before .before .name-of .result) (c .before .before .before .name-of .ensures) (sym (c .before .before .before .before .before .byte .ensures) ∙ c .before .before .before .before .if1 .left) (c .before .enum-told .given .1) (c .if2 .taken), tt)
+expr-reads-returns-2 t c = (expr-shut (c .before .before .before .before .before .before .before .before .before .before .before .args .e .now) (c .before .before .before .before .before .before .before .before .before .before .before .args .depth) (c .before .before .before .before .before .before .before .before .before .before .before .args .kinds .now) (names-of (c .before .before .before .before .before .before .before .before .before .before .before .args .names .now) (c .before .before .before .before .before .before .before .before .before .before .before .args .used)) (c .before .before .before .before .before .before .before .before .before .before .before .args .g .now) (c .before .before .before .before .before .before .before .before .before .before .before .args .from) (c .before .before .before .name-of .result) (c .before .before .before .name-of .ensures) (byte-is _ _ _ 40 (c .before .before .before .before .before .is-open .ensures) (c .before .before .before .before .before .before .byte .ensures) (not-false _ (c .before .before .before .before .if1 .left))) (c .before .enum-told .given .1) (c .if2 .taken), tt)
 
 expr-reads-byte-requires-2 : (t : ℕ) → expr-reads-lts.Need-byte-requires-2 (expr-reads-claims t) (expr-reads-at t) expr-reads.Post
 expr-reads-byte-requires-2 t c κs = search needs
@@ -116,7 +121,7 @@ expr-reads-same-length : (t : ℕ) → expr-reads-lts.Need-same-length (expr-rea
 expr-reads-same-length t c = search needs
 
 expr-reads-returns-3 : (t : ℕ) → expr-reads-lts.Need-returns-3 (expr-reads-claims t) (expr-reads-at t) expr-reads.Post
-expr-reads-returns-3 t c = (expr-field (c .before .before .before .before .before .before .before .before .before .before .before .before .before .before .before .before .args .e .now) (c .before .before .before .before .before .before .before .before .before .before .before .before .before .before .before .before .args .depth) (c .before .before .before .before .before .before .before .before .before .before .before .before .before .before .before .before .args .kinds .now) (names-of (c .before .before .before .before .before .before .before .before .before .before .before .before .before .before .before .before .args .names .now) (c .before .before .before .before .before .before .before .before .before .before .before .before .before .before .before .before .args .used)) (c .before .before .before .before .before .before .before .before .before .before .before .before .before .before .before .before .args .g .now) (c .before .before .before .before .before .before .before .before .before .before .before .before .before .before .before .before .args .from) (c .before .before .before .before .before .before .before .before .before .name-of .result) (c .before .before .before .before .before .before .before .before .before .name-of .ensures) (sym (c .before .before .before .before .before .before .before .before .before .before .before .byte .ensures) ∙ c .before .before .before .before .before .before .before .before .before .before .if1 .left) (c .before .before .before .before .before .before .before .enum-told .given .1) (sym (c .before .before .before .before .before .byte2 .ensures) ∙ c .before .before .before .before .if3 .taken) (c .before .before .field-reads .result) _ (c .before .before .field-reads .ensures .0), c .before .before .field-reads .ensures .1)
+expr-reads-returns-3 t c = (expr-field (c .before .before .before .before .before .before .before .before .before .before .before .before .before .before .before .before .before .args .e .now) (c .before .before .before .before .before .before .before .before .before .before .before .before .before .before .before .before .before .args .depth) (c .before .before .before .before .before .before .before .before .before .before .before .before .before .before .before .before .before .args .kinds .now) (names-of (c .before .before .before .before .before .before .before .before .before .before .before .before .before .before .before .before .before .args .names .now) (c .before .before .before .before .before .before .before .before .before .before .before .before .before .before .before .before .before .args .used)) (c .before .before .before .before .before .before .before .before .before .before .before .before .before .before .before .before .before .args .g .now) (c .before .before .before .before .before .before .before .before .before .before .before .before .before .before .before .before .before .args .from) (c .before .before .before .before .before .before .before .before .before .name-of .result) (c .before .before .before .before .before .before .before .before .before .name-of .ensures) (byte-is _ _ _ 40 (c .before .before .before .before .before .before .before .before .before .before .before .is-open .ensures) (c .before .before .before .before .before .before .before .before .before .before .before .before .byte .ensures) (not-false _ (c .before .before .before .before .before .before .before .before .before .before .if1 .left))) (c .before .before .before .before .before .before .before .enum-told .given .1) (sym (c .before .before .before .before .before .byte2 .ensures) ∙ c .before .before .before .before .if3 .taken) (c .before .before .field-reads .result) _ (c .before .before .field-reads .ensures .0), c .before .before .field-reads .ensures .1)
 
 expr-reads-part-end-requires : (t : ℕ) → expr-reads-lts.Need-part-end-requires (expr-reads-claims t) (expr-reads-at t) expr-reads.Post
 expr-reads-part-end-requires t c κs = search needs
@@ -131,13 +136,13 @@ expr-reads-same-length-2 : (t : ℕ) → expr-reads-lts.Need-same-length-2 (expr
 expr-reads-same-length-2 t c = search needs
 
 expr-reads-returns-4 : (t : ℕ) → expr-reads-lts.Need-returns-4 (expr-reads-claims t) (expr-reads-at t) expr-reads.Post
-expr-reads-returns-4 t c = (expr-name (c .before .before .before .before .before .before .before .before .before .before .before .before .before .before .args .e .now) (c .before .before .before .before .before .before .before .before .before .before .before .before .before .before .args .depth) (c .before .before .before .before .before .before .before .before .before .before .before .before .before .before .args .kinds .now) (names-of (c .before .before .before .before .before .before .before .before .before .before .before .before .before .before .args .names .now) (c .before .before .before .before .before .before .before .before .before .before .before .before .before .before .args .used)) (c .before .before .before .before .before .before .before .before .before .before .before .before .before .before .args .g .now) (c .before .before .before .before .before .before .before .before .before .before .before .before .before .before .args .from) (c .before .before .before .before .before .before .before .name-of .result) (c .before .before .before .before .before .before .before .name-of .ensures) (c .before .before .before .before .before .n .given .1) (c .before .before .name-read .result) _ (c .before .before .name-read .ensures .0), c .before .before .name-read .ensures .1)
+expr-reads-returns-4 t c = (expr-name (c .before .before .before .before .before .before .before .before .before .before .before .before .before .before .before .args .e .now) (c .before .before .before .before .before .before .before .before .before .before .before .before .before .before .before .args .depth) (c .before .before .before .before .before .before .before .before .before .before .before .before .before .before .before .args .kinds .now) (names-of (c .before .before .before .before .before .before .before .before .before .before .before .before .before .before .before .args .names .now) (c .before .before .before .before .before .before .before .before .before .before .before .before .before .before .before .args .used)) (c .before .before .before .before .before .before .before .before .before .before .before .before .before .before .before .args .g .now) (c .before .before .before .before .before .before .before .before .before .before .before .before .before .before .before .args .from) (c .before .before .before .before .before .before .before .name-of .result) (c .before .before .before .before .before .before .before .name-of .ensures) (c .before .before .before .before .before .n .given .1) (c .before .before .name-read .result) _ (c .before .before .name-read .ensures .0), c .before .before .name-read .ensures .1)
 
 expr-reads-same-length-3 : (t : ℕ) → expr-reads-lts.Need-same-length-3 (expr-reads-claims t) (expr-reads-at t) expr-reads.Post
 expr-reads-same-length-3 t c = search needs
 
 expr-reads-returns-5 : (t : ℕ) → expr-reads-lts.Need-returns-5 (expr-reads-claims t) (expr-reads-at t) expr-reads.Post
-expr-reads-returns-5 t c = (expr-parts (c .before .before .before .before .before .before .before .before .before .before .before .before .before .before .before .before .before .args .e .now) (c .before .before .before .before .before .before .before .before .before .before .before .before .before .before .before .before .before .args .depth) (c .before .before .before .before .before .before .before .before .before .before .before .before .before .before .before .before .before .args .kinds .now) (names-of (c .before .before .before .before .before .before .before .before .before .before .before .before .before .before .before .before .before .args .names .now) (c .before .before .before .before .before .before .before .before .before .before .before .before .before .before .before .before .before .args .used)) (c .before .before .before .before .before .before .before .before .before .before .before .before .before .before .before .before .before .args .g .now) (c .before .before .before .before .before .before .before .before .before .before .before .before .before .before .before .before .before .args .from) (c .before .before .before .before .before .before .before .before .before .before .name-of .result) (c .before .before .before .before .before .before .before .before .before .before .name-of .ensures) (sym (c .before .before .before .before .before .before .before .before .before .before .before .before .byte .ensures) ∙ c .before .before .before .before .before .before .before .before .before .before .before .if1 .left) (c .before .before .before .before .before .before .before .before .enum-told .given .1) (λ e. c .before .before .before .before .before .if3 .left (c .before .before .before .before .before .before .byte2 .ensures ∙ e)) (c .before .before .before .before .part-end .ensures) (c .before .before .parts-read .result) _ (c .before .before .parts-read .ensures .0), c .before .before .parts-read .ensures .1)
+expr-reads-returns-5 t c = (expr-parts (c .before .before .before .before .before .before .before .before .before .before .before .before .before .before .before .before .before .before .args .e .now) (c .before .before .before .before .before .before .before .before .before .before .before .before .before .before .before .before .before .before .args .depth) (c .before .before .before .before .before .before .before .before .before .before .before .before .before .before .before .before .before .before .args .kinds .now) (names-of (c .before .before .before .before .before .before .before .before .before .before .before .before .before .before .before .before .before .before .args .names .now) (c .before .before .before .before .before .before .before .before .before .before .before .before .before .before .before .before .before .before .args .used)) (c .before .before .before .before .before .before .before .before .before .before .before .before .before .before .before .before .before .before .args .g .now) (c .before .before .before .before .before .before .before .before .before .before .before .before .before .before .before .before .before .before .args .from) (c .before .before .before .before .before .before .before .before .before .before .name-of .result) (c .before .before .before .before .before .before .before .before .before .before .name-of .ensures) (byte-is _ _ _ 40 (c .before .before .before .before .before .before .before .before .before .before .before .before .is-open .ensures) (c .before .before .before .before .before .before .before .before .before .before .before .before .before .byte .ensures) (not-false _ (c .before .before .before .before .before .before .before .before .before .before .before .if1 .left))) (c .before .before .before .before .before .before .before .before .enum-told .given .1) (λ e. c .before .before .before .before .before .if3 .left (c .before .before .before .before .before .before .byte2 .ensures ∙ e)) (c .before .before .before .before .part-end .ensures) (c .before .before .parts-read .result) _ (c .before .before .parts-read .ensures .0), c .before .before .parts-read .ensures .1)
 
 field-reads-next-end-requires : (t : ℕ) → field-reads-lts.Need-next-end-requires (field-reads-claims t) (field-reads-at t) field-reads.Post
 field-reads-next-end-requires t c κs = search needs
@@ -250,6 +255,7 @@ pub +expr-reads+field-reads+parts-read-spec : {M : Type 1} → statement M
     (expr-reads-at t)
     expr-reads.Post
     (expr-reads-byte-requires t)
+    (expr-reads-is-open-requires t)
     (expr-reads-returns t)
     (expr-reads-name-of-requires t)
     (expr-reads-enum-known-n t)

@@ -41,7 +41,7 @@ same-length-2 : tie.Need-same-length-2
 same-length-2 c = search needs
 
 returns-2 : tie.Need-returns-2
-returns-2 c = (index-full (c .before .before .before .before .before .before .before .before .before .before .before .before .before .args .g .now) (c .before .before .before .before .before .before .before .before .before .before .before .before .before .args .from) (c .before .before .before .before .before .before .before .before .before .before .before .before .before .args .i) (c .before .before .before .before .before .before .before .before .before .before .before .before .before .args .p) (c .before .before .before .before .before .before .before .before .before .eval .ensures) (c .before .before .before .before .before .before .before .v .given .1) (c .before .before .before .before .read .result) _ (c .before .before .before .before .read .ensures .0) (c .enum-told2 .given .1), full-cleared (c .before .before .before .before .read .result) _ (c .enum-told2 .given .1) (c .before .before .before .before .read .ensures .1))
+returns-2 c = (index-full (c .before .before .before .before .before .before .before .before .before .before .before .before .before .args .g .now) (c .before .before .before .before .before .before .before .before .before .before .before .before .before .args .from) (c .before .before .before .before .before .before .before .before .before .before .before .before .before .args .i) (c .before .before .before .before .before .before .before .before .before .before .before .before .before .args .p) (c .before .before .before .before .before .before .before .before .before .eval .ensures) (c .before .before .before .before .before .before .before .v .given .1) (c .before .before .before .before .read .result) _ (c .before .before .before .before .read .ensures .0) (c .enum-told2 .given .1), full-cleared (c .before .before .before .before .read .result) _ (c .enum-told2 .given .1) (c .before .before .before .before .read .ensures .1 .0))
 
 returns-3 : tie.Need-returns-3
 returns-3 c = (index-missing (c .before .before .before .before .before .before .args .g .now) (c .before .before .before .before .before .before .args .from) (c .before .before .before .before .before .before .args .i) (c .before .before .before .before .before .before .args .p) (c .before .before .eval .ensures) (c .enum-told3 .given .1), tt)

@@ -49,7 +49,7 @@ same-length : tie.Need-same-length Inv-loop μ-loop
 same-length c = search needs
 
 returns : tie.Need-returns Inv-loop μ-loop
-returns c = (c .before .before .before .before .before .before .before .before .before .before .loop .inv .1 false (c .before .before .before .output-head .last .1 .1 .1 .1 .1 .1 .1 .1 .1 .1 .0) (outputs-stop (worth (c .before .before .before .before .before .before .before .before .before .before .before .before .before .before .before .before .args .index)) (summary-at (c .before .before .before .before .before .before .before .before .before .before .before .before .before .before .before .before .args .w .now) (c .before .before .before .before .before .before .before .before .before .before .before .before .before .before .before .before .args .first) (c .before .before .before .before .before .before .before .before .before .before .before .before .before .before .before .before .args .count)) (c .before .before .before .before .before .before .before .before .before .before .before .before .before .before .before .before .args .x .now) (c .before .before .before .before .before .before .before .before .before .before .before .before .before .before .before .before .args .depth) (c .before .before .before .before .before .before .before .before .before .before .before .before .before .before .before .before .args .kinds .now) (names-of (c .before .before .before .before .before .before .before .before .before .before .before .before .before .before .before .before .args .names .now) (c .before .before .before .before .before .before .before .before .before .before .before .before .before .before .before .before .args .used)) (pair-word (c .before .before .before .before .before .before .before .before .before .before .before .before .before .before .before .before .args .w .now) (c .before .before .before .before .before .before .before .before .before .before .loop .p) (c .before .before .before .before .before .before .before .before .before .before .loop .left) (c .before .before .before .before .before .before .before .before .before .loop-test .taken) (c .before .before .before .before .before .before .before .next-pair .result) (c .before .before .before .before .before .before .before .next-pair .ensures) (c .before .before .before .before .before .before .before .before .word .ensures)) (c .before .before .before .before .before .before .has-output .ensures) (c .before .before .before .before .before .if1 .left) (c .before .before .before .before .before .before .before .before .before .before .loop .g) (c .before .before .before .output-head .last .1 .1 .1 .1 .1 .1 .1 .1 .1 .1 .0) (c .before .before .before .output-head .result) (c .before .before .before .output-head .ensures .0) (not-true _ (c .if2 .taken))), false-cleared (c .before .before .before .output-head .result) _ (not-true _ (c .if2 .taken)) (c .before .before .before .output-head .ensures .1))
+returns c = (c .before .before .before .before .before .before .before .before .before .before .loop .inv .1 false (c .before .before .before .output-head .last .1 .1 .1 .1 .1 .1 .1 .1 .1 .1 .0) (outputs-stop (worth (c .before .before .before .before .before .before .before .before .before .before .before .before .before .before .before .before .args .index)) (summary-at (c .before .before .before .before .before .before .before .before .before .before .before .before .before .before .before .before .args .w .now) (c .before .before .before .before .before .before .before .before .before .before .before .before .before .before .before .before .args .first) (c .before .before .before .before .before .before .before .before .before .before .before .before .before .before .before .before .args .count)) (c .before .before .before .before .before .before .before .before .before .before .before .before .before .before .before .before .args .x .now) (c .before .before .before .before .before .before .before .before .before .before .before .before .before .before .before .before .args .depth) (c .before .before .before .before .before .before .before .before .before .before .before .before .before .before .before .before .args .kinds .now) (names-of (c .before .before .before .before .before .before .before .before .before .before .before .before .before .before .before .before .args .names .now) (c .before .before .before .before .before .before .before .before .before .before .before .before .before .before .before .before .args .used)) (pair-word (c .before .before .before .before .before .before .before .before .before .before .before .before .before .before .before .before .args .w .now) (c .before .before .before .before .before .before .before .before .before .before .loop .p) (c .before .before .before .before .before .before .before .before .before .before .loop .left) (c .before .before .before .before .before .before .before .before .before .loop-test .taken) (c .before .before .before .before .before .before .before .next-pair .result) (c .before .before .before .before .before .before .before .next-pair .ensures) (c .before .before .before .before .before .before .before .before .word .ensures)) (c .before .before .before .before .before .before .has-output .ensures) (c .before .before .before .before .before .if1 .left) (c .before .before .before .before .before .before .before .before .before .before .loop .g) (c .before .before .before .output-head .last .1 .1 .1 .1 .1 .1 .1 .1 .1 .1 .0) (c .before .before .before .output-head .result) (c .before .before .before .output-head .ensures .0) (not-true _ (c .if2 .taken))), (false-cleared (c .before .before .before .output-head .result) _ (not-true _ (c .if2 .taken)) (c .before .before .before .output-head .ensures .1), search needs))
 
 loop-less-2 : tie.Need-loop-less-2 Inv-loop μ-loop
 loop-less-2 c = omega arith
@@ -61,7 +61,7 @@ same-length-2 : tie.Need-same-length-2 Inv-loop μ-loop
 same-length-2 c = search needs
 
 returns-2 : tie.Need-returns-2 Inv-loop μ-loop
-returns-2 c = (c .before .loop .inv .1 true (c .before .loop .g) (outputs-none (worth (c .before .before .before .before .before .before .before .args .index)) (summary-at (c .before .before .before .before .before .before .before .args .w .now) (c .before .before .before .before .before .before .before .args .first) (c .before .before .before .before .before .before .before .args .count)) (c .before .before .before .before .before .before .before .args .x .now) (c .before .before .before .before .before .before .before .args .depth) (c .before .before .before .before .before .before .before .args .kinds .now) (names-of (c .before .before .before .before .before .before .before .args .names .now) (c .before .before .before .before .before .before .before .args .used)) (c .before .loop .g) (no-pairs (c .before .before .before .before .before .before .before .args .w .now) (c .before .loop .p) (c .before .loop .left) (c .loop-test .left))), tt)
+returns-2 c = (c .before .loop .inv .1 true (c .before .loop .g) (outputs-none (worth (c .before .before .before .before .before .before .before .args .index)) (summary-at (c .before .before .before .before .before .before .before .args .w .now) (c .before .before .before .before .before .before .before .args .first) (c .before .before .before .before .before .before .before .args .count)) (c .before .before .before .before .before .before .before .args .x .now) (c .before .before .before .before .before .before .before .args .depth) (c .before .before .before .before .before .before .before .args .kinds .now) (names-of (c .before .before .before .before .before .before .before .args .names .now) (c .before .before .before .before .before .before .before .args .used)) (c .before .loop .g) (no-pairs (c .before .before .before .before .before .before .before .args .w .now) (c .before .loop .p) (c .before .loop .left) (c .loop-test .left))), (tt, search needs))
 
 pub inst-heads-spec : {M : Type 1} → statement M
 inst-heads-spec =

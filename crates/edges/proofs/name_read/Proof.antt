@@ -33,7 +33,7 @@ same-length-2 : tie.Need-same-length-2
 same-length-2 c = search needs
 
 returns-4 : tie.Need-returns-4
-returns-4 c = (name-full (c .before .before .before .before .before .before .before .before .before .before .before .args .kinds .now) (c .before .before .before .before .before .before .before .before .before .before .before .args .n) (c .before .before .before .before .before .before .before .before .before .before .before .args .g .now) (c .before .before .before .before .before .before .before .before .before .before .before .args .from) (c .before .before .before .before .before .before .before .before .byte .ensures) (c .before .before .before .before .before .before .before .if1 .left) (c .before .before .before .before .before .before .if2 .left) (c .before .before .before .before .read .result) _ (c .before .before .before .before .read .ensures .0) (c .enum-told2 .given .1), full-cleared (c .before .before .before .before .read .result) _ (c .enum-told2 .given .1) (c .before .before .before .before .read .ensures .1))
+returns-4 c = (name-full (c .before .before .before .before .before .before .before .before .before .before .before .args .kinds .now) (c .before .before .before .before .before .before .before .before .before .before .before .args .n) (c .before .before .before .before .before .before .before .before .before .before .before .args .g .now) (c .before .before .before .before .before .before .before .before .before .before .before .args .from) (c .before .before .before .before .before .before .before .before .byte .ensures) (c .before .before .before .before .before .before .before .if1 .left) (c .before .before .before .before .before .before .if2 .left) (c .before .before .before .before .read .result) _ (c .before .before .before .before .read .ensures .0) (c .enum-told2 .given .1), full-cleared (c .before .before .before .before .read .result) _ (c .enum-told2 .given .1) (c .before .before .before .before .read .ensures .1 .0))
 
 pub name-read-spec : {M : Type 1} → statement M
 name-read-spec =

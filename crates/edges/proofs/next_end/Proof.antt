@@ -12,7 +12,7 @@ part-end-requires : tie.Need-part-end-requires
 part-end-requires c κs = search needs
 
 returns : tie.Need-returns
-returns c = ends-in (c .before .before .before .args .s .now) (c .before .before .before .args .before) (c .part-end .ensures)
+returns c = ends-in (c .before .before .before .args .s .now) (c .before .before .before .args .before) (c .before .if1 .taken) (c .part-end .ensures)
 
 returns-2 : tie.Need-returns-2
 returns-2 c = ends-past (c .before .before .args .s .now) (c .before .before .args .before) (c .if1 .left)

@@ -26,7 +26,7 @@ same-length-2 : tie.Need-same-length-2
 same-length-2 c = search needs
 
 returns-2 : tie.Need-returns-2
-returns-2 c = (output-full (c .before .before .before .before .before .before .before .args .g .now) (c .before .before .before .before .before .before .before .args .from) (inst-out (c .before .before .before .before .before .before .before .args .i) none (c .before .before .before .before .before .before .before .args .p)) (c .before .before .before .before .read .result) _ (c .before .before .before .before .read .ensures .0) (c .enum-told2 .given .1), full-cleared (c .before .before .before .before .read .result) _ (c .enum-told2 .given .1) (c .before .before .before .before .read .ensures .1))
+returns-2 c = (output-full (c .before .before .before .before .before .before .before .args .g .now) (c .before .before .before .before .before .before .before .args .from) (inst-out (c .before .before .before .before .before .before .before .args .i) none (c .before .before .before .before .before .before .before .args .p)) (c .before .before .before .before .read .result) _ (c .before .before .before .before .read .ensures .0) (c .enum-told2 .given .1), full-cleared (c .before .before .before .before .read .result) _ (c .enum-told2 .given .1) (c .before .before .before .before .read .ensures .1 .0))
 
 pub output-read-spec : {M : Type 1} → statement M
 output-read-spec =

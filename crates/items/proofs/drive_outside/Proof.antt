@@ -1,10 +1,9 @@
 -- `drive_outside` meets its contract, one law for each way. Assumes nothing.
-use mathlib.Core.Path.{sym, _∙_}
+use mathlib.Core.Path.{sym, _∙_, ap}
 use mathlib.Core.Bool.{true, false}
-use mathlib.Core.List.{[]}
 use Rattle.consteval.specs.Worth.{names-of}
-use Rattle.items.proofs.LineLaws.{outside-none, outside-drive}
-use Rattle.items.proofs.DriveLaws.{outside-other, outside-not, outside-is}
+use Rattle.items.specs.Lines.{says-outside}
+use Rattle.items.proofs.DriveLaws.{no-drive, other-kind, output-kind}
 use borrow.Author.Needs.{needs}
 use Rattle.items.proofs.drive_outside.Statement.{statement}
 use Rattle.items.proofs.drive_outside.Tie as tie
@@ -13,7 +12,7 @@ byte-requires : tie.Need-byte-requires
 byte-requires c κs = search needs
 
 returns : tie.Need-returns
-returns c = outside-none (c .before .before .before .before .before .args .x .now) (c .before .before .before .before .before .args .depth) (c .before .before .before .before .before .args .kinds .now) (names-of (c .before .before .before .before .before .args .names .now) (c .before .before .before .before .before .args .used)) (λ e. c .if1 .taken (c .before .byte .ensures ∙ e))
+returns c = no-drive (c .before .before .before .before .before .args .x .now) (c .before .before .before .before .before .args .depth) (c .before .before .before .before .before .args .kinds .now) (names-of (c .before .before .before .before .before .args .names .now) (c .before .before .before .before .before .args .used)) (λ e. c .if1 .taken (c .before .byte .ensures ∙ e))
 
 part-end-requires : tie.Need-part-end-requires
 part-end-requires c κs = search needs
@@ -31,7 +30,7 @@ byte-requires-2 : tie.Need-byte-requires-2
 byte-requires-2 c κs = search needs
 
 returns-2 : tie.Need-returns-2
-returns-2 c = outside-drive (c .before .before .before .before .before .before .before .before .before .before .before .args .x .now) (c .before .before .before .before .before .before .before .before .before .before .before .args .depth) (c .before .before .before .before .before .before .before .before .before .before .before .args .kinds .now) (names-of (c .before .before .before .before .before .before .before .before .before .before .before .args .names .now) (c .before .before .before .before .before .before .before .before .before .before .before .args .used)) (sym (c .before .before .before .before .before .before .before .byte .ensures) ∙ c .before .before .before .before .before .before .if1 .left) false (λ lv e p header w. outside-other (c .before .before .before .before .before .before .before .before .before .before .before .args .x .now) true (c .before .before .before .before .before .before .before .before .before .before .before .args .depth) (c .before .before .before .before .before .before .before .before .before .before .before .args .kinds .now) (names-of (c .before .before .before .before .before .before .before .before .before .before .before .args .names .now) (c .before .before .before .before .before .before .before .before .before .before .before .args .used)) [] (c .before .before .before .before .before .part-end .ensures) (c .before .before .before .before .between .ensures) (c .before .before .before .named-at .result) (c .before .before .before .named-at .ensures) (c .before .byte2 .ensures) (c .if2 .taken) lv e p header w)
+returns-2 c = other-kind (c .before .before .before .before .before .before .before .before .before .before .before .args .x .now) (c .before .before .before .before .before .before .before .before .before .before .before .args .depth) (c .before .before .before .before .before .before .before .before .before .before .before .args .kinds .now) (names-of (c .before .before .before .before .before .before .before .before .before .before .before .args .names .now) (c .before .before .before .before .before .before .before .before .before .before .before .args .used)) (sym (c .before .before .before .before .before .before .before .byte .ensures) ∙ c .before .before .before .before .before .before .if1 .left) (c .before .before .before .before .before .part-end .ensures) (c .before .before .before .before .between .ensures) (c .before .before .before .named-at .result) (c .before .before .before .named-at .ensures) (c .before .byte2 .ensures) (c .if2 .taken)
 
 lvalue-extent-requires : tie.Need-lvalue-extent-requires
 lvalue-extent-requires c κs = search needs
@@ -43,10 +42,10 @@ enum-told-2 : tie.Need-enum-told-2
 enum-told-2 c = search needs
 
 returns-3 : tie.Need-returns-3
-returns-3 c = outside-drive (c .before .before .before .before .before .before .before .before .before .before .before .before .before .before .args .x .now) (c .before .before .before .before .before .before .before .before .before .before .before .before .before .before .args .depth) (c .before .before .before .before .before .before .before .before .before .before .before .before .before .before .args .kinds .now) (names-of (c .before .before .before .before .before .before .before .before .before .before .before .before .before .before .args .names .now) (c .before .before .before .before .before .before .before .before .before .before .before .before .before .before .args .used)) (sym (c .before .before .before .before .before .before .before .before .before .before .byte .ensures) ∙ c .before .before .before .before .before .before .before .before .before .if1 .left) false (λ lv e p header w. outside-not (c .before .before .before .before .before .before .before .before .before .before .before .before .before .before .args .x .now) true (c .before .before .before .before .before .before .before .before .before .before .before .before .before .before .args .depth) (c .before .before .before .before .before .before .before .before .before .before .before .before .before .before .args .kinds .now) (names-of (c .before .before .before .before .before .before .before .before .before .before .before .before .before .before .args .names .now) (c .before .before .before .before .before .before .before .before .before .before .before .before .before .before .args .used)) [] (c .before .before .before .before .before .before .before .before .part-end .ensures) (c .before .before .before .before .before .before .before .between .ensures) (c .before .before .before .before .before .before .named-at .result) (c .before .before .before .before .before .before .named-at .ensures) (c .before .before .before .before .byte2 .ensures) (c .before .before .before .if2 .left) (c .before .before .lvalue-extent .result) (c .before .before .lvalue-extent .ensures) lv e p header w (c .enum-told .given .1))
+returns-3 c = output-kind (c .before .before .before .before .before .before .before .before .before .before .before .before .before .before .args .x .now) (c .before .before .before .before .before .before .before .before .before .before .before .before .before .before .args .depth) (c .before .before .before .before .before .before .before .before .before .before .before .before .before .before .args .kinds .now) (names-of (c .before .before .before .before .before .before .before .before .before .before .before .before .before .before .args .names .now) (c .before .before .before .before .before .before .before .before .before .before .before .before .before .before .args .used)) (sym (c .before .before .before .before .before .before .before .before .before .before .byte .ensures) ∙ c .before .before .before .before .before .before .before .before .before .if1 .left) (c .before .before .before .before .before .before .before .before .part-end .ensures) (c .before .before .before .before .before .before .before .between .ensures) (c .before .before .before .before .before .before .named-at .result) (c .before .before .before .before .before .before .named-at .ensures) (c .before .before .before .before .byte2 .ensures) (c .before .before .before .if2 .left) (c .before .before .lvalue-extent .result) (c .before .before .lvalue-extent .ensures .1) false (ap says-outside (c .enum-told .given .1))
 
 returns-4 : tie.Need-returns-4
-returns-4 c = outside-drive (c .before .before .before .before .before .before .before .before .before .before .before .before .before .before .args .x .now) (c .before .before .before .before .before .before .before .before .before .before .before .before .before .before .args .depth) (c .before .before .before .before .before .before .before .before .before .before .before .before .before .before .args .kinds .now) (names-of (c .before .before .before .before .before .before .before .before .before .before .before .before .before .before .args .names .now) (c .before .before .before .before .before .before .before .before .before .before .before .before .before .before .args .used)) (sym (c .before .before .before .before .before .before .before .before .before .before .byte .ensures) ∙ c .before .before .before .before .before .before .before .before .before .if1 .left) true (λ lv e p header w. outside-is (c .before .before .before .before .before .before .before .before .before .before .before .before .before .before .args .x .now) true (c .before .before .before .before .before .before .before .before .before .before .before .before .before .before .args .depth) (c .before .before .before .before .before .before .before .before .before .before .before .before .before .before .args .kinds .now) (names-of (c .before .before .before .before .before .before .before .before .before .before .before .before .before .before .args .names .now) (c .before .before .before .before .before .before .before .before .before .before .before .before .before .before .args .used)) [] (c .before .before .before .before .before .before .before .before .part-end .ensures) (c .before .before .before .before .before .before .before .between .ensures) (c .before .before .before .before .before .before .named-at .result) (c .before .before .before .before .before .before .named-at .ensures) (c .before .before .before .before .byte2 .ensures) (c .before .before .before .if2 .left) (c .before .before .lvalue-extent .result) (c .before .before .lvalue-extent .ensures) lv e p header w (c .enum-told2 .given .1))
+returns-4 c = output-kind (c .before .before .before .before .before .before .before .before .before .before .before .before .before .before .args .x .now) (c .before .before .before .before .before .before .before .before .before .before .before .before .before .before .args .depth) (c .before .before .before .before .before .before .before .before .before .before .before .before .before .before .args .kinds .now) (names-of (c .before .before .before .before .before .before .before .before .before .before .before .before .before .before .args .names .now) (c .before .before .before .before .before .before .before .before .before .before .before .before .before .before .args .used)) (sym (c .before .before .before .before .before .before .before .before .before .before .byte .ensures) ∙ c .before .before .before .before .before .before .before .before .before .if1 .left) (c .before .before .before .before .before .before .before .before .part-end .ensures) (c .before .before .before .before .before .before .before .between .ensures) (c .before .before .before .before .before .before .named-at .result) (c .before .before .before .before .before .before .named-at .ensures) (c .before .before .before .before .byte2 .ensures) (c .before .before .before .if2 .left) (c .before .before .lvalue-extent .result) (c .before .before .lvalue-extent .ensures .1) true (ap says-outside (c .enum-told2 .given .1))
 
 pub drive-outside-spec : {M : Type 1} → statement M
 drive-outside-spec =

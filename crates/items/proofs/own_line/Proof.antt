@@ -34,7 +34,7 @@ same-length-3 : tie.Need-same-length-3
 same-length-3 c = search needs
 
 returns-3 : tie.Need-returns-3
-returns-3 c = (own-port (c .before .before .before .before .before .before .before .before .before .before .before .before .args .x .now) (c .before .before .before .before .before .before .before .before .before .before .before .before .args .base) (c .before .before .before .before .before .before .before .before .before .before .before .before .args .bound) (c .before .before .before .before .before .before .before .before .before .before .before .before .args .depth) (c .before .before .before .before .before .before .before .before .before .before .before .before .args .kinds .now) (names-of (c .before .before .before .before .before .before .before .before .before .before .before .before .args .names .now) (c .before .before .before .before .before .before .before .before .before .before .before .before .args .used)) (c .before .before .before .before .before .before .before .before .before .before .before .before .args .own .now) (sym (c .before .before .before .before .before .before .before .byte .ensures) ∙ c .before .before .before .before .if3 .taken) _ (c .before .before .port-line .ensures .0), (c .before .before .port-line .ensures .1, tt))
+returns-3 c = (own-port (c .before .before .before .before .before .before .before .before .before .before .before .before .args .x .now) (c .before .before .before .before .before .before .before .before .before .before .before .before .args .base) (c .before .before .before .before .before .before .before .before .before .before .before .before .args .bound) (c .before .before .before .before .before .before .before .before .before .before .before .before .args .depth) (c .before .before .before .before .before .before .before .before .before .before .before .before .args .kinds .now) (names-of (c .before .before .before .before .before .before .before .before .before .before .before .before .args .names .now) (c .before .before .before .before .before .before .before .before .before .before .before .before .args .used)) (c .before .before .before .before .before .before .before .before .before .before .before .before .args .own .now) (sym (c .before .before .before .before .before .before .before .byte .ensures) ∙ c .before .before .before .before .if3 .taken) _ (c .before .before .port-line .ensures .0), c .before .before .port-line .ensures .1)
 
 reg-line-requires : tie.Need-reg-line-requires
 reg-line-requires c κs = search needs
@@ -43,7 +43,7 @@ same-length-4 : tie.Need-same-length-4
 same-length-4 c = search needs
 
 returns-4 : tie.Need-returns-4
-returns-4 c = (own-reg (c .before .before .before .before .before .before .before .before .before .before .before .before .before .args .x .now) (c .before .before .before .before .before .before .before .before .before .before .before .before .before .args .base) (c .before .before .before .before .before .before .before .before .before .before .before .before .before .args .bound) (c .before .before .before .before .before .before .before .before .before .before .before .before .before .args .depth) (c .before .before .before .before .before .before .before .before .before .before .before .before .before .args .kinds .now) (names-of (c .before .before .before .before .before .before .before .before .before .before .before .before .before .args .names .now) (c .before .before .before .before .before .before .before .before .before .before .before .before .before .args .used)) (c .before .before .before .before .before .before .before .before .before .before .before .before .before .args .own .now) (sym (c .before .before .before .before .before .before .before .before .byte .ensures) ∙ c .before .before .before .before .if4 .taken) _ (c .before .before .reg-line .ensures .0), (c .before .before .reg-line .ensures .1, tt))
+returns-4 c = (own-reg (c .before .before .before .before .before .before .before .before .before .before .before .before .before .args .x .now) (c .before .before .before .before .before .before .before .before .before .before .before .before .before .args .base) (c .before .before .before .before .before .before .before .before .before .before .before .before .before .args .bound) (c .before .before .before .before .before .before .before .before .before .before .before .before .before .args .depth) (c .before .before .before .before .before .before .before .before .before .before .before .before .before .args .kinds .now) (names-of (c .before .before .before .before .before .before .before .before .before .before .before .before .before .args .names .now) (c .before .before .before .before .before .before .before .before .before .before .before .before .before .args .used)) (c .before .before .before .before .before .before .before .before .before .before .before .before .before .args .own .now) (sym (c .before .before .before .before .before .before .before .before .byte .ensures) ∙ c .before .before .before .before .if4 .taken) _ (c .before .before .reg-line .ensures .0), c .before .before .reg-line .ensures .1)
 
 mem-line-requires : tie.Need-mem-line-requires
 mem-line-requires c κs = search needs
@@ -52,10 +52,10 @@ same-length-5 : tie.Need-same-length-5
 same-length-5 c = search needs
 
 returns-5 : tie.Need-returns-5
-returns-5 c = (own-mem (c .before .before .before .before .before .before .before .before .before .before .before .before .before .before .args .x .now) (c .before .before .before .before .before .before .before .before .before .before .before .before .before .before .args .base) (c .before .before .before .before .before .before .before .before .before .before .before .before .before .before .args .bound) (c .before .before .before .before .before .before .before .before .before .before .before .before .before .before .args .depth) (c .before .before .before .before .before .before .before .before .before .before .before .before .before .before .args .kinds .now) (names-of (c .before .before .before .before .before .before .before .before .before .before .before .before .before .before .args .names .now) (c .before .before .before .before .before .before .before .before .before .before .before .before .before .before .args .used)) (c .before .before .before .before .before .before .before .before .before .before .before .before .before .before .args .own .now) (sym (c .before .before .before .before .before .before .before .before .before .byte .ensures) ∙ c .before .before .before .before .if5 .taken) _ (c .before .before .mem-line .ensures .0), (c .before .before .mem-line .ensures .1, tt))
+returns-5 c = (own-mem (c .before .before .before .before .before .before .before .before .before .before .before .before .before .before .args .x .now) (c .before .before .before .before .before .before .before .before .before .before .before .before .before .before .args .base) (c .before .before .before .before .before .before .before .before .before .before .before .before .before .before .args .bound) (c .before .before .before .before .before .before .before .before .before .before .before .before .before .before .args .depth) (c .before .before .before .before .before .before .before .before .before .before .before .before .before .before .args .kinds .now) (names-of (c .before .before .before .before .before .before .before .before .before .before .before .before .before .before .args .names .now) (c .before .before .before .before .before .before .before .before .before .before .before .before .before .before .args .used)) (c .before .before .before .before .before .before .before .before .before .before .before .before .before .before .args .own .now) (sym (c .before .before .before .before .before .before .before .before .before .byte .ensures) ∙ c .before .before .before .before .if5 .taken) _ (c .before .before .mem-line .ensures .0), c .before .before .mem-line .ensures .1)
 
 returns-6 : tie.Need-returns-6
-returns-6 c = (own-other (c .before .before .before .before .before .before .before .before .before .before .args .x .now) (c .before .before .before .before .before .before .before .before .before .before .args .base) (c .before .before .before .before .before .before .before .before .before .before .args .bound) (c .before .before .before .before .before .before .before .before .before .before .args .depth) (c .before .before .before .before .before .before .before .before .before .before .args .kinds .now) (names-of (c .before .before .before .before .before .before .before .before .before .before .args .names .now) (c .before .before .before .before .before .before .before .before .before .before .args .used)) (c .before .before .before .before .before .before .before .before .before .before .args .own .now) (λ e. c .before .before .before .before .if1 .left (c .before .before .before .before .before .byte .ensures ∙ e)) (λ e. c .before .before .before .if2 .left (c .before .before .before .before .before .byte .ensures ∙ e)) (λ e. c .before .before .if3 .left (c .before .before .before .before .before .byte .ensures ∙ e)) (λ e. c .before .if4 .left (c .before .before .before .before .before .byte .ensures ∙ e)) (λ e. c .if5 .left (c .before .before .before .before .before .byte .ensures ∙ e)), (refl, tt))
+returns-6 c = (own-other (c .before .before .before .before .before .before .before .before .before .before .args .x .now) (c .before .before .before .before .before .before .before .before .before .before .args .base) (c .before .before .before .before .before .before .before .before .before .before .args .bound) (c .before .before .before .before .before .before .before .before .before .before .args .depth) (c .before .before .before .before .before .before .before .before .before .before .args .kinds .now) (names-of (c .before .before .before .before .before .before .before .before .before .before .args .names .now) (c .before .before .before .before .before .before .before .before .before .before .args .used)) (c .before .before .before .before .before .before .before .before .before .before .args .own .now) (λ e. c .before .before .before .before .if1 .left (c .before .before .before .before .before .byte .ensures ∙ e)) (λ e. c .before .before .before .if2 .left (c .before .before .before .before .before .byte .ensures ∙ e)) (λ e. c .before .before .if3 .left (c .before .before .before .before .before .byte .ensures ∙ e)) (λ e. c .before .if4 .left (c .before .before .before .before .before .byte .ensures ∙ e)) (λ e. c .if5 .left (c .before .before .before .before .before .byte .ensures ∙ e)), (refl, λ n. refl))
 
 pub own-line-spec : {M : Type 1} → statement M
 own-line-spec =

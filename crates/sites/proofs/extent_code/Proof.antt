@@ -1,7 +1,6 @@
 -- `sites::extent_code` meets its contract. Each arm has its code. Assumes nothing.
 use mathlib.Core.List.{[]}
 use borrow.Author.Needs.{needs}
-use Rattle.sites.specs.Own.{extent-from}
 use Rattle.sites.proofs.extent_code.Statement.{statement}
 use Rattle.sites.proofs.extent_code.Tie as tie
 
@@ -18,19 +17,15 @@ enum-told-3 : tie.Need-enum-told-3
 enum-told-3 c = search needs
 
 returns : tie.Need-returns
-unfolding extent-from
 returns c = rw (c .enum-told .given .1)
 
 returns-2 : tie.Need-returns-2
-unfolding extent-from
 returns-2 c = rw (c .before .e .given .1)
 
 returns-3 : tie.Need-returns-3
-unfolding extent-from
 returns-3 c = rw (c .enum-told2 .given .1)
 
 returns-4 : tie.Need-returns-4
-unfolding extent-from
 returns-4 c = rw (c .enum-told3 .given .1)
 
 pub extent-code-spec : {M : Type 1} → statement M

@@ -1,6 +1,5 @@
 -- `sites::extent_from` meets its contract. By its code. Assumes nothing.
 use mathlib.Core.List.{[]}
-use Rattle.sites.specs.Own.{before}
 use Rattle.sites.proofs.Sites.{extent-whole, extent-range, extent-dynamic, extent-unknown}
 use Rattle.sites.proofs.extent_from.Statement.{statement}
 use Rattle.sites.proofs.extent_from.Tie as tie

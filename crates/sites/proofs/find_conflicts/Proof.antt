@@ -20,7 +20,7 @@ abbrev μ-loop : tie.MeasureT-loop
 μ-loop own₀ n k₀ own k = k
 
 returns : tie.Need-returns Inv-loop μ-loop
-returns c = (λ h. absurd (c .if1 .taken h), (λ _. refl, refl))
+returns c = (λ h. absurd (c .if1 .taken h), ((front-same (c .before .before .args .own .now), λ _. refl), refl))
 
 slice-write-own : tie.Need-slice-write-own Inv-loop μ-loop
 slice-write-own c = search needs
@@ -62,7 +62,7 @@ returns-2 c = (
   λ _. let p = front-count (c .before .before .before .before .before .before .args .own .now) 0 in
       front-own (c .before .before .before .before .before .before .args .own .now) (c .before .loop .own) (front-then p (c .before .loop .inv .1))
       ∙ ap (λ (cs : List site.Conflict). with-conflicts cs (own-of (c .before .before .before .before .before .before .args .own .now))) (c .before .loop .inv .2 ∙ final-rows (c .before .before .before .before .before .before .args .own .now) (set (c .before .before .before .before .before .before .args .own .now) 6 0) p (c .before .before .site-count .result) (c .before .loop .k) (c .before .before .site-count .ensures .0) (omega (arith, c .loop-test .left))),
-  (λ n. absurd (n (c .before .before .before .before .if1 .left)), c .before .loop .inv .1 .size ∙ simp length-set),
+  ((front-then (front-count (c .before .before .before .before .before .before .args .own .now) 0) (c .before .loop .inv .1), λ n. absurd (n (c .before .before .before .before .if1 .left))), c .before .loop .inv .1 .size ∙ simp length-set),
 )
 
 pub find-conflicts-spec : {M : Type 1} → statement M

@@ -1,7 +1,6 @@
 -- `sites::meets` meets its contract. Each pair of arms. Assumes nothing.
 use mathlib.Core.List.{[]}
 use borrow.Author.Needs.{needs}
-use Rattle.sites.specs.Own.{before}
 use Rattle.sites.proofs.meets.Statement.{statement}
 use Rattle.sites.proofs.meets.Tie as tie
 

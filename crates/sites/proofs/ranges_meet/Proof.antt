@@ -1,12 +1,12 @@
 -- `sites::ranges_meet` meets its contract. Two tests. Assumes nothing.
 use mathlib.Core.Path.{sym}
 use borrow.Author.Needs.{needs}
-use Rattle.sites.proofs.Sites.{ranges-apart, ranges-from}
+use Rattle.sites.proofs.Sites.{ranges-below, ranges-from}
 use Rattle.sites.proofs.ranges_meet.Statement.{statement}
 use Rattle.sites.proofs.ranges_meet.Tie as tie
 
 returns : tie.Need-returns
-returns c = sym (ranges-apart (c .before .args .low) (c .before .args .high) (c .before .args .from) (c .before .args .to) (c .if1 .taken))
+returns c = sym (ranges-below (c .before .args .low) (c .before .args .high) (c .before .args .from) (c .before .args .to) (c .if1 .taken))
 
 add-end : tie.Need-add-end
 add-end c = search needs

@@ -2,7 +2,6 @@
 use mathlib.Core.List.{[]}
 use borrow.Author.Needs.{needs}
 use Rattle.sites.specs.Own.{extent-from}
-use Rattle.sites.specs.Own.{before}
 use Rattle.sites.proofs.Sites.{site-read}
 use Rattle.sites.proofs.site_at.Statement.{statement}
 use Rattle.sites.proofs.site_at.Tie as tie

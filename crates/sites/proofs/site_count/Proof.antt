@@ -4,7 +4,6 @@ use mathlib.Core.List.{[]}
 use native.Mathlib.Omega.{arith}
 use borrow.Author.Needs.{needs}
 use Rattle.sites.specs.Own.{site-table}
-use Rattle.sites.specs.Own.{before}
 use Rattle.sites.proofs.Rows.{count-is}
 use Rattle.sites.proofs.site_count.Statement.{statement}
 use Rattle.sites.proofs.site_count.Tie as tie

@@ -8,6 +8,7 @@ use Rattle.spec.specs.Refusal.{has-name}
 use Rattle.spec.specs.Site as site
 use Rattle.sites.specs.Own.{conflict-of, conflict-rows, misuse-poison, skip-at, site-row, found-of}
 use Rattle.sites.proofs.Conflicts.{front-same, step-seen, step-new}
+use Rattle.sites.proofs.Fill.{alone}
 use borrow.Author.Needs.{needs}
 use Rattle.sites.proofs.take_conflict.Statement.{statement}
 use Rattle.sites.proofs.take_conflict.Tie as tie
@@ -24,6 +25,18 @@ same-length c = search needs
 returns : tie.Need-returns
 returns c = (front-same (c .before .before .before .before .before .before .args .own .now), step-seen (c .before .before .before .before .before .before .args .own .now) (c .before .before .before .before .before .before .args .k) (conflict-rows (c .before .before .before .before .before .before .args .own .now)) (ap (λ (t : site.Site). has-name (t .name) (skip-at (misuse-poison (c .before .before .before .before .before .before .args .own .now)) (site-row (c .before .before .before .before .before .before .args .own .now)) (c .before .before .before .before .before .before .args .k))) (sym (c .before .before .before .site-at .ensures)) ∙ sym (c .before .seen-before .ensures) ∙ c .if1 .taken))
 
+add-next-site : tie.Need-add-next-site
+add-next-site c = search needs
+
+next-site-requires : tie.Need-next-site-requires
+next-site-requires c κs = search needs
+
+same-length-2 : tie.Need-same-length-2
+same-length-2 c = search needs
+
+returns-2 : tie.Need-returns-2
+returns-2 c = (front-same (c .before .before .before .before .before .before .before .before .before .args .own .now), alone (c .before .before .before .before .before .before .site-at .result .name) (c .before .before .before .before .before .before .before .before .before .args .own .now) (c .before .before .before .before .before .before .before .before .before .args .k) (c .before .next-site .result) (conflict-rows (c .before .before .before .before .before .before .before .before .before .args .own .now)) (ap (λ (t : site.Site). t .name) (c .before .before .before .before .before .before .site-at .ensures)) (sym (c .before .before .before .before .seen-before .ensures) ∙ c .before .before .before .if1 .left) (c .before .next-site .ensures) (omega (arith, c .if2 .taken)) (c .before .before .before .before .before .before .before .before .before .pre .0))
+
 first-conflict-requires : tie.Need-first-conflict-requires
 first-conflict-requires c κs = search needs
 
@@ -31,28 +44,28 @@ enum-known-start : tie.Need-enum-known-start
 enum-known-start c = search needs
 
 insert-conflict-requires : tie.Need-insert-conflict-requires
-insert-conflict-requires c κs = (c .before .before .before .before .before .before .before .before .before .before .before .before .pre .0, c .before .before .before .before .before .before .before .before .before .before .before .before .pre .2)
+insert-conflict-requires c κs = (c .before .before .before .before .before .before .before .before .before .before .before .before .before .before .before .pre .0, c .before .before .before .before .before .before .before .before .before .before .before .before .before .before .before .pre .2)
 
-same-length-2 : tie.Need-same-length-2
-same-length-2 c = c .before .before .insert-conflict .kept .0
+same-length-3 : tie.Need-same-length-3
+same-length-3 c = c .before .before .insert-conflict .kept .0
 
-returns-2 : tie.Need-returns-2
+returns-3 : tie.Need-returns-3
 unfolding own-of
-returns-2 c = (
+returns-3 c = (
   c .before .before .insert-conflict .ensures .0,
-  c .before .before .insert-conflict .ensures .1 ∙ ap (λ (t : site.Site). site.insert-conflict (conflict-of (c .before .before .before .before .before .start .given .0 .0) (t .name)) (conflict-rows (c .before .before .before .before .before .before .before .before .before .before .before .before .before .before .before .args .own .now))) (c .before .before .before .before .before .before .before .before .before .before .before .before .site-at .ensures)
-      ∙ step-new (c .before .before .before .before .before .before .before .before .before .before .before .before .before .before .before .args .own .now) (c .before .before .before .before .before .before .before .before .before .before .before .before .before .before .before .args .k) (conflict-rows (c .before .before .before .before .before .before .before .before .before .before .before .before .before .before .before .args .own .now)) (some (c .before .before .before .before .before .start .given .0 .0)) (ap (λ (t : site.Site). has-name (t .name) (skip-at (misuse-poison (c .before .before .before .before .before .before .before .before .before .before .before .before .before .before .before .args .own .now)) (site-row (c .before .before .before .before .before .before .before .before .before .before .before .before .before .before .before .args .own .now)) (c .before .before .before .before .before .before .before .before .before .before .before .before .before .before .before .args .k))) (sym (c .before .before .before .before .before .before .before .before .before .before .before .before .site-at .ensures)) ∙ sym (c .before .before .before .before .before .before .before .before .before .before .seen-before .ensures) ∙ c .before .before .before .before .before .before .before .before .before .if1 .left) (ap found-of (sym (c .before .before .before .before .before .start .given .1)) ∙ c .before .before .before .before .before .before .before .first-conflict .ensures .0 (c .before .before .before .before .before .before .before .before .before .before .before .before .before .before .before .pre .0) ∙ ap (λ (t : site.Site). site.first-conflict [] (site.sites-of (t .name) (own-of (c .before .before .before .before .before .before .before .before .before .before .before .before .before .before .before .args .own .now) .sites))) (c .before .before .before .before .before .before .before .before .before .before .before .before .site-at .ensures)),
+  c .before .before .insert-conflict .ensures .1 ∙ ap (λ (t : site.Site). site.insert-conflict (conflict-of (c .before .before .before .before .before .start .given .0 .0) (t .name)) (conflict-rows (c .before .before .before .before .before .before .before .before .before .before .before .before .before .before .before .before .before .before .args .own .now))) (c .before .before .before .before .before .before .before .before .before .before .before .before .before .before .before .site-at .ensures)
+      ∙ step-new (c .before .before .before .before .before .before .before .before .before .before .before .before .before .before .before .before .before .before .args .own .now) (c .before .before .before .before .before .before .before .before .before .before .before .before .before .before .before .before .before .before .args .k) (conflict-rows (c .before .before .before .before .before .before .before .before .before .before .before .before .before .before .before .before .before .before .args .own .now)) (some (c .before .before .before .before .before .start .given .0 .0)) (ap (λ (t : site.Site). has-name (t .name) (skip-at (misuse-poison (c .before .before .before .before .before .before .before .before .before .before .before .before .before .before .before .before .before .before .args .own .now)) (site-row (c .before .before .before .before .before .before .before .before .before .before .before .before .before .before .before .before .before .before .args .own .now)) (c .before .before .before .before .before .before .before .before .before .before .before .before .before .before .before .before .before .before .args .k))) (sym (c .before .before .before .before .before .before .before .before .before .before .before .before .before .before .before .site-at .ensures)) ∙ sym (c .before .before .before .before .before .before .before .before .before .before .before .before .before .seen-before .ensures) ∙ c .before .before .before .before .before .before .before .before .before .before .before .before .if1 .left) (ap found-of (sym (c .before .before .before .before .before .start .given .1)) ∙ c .before .before .before .before .before .before .before .first-conflict .ensures ∙ ap (λ (t : site.Site). site.first-conflict [] (site.sites-of (t .name) (own-of (c .before .before .before .before .before .before .before .before .before .before .before .before .before .before .before .before .before .before .args .own .now) .sites))) (c .before .before .before .before .before .before .before .before .before .before .before .before .before .before .before .site-at .ensures)),
 )
 
 enum-told : tie.Need-enum-told
 enum-told c = search needs
 
-same-length-3 : tie.Need-same-length-3
-same-length-3 c = search needs
+same-length-4 : tie.Need-same-length-4
+same-length-4 c = search needs
 
-returns-3 : tie.Need-returns-3
+returns-4 : tie.Need-returns-4
 unfolding own-of
-returns-3 c = (front-same (c .before .before .before .before .before .before .before .before .before .before .args .own .now), step-new (c .before .before .before .before .before .before .before .before .before .before .args .own .now) (c .before .before .before .before .before .before .before .before .before .before .args .k) (conflict-rows (c .before .before .before .before .before .before .before .before .before .before .args .own .now)) none (ap (λ (t : site.Site). has-name (t .name) (skip-at (misuse-poison (c .before .before .before .before .before .before .before .before .before .before .args .own .now)) (site-row (c .before .before .before .before .before .before .before .before .before .before .args .own .now)) (c .before .before .before .before .before .before .before .before .before .before .args .k))) (sym (c .before .before .before .before .before .before .before .site-at .ensures)) ∙ sym (c .before .before .before .before .before .seen-before .ensures) ∙ c .before .before .before .before .if1 .left) (ap found-of (sym (c .enum-told .given .1)) ∙ c .before .before .first-conflict .ensures .0 (c .before .before .before .before .before .before .before .before .before .before .pre .0) ∙ ap (λ (t : site.Site). site.first-conflict [] (site.sites-of (t .name) (own-of (c .before .before .before .before .before .before .before .before .before .before .args .own .now) .sites))) (c .before .before .before .before .before .before .before .site-at .ensures)))
+returns-4 c = (front-same (c .before .before .before .before .before .before .before .before .before .before .before .before .before .args .own .now), step-new (c .before .before .before .before .before .before .before .before .before .before .before .before .before .args .own .now) (c .before .before .before .before .before .before .before .before .before .before .before .before .before .args .k) (conflict-rows (c .before .before .before .before .before .before .before .before .before .before .before .before .before .args .own .now)) none (ap (λ (t : site.Site). has-name (t .name) (skip-at (misuse-poison (c .before .before .before .before .before .before .before .before .before .before .before .before .before .args .own .now)) (site-row (c .before .before .before .before .before .before .before .before .before .before .before .before .before .args .own .now)) (c .before .before .before .before .before .before .before .before .before .before .before .before .before .args .k))) (sym (c .before .before .before .before .before .before .before .before .before .before .site-at .ensures)) ∙ sym (c .before .before .before .before .before .before .before .before .seen-before .ensures) ∙ c .before .before .before .before .before .before .before .if1 .left) (ap found-of (sym (c .enum-told .given .1)) ∙ c .before .before .first-conflict .ensures ∙ ap (λ (t : site.Site). site.first-conflict [] (site.sites-of (t .name) (own-of (c .before .before .before .before .before .before .before .before .before .before .before .before .before .args .own .now) .sites))) (c .before .before .before .before .before .before .before .before .before .before .site-at .ensures)))
 
 pub take-conflict-spec : {M : Type 1} → statement M
 take-conflict-spec =
@@ -62,11 +75,15 @@ take-conflict-spec =
     seen-before-requires
     same-length
     returns
+    add-next-site
+    next-site-requires
+    same-length-2
+    returns-2
     first-conflict-requires
     enum-known-start
     insert-conflict-requires
-    same-length-2
-    returns-2
-    enum-told
     same-length-3
-    returns-3)
+    returns-3
+    enum-told
+    same-length-4
+    returns-4)

@@ -1,6 +1,5 @@
 -- `body_at` meets its contract. Assumes nothing.
 use Rattle.steps.proofs.StepLaws.{body-found}
-use native.Mathlib.Omega.{arith}
 use borrow.Author.Needs.{needs}
 use Rattle.steps.proofs.body_at.Statement.{statement}
 use Rattle.steps.proofs.body_at.Tie as tie
@@ -18,7 +17,7 @@ next-end-requires-4 : tie.Need-next-end-requires-4
 next-end-requires-4 c κs = search needs
 
 returns : tie.Need-returns
-returns c = (body-found (c .before .before .before .before .before .args .x .now) (c .before .before .before .next-end .ensures .0) (c .before .before .next-end2 .ensures .0) (c .before .next-end3 .ensures .0) (c .next-end4 .ensures .0), omega (arith, c .before .before .before .next-end .ensures .1, c .before .before .next-end2 .ensures .1, c .before .next-end3 .ensures .1, c .next-end4 .ensures .1))
+returns c = body-found (c .before .before .before .before .before .args .x .now) (c .before .before .before .next-end .ensures) (c .before .before .next-end2 .ensures) (c .before .next-end3 .ensures) (c .next-end4 .ensures)
 
 pub body-at-spec : {M : Type 1} → statement M
 body-at-spec =

@@ -30,7 +30,7 @@ branch-at-requires : tie.Need-branch-at-requires
 branch-at-requires c κs = search needs
 
 returns : tie.Need-returns
-returns c = zero-else (c .before .before .before .before .before .before .before .before .before .before .before .before .before .args .x .now) (c .before .before .before .before .before .before .before .before .before .before .next-end .ensures .0) (c .before .before .before .before .before .before .before .before .before .next-end2 .ensures .0) (c .before .before .before .before .before .before .before .before .next-end3 .ensures .0) (c .before .before .before .before .before .before .before .before .before .before .before .before .before .args .depth) (names-of (c .before .before .before .before .before .before .before .before .before .before .before .before .before .args .names .now) (c .before .before .before .before .before .before .before .before .before .before .before .before .before .args .used)) (c .before .before .before .before .before .before .inner .ensures) (c .before .before .before .before .before .before .before .between .ensures) (c .before .before .before .before .before .eval .result) (c .before .before .before .before .before .eval .ensures) (c .before .before .before .v .given .1) (c .before .if1 .taken) (c .branch-at .ensures)
+returns c = zero-else (c .before .before .before .before .before .before .before .before .before .before .before .before .before .args .x .now) (c .before .before .before .before .before .before .before .before .before .before .next-end .ensures) (c .before .before .before .before .before .before .before .before .before .next-end2 .ensures) (c .before .before .before .before .before .before .before .before .next-end3 .ensures) (c .before .before .before .before .before .before .before .before .before .before .before .before .before .args .depth) (names-of (c .before .before .before .before .before .before .before .before .before .before .before .before .before .args .names .now) (c .before .before .before .before .before .before .before .before .before .before .before .before .before .args .used)) (c .before .before .before .before .before .before .inner .ensures) (c .before .before .before .before .before .before .before .between .ensures) (c .before .before .before .before .before .eval .result) (c .before .before .before .before .before .eval .ensures) (c .before .before .before .v .given .1) (c .before .if1 .taken) (c .branch-at .ensures)
 
 branch-at-requires-2 : tie.Need-branch-at-requires-2
 branch-at-requires-2 c κs = search needs
@@ -45,13 +45,13 @@ enum-told-2 : tie.Need-enum-told-2
 enum-told-2 c = search needs
 
 returns-2 : tie.Need-returns-2
-returns-2 c = other-then (c .before .before .before .before .before .before .before .before .before .before .before .before .before .args .x .now) (c .before .before .before .before .before .before .before .before .before .before .next-end .ensures .0) (c .before .before .before .before .before .before .before .before .before .next-end2 .ensures .0) (c .before .before .before .before .before .before .before .before .next-end3 .ensures .0) (c .before .before .before .before .before .before .before .before .before .before .before .before .before .args .depth) (names-of (c .before .before .before .before .before .before .before .before .before .before .before .before .before .args .names .now) (c .before .before .before .before .before .before .before .before .before .before .before .before .before .args .used)) (c .before .before .before .before .before .before .inner .ensures) (c .before .before .before .before .before .before .before .between .ensures) (c .before .before .before .before .before .eval .result) (c .before .before .before .before .before .eval .ensures) (c .before .before .before .v .given .1) (c .before .if1 .left) (c .branch-at2 .ensures)
+returns-2 c = other-then (c .before .before .before .before .before .before .before .before .before .before .before .before .before .args .x .now) (c .before .before .before .before .before .before .before .before .before .before .next-end .ensures) (c .before .before .before .before .before .before .before .before .before .next-end2 .ensures) (c .before .before .before .before .before .before .before .before .next-end3 .ensures) (c .before .before .before .before .before .before .before .before .before .before .before .before .before .args .depth) (names-of (c .before .before .before .before .before .before .before .before .before .before .before .before .before .args .names .now) (c .before .before .before .before .before .before .before .before .before .before .before .before .before .args .used)) (c .before .before .before .before .before .before .inner .ensures) (c .before .before .before .before .before .before .before .between .ensures) (c .before .before .before .before .before .eval .result) (c .before .before .before .before .before .eval .ensures) (c .before .before .before .v .given .1) (c .before .if1 .left) (c .branch-at2 .ensures)
 
 returns-3 : tie.Need-returns-3
-returns-3 c = missing-else (c .before .before .before .before .before .before .before .before .before .before .before .args .x .now) (c .before .before .before .before .before .before .before .before .next-end .ensures .0) (c .before .before .before .before .before .before .before .next-end2 .ensures .0) (c .before .before .before .before .before .before .next-end3 .ensures .0) (c .before .before .before .before .before .before .before .before .before .before .before .args .depth) (names-of (c .before .before .before .before .before .before .before .before .before .before .before .args .names .now) (c .before .before .before .before .before .before .before .before .before .before .before .args .used)) (c .before .before .before .before .inner .ensures) (c .before .before .before .before .before .between .ensures) (c .before .before .before .eval .result) (c .before .before .before .eval .ensures) (c .before .enum-told .given .1) (c .branch-at3 .ensures)
+returns-3 c = missing-else (c .before .before .before .before .before .before .before .before .before .before .before .args .x .now) (c .before .before .before .before .before .before .before .before .next-end .ensures) (c .before .before .before .before .before .before .before .next-end2 .ensures) (c .before .before .before .before .before .before .next-end3 .ensures) (c .before .before .before .before .before .before .before .before .before .before .before .args .depth) (names-of (c .before .before .before .before .before .before .before .before .before .before .before .args .names .now) (c .before .before .before .before .before .before .before .before .before .before .before .args .used)) (c .before .before .before .before .inner .ensures) (c .before .before .before .before .before .between .ensures) (c .before .before .before .eval .result) (c .before .before .before .eval .ensures) (c .before .enum-told .given .1) (c .branch-at3 .ensures)
 
 returns-4 : tie.Need-returns-4
-returns-4 c = condition-outside (c .before .before .before .before .before .before .before .before .before .before .args .x .now) (c .before .before .before .before .before .before .before .next-end .ensures .0) (c .before .before .before .before .before .before .next-end2 .ensures .0) (c .before .before .before .before .before .next-end3 .ensures .0) (c .before .before .before .before .before .before .before .before .before .before .args .depth) (names-of (c .before .before .before .before .before .before .before .before .before .before .args .names .now) (c .before .before .before .before .before .before .before .before .before .before .args .used)) (c .before .before .before .inner .ensures) (c .before .before .before .before .between .ensures) (c .before .before .eval .result) (c .before .before .eval .ensures) (c .enum-told2 .given .1)
+returns-4 c = condition-outside (c .before .before .before .before .before .before .before .before .before .before .args .x .now) (c .before .before .before .before .before .before .before .next-end .ensures) (c .before .before .before .before .before .before .next-end2 .ensures) (c .before .before .before .before .before .next-end3 .ensures) (c .before .before .before .before .before .before .before .before .before .before .args .depth) (names-of (c .before .before .before .before .before .before .before .before .before .before .args .names .now) (c .before .before .before .before .before .before .before .before .before .before .args .used)) (c .before .before .before .inner .ensures) (c .before .before .before .before .between .ensures) (c .before .before .eval .result) (c .before .before .eval .ensures) (c .enum-told2 .given .1)
 
 pub branch-of-spec : {M : Type 1} → statement M
 branch-of-spec =

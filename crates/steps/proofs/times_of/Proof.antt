@@ -1,5 +1,5 @@
--- `times_of` meets its contract: on what shows a `repeat` the parts are those that are shown. Assumes nothing.
-use Rattle.steps.proofs.StepLaws.{times-by}
+-- `times_of` meets its contract. Assumes nothing.
+use Rattle.steps.proofs.StepLaws.{times-found}
 use Rattle.consteval.specs.Worth.{names-of}
 use borrow.Author.Needs.{needs}
 use Rattle.steps.proofs.times_of.Statement.{statement}
@@ -42,7 +42,7 @@ way-of-requires : tie.Need-way-of-requires
 way-of-requires c κs = search needs
 
 returns : tie.Need-returns
-returns c = times-by (c .before .before .before .before .before .before .before .before .before .before .before .before .before .before .args .x .now) (c .before .before .before .before .before .before .before .before .before .before .before .next-end .ensures .0) (c .before .before .before .before .before .before .before .before .before .before .next-end2 .ensures .0) (c .before .before .before .before .before .before .before .before .before .next-end3 .ensures .0) (c .before .before .before .before .before .before .before .before .next-end4 .ensures .0) (c .before .before .before .before .before .before .before .before .before .before .before .before .before .before .args .depth) (c .before .before .before .before .before .before .before .before .before .before .before .before .before .before .args .left) (names-of (c .before .before .before .before .before .before .before .before .before .before .before .before .before .before .args .names .now) (c .before .before .before .before .before .before .before .before .before .before .before .before .before .before .args .used)) (c .before .before .before .before .before .before .before .inner .ensures) (c .before .before .before .before .before .before .between .ensures) (c .before .before .before .before .before .value .ensures) (c .before .before .before .before .between2 .ensures) (c .before .before .before .eval .result) (c .before .before .before .eval .ensures) (c .before .before .between3 .ensures) (c .before .eval2 .result) (c .before .eval2 .ensures) (c .way-of .result) (c .way-of .ensures)
+returns c = times-found (c .before .before .before .before .before .before .before .before .before .before .before .before .before .before .args .x .now) (c .before .before .before .before .before .before .before .before .before .before .before .next-end .ensures) (c .before .before .before .before .before .before .before .before .before .before .next-end2 .ensures) (c .before .before .before .before .before .before .before .before .before .next-end3 .ensures) (c .before .before .before .before .before .before .before .before .next-end4 .ensures) (c .before .before .before .before .before .before .before .before .before .before .before .before .before .before .args .depth) (c .before .before .before .before .before .before .before .before .before .before .before .before .before .before .args .left) (names-of (c .before .before .before .before .before .before .before .before .before .before .before .before .before .before .args .names .now) (c .before .before .before .before .before .before .before .before .before .before .before .before .before .before .args .used)) (c .before .before .before .before .before .before .before .inner .ensures) (c .before .before .before .before .before .before .between .ensures) (c .before .before .before .before .before .value .ensures) (c .before .before .before .before .between2 .ensures) (c .before .before .before .eval .result) (c .before .before .before .eval .ensures) (c .before .before .between3 .ensures) (c .before .eval2 .result) (c .before .eval2 .ensures) (c .way-of .result) (c .way-of .ensures .0) (c .way-of .ensures .1)
 
 pub times-of-spec : {M : Type 1} → statement M
 times-of-spec =

@@ -1,5 +1,4 @@
 -- `begin` meets its contract. Assumes nothing.
-use Rattle.summary.proofs.Table.{began}
 use borrow.Author.Needs.{needs}
 use Rattle.summary.proofs.begin.Statement.{statement}
 use Rattle.summary.proofs.begin.Tie as tie
@@ -11,7 +10,7 @@ same-length : tie.Need-same-length
 same-length c = search needs
 
 returns : tie.Need-returns
-returns c = (began (c .before .before .before .before .before .args .k .now) (c .before .before .before .before .before .args .m) (c .before .before .put .ensures), c .before .before .put .ensures)
+returns c = c .before .before .put .ensures
 
 pub begin-spec : {M : Type 1} → statement M
 begin-spec = tie.close (tie.spec put-requires same-length returns)

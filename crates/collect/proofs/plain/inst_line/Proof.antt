@@ -32,7 +32,7 @@ same-length-4 : tie.Need-same-length-4
 same-length-4 c = search needs
 
 returns-2 : tie.Need-returns-2
-returns-2 c = (outputs-said (c .before .before .before .before .before .before .before .before .before .before .before .before .before .before .before .args .x .now) (c .before .before .before .before .before .before .before .before .before .before .before .before .before .before .before .args .depth) (c .before .before .before .before .before .before .before .before .before .before .before .before .before .before .before .args .ks .now) (names-of (c .before .before .before .before .before .before .before .before .before .before .before .before .before .before .before .args .names .now) (c .before .before .before .before .before .before .before .before .before .before .before .before .before .before .before .args .used)) (c .before .before .before .before .before .before .before .before .before .before .before .before .before .before .before .args .g .now) (worth (c .before .before .before .before .before .before .before .before .before .before .before .before .before .before .before .args .index)) (summary-at (c .before .before .before .before .before .before .before .before .before .before .before .before .before .before .before .args .k .now) (c .before .before .before .before .before .before .before .before .before .before .before .before .before .before .before .args .first) (c .before .before .before .before .before .before .before .before .before .before .before .before .before .before .before .args .count)) (c .before .before .before .before .before .before .before .inst-heads .result) false _ (c .before .before .before .before .if1 .left) (c .before .before .before .before .before .before .before .inst-heads .ensures .0), (false-cleared (c .before .before .before .before .before .before .before .inst-heads .result) _ (c .before .before .before .before .if1 .left) (c .before .before .before .before .before .before .before .inst-heads .ensures .1), cleared-of (length (c .before .before .before .before .before .before .before .before .before .before .before .before .before .before .before .args .k .now)) (c .before .before .clear .last .0) (c .before .before .clear .ensures)))
+returns-2 c = (outputs-said (c .before .before .before .before .before .before .before .before .before .before .before .before .before .before .before .args .x .now) (c .before .before .before .before .before .before .before .before .before .before .before .before .before .before .before .args .depth) (c .before .before .before .before .before .before .before .before .before .before .before .before .before .before .before .args .ks .now) (names-of (c .before .before .before .before .before .before .before .before .before .before .before .before .before .before .before .args .names .now) (c .before .before .before .before .before .before .before .before .before .before .before .before .before .before .before .args .used)) (c .before .before .before .before .before .before .before .before .before .before .before .before .before .before .before .args .g .now) (worth (c .before .before .before .before .before .before .before .before .before .before .before .before .before .before .before .args .index)) (summary-at (c .before .before .before .before .before .before .before .before .before .before .before .before .before .before .before .args .k .now) (c .before .before .before .before .before .before .before .before .before .before .before .before .before .before .before .args .first) (c .before .before .before .before .before .before .before .before .before .before .before .before .before .before .before .args .count)) (c .before .before .before .before .before .before .before .inst-heads .result) false _ (c .before .before .before .before .if1 .left) (c .before .before .before .before .before .before .before .inst-heads .ensures .0), (false-cleared (c .before .before .before .before .before .before .before .inst-heads .result) _ (c .before .before .before .before .if1 .left) (c .before .before .before .before .before .before .before .inst-heads .ensures .1 .0), cleared-of (length (c .before .before .before .before .before .before .before .before .before .before .before .before .before .before .before .args .k .now)) (c .before .before .clear .last .0) (c .before .before .clear .ensures)))
 
 pub inst-line-spec : {M : Type 1} → statement M
 inst-line-spec =

@@ -3,6 +3,7 @@ use mathlib.Core.Bool.{true, false}
 use lib.ListN.{length}
 use borrow.Author.Tests.{not-true, not-false}
 use Rattle.spec.proofs.Cleared.{cleared-of, false-cleared}
+use Rattle.items.proofs.Tables.{leaves-cleared}
 use Rattle.consteval.specs.Worth.{names-of}
 use Rattle.collect.proofs.Leaving.{own-same, own-filled}
 use Rattle.collect.proofs.PlainLaws.{heads-said, own-refused, own-headed, outside-refused, outside-headed}
@@ -23,7 +24,7 @@ same-length-2 : tie.Need-same-length-2
 same-length-2 c = search needs
 
 returns : tie.Need-returns
-returns c = (own-refused (c .before .before .before .before .before .before .before .before .before .before .before .before .before .before .before .args .x .now) (c .before .before .before .before .before .before .before .before .before .before .before .before .before .before .before .args .from) (c .before .before .before .before .before .before .before .before .before .before .before .before .before .before .before .args .depth) (c .before .before .before .before .before .before .before .before .before .before .before .before .before .before .before .args .ks .now) (c .before .before .before .before .before .before .before .before .before .before .before .before .before .before .before .args .checking) (c .before .before .before .before .before .before .before .before .before .before .before .before .before .before .before .args .bound) (names-of (c .before .before .before .before .before .before .before .before .before .before .before .before .before .before .before .args .names .now) (c .before .before .before .before .before .before .before .before .before .before .before .before .before .before .before .args .used)) (c .before .before .before .before .before .before .before .before .before .before .before .before .before .before .before .args .own .now) (c .before .before .before .before .before .before .before .before .before .before .before .before .before .before .before .args .g .now) (c .before .before .before .before .before .before .before .before .before .if1 .taken) (c .before .before .before .before .before .before .before .own-line .result) _ (not-true _ (c .before .before .before .before .if2 .taken)) (c .before .before .before .before .before .before .before .own-line .ensures .0), (false-cleared (c .before .before .before .before .before .before .before .own-line .result) (c .before .before .before .before .before .before .before .own-line .last .1 .1 .1 .1 .1 .1 .1 .0) (not-true _ (c .before .before .before .before .if2 .taken)) (c .before .before .before .before .before .before .before .own-line .ensures .1 .1), cleared-of (length (c .before .before .before .before .before .before .before .before .before .before .before .before .before .before .before .args .g .now)) (c .before .before .clear .last .0) (c .before .before .clear .ensures)))
+returns c = (own-refused (c .before .before .before .before .before .before .before .before .before .before .before .before .before .before .before .args .x .now) (c .before .before .before .before .before .before .before .before .before .before .before .before .before .before .before .args .from) (c .before .before .before .before .before .before .before .before .before .before .before .before .before .before .before .args .depth) (c .before .before .before .before .before .before .before .before .before .before .before .before .before .before .before .args .ks .now) (c .before .before .before .before .before .before .before .before .before .before .before .before .before .before .before .args .checking) (c .before .before .before .before .before .before .before .before .before .before .before .before .before .before .before .args .bound) (names-of (c .before .before .before .before .before .before .before .before .before .before .before .before .before .before .before .args .names .now) (c .before .before .before .before .before .before .before .before .before .before .before .before .before .before .before .args .used)) (c .before .before .before .before .before .before .before .before .before .before .before .before .before .before .before .args .own .now) (c .before .before .before .before .before .before .before .before .before .before .before .before .before .before .before .args .g .now) (c .before .before .before .before .before .before .before .before .before .if1 .taken) (c .before .before .before .before .before .before .before .own-line .result) _ (not-true _ (c .before .before .before .before .if2 .taken)) (c .before .before .before .before .before .before .before .own-line .ensures .0), (leaves-cleared (c .before .before .before .before .before .before .before .own-line .result) _ (c .before .before .before .before .before .before .before .own-line .last .1 .1 .1 .1 .1 .1 .1 .0) (not-true _ (c .before .before .before .before .if2 .taken)) (c .before .before .before .before .before .before .before .own-line .ensures .1 .1), cleared-of (length (c .before .before .before .before .before .before .before .before .before .before .before .before .before .before .before .args .g .now)) (c .before .before .clear .last .0) (c .before .before .clear .ensures)))
 
 line-heads-requires : tie.Need-line-heads-requires
 line-heads-requires c κs = search needs

@@ -41,7 +41,7 @@ same-length-2 : tie.Need-same-length-2 Inv-loop μ-loop
 same-length-2 c = c .before .before .before .before .before .before .before .loop .inv .2
 
 returns : tie.Need-returns Inv-loop μ-loop
-returns c = λ hs H R. loops-done hs H (c .before .before .before .before .before .before .before .loop .inv .0 hs H (c .before .before .before .before .before .before .before .before .before .before .begin .ensures hs H R)) (c .before .before .before .before .next-cycle .last .1 .0) (c .before .before .before .before .next-cycle .result) (c .before .before .before .before .next-cycle .ensures) (c .enum-told .given .1)
+returns c = λ hs H R. loops-done hs H (c .before .before .before .before .before .before .before .loop .inv .0 hs H (c .before .before .before .before .before .before .before .before .before .before .begin .ensures .0 hs H R)) (c .before .before .before .before .next-cycle .last .1 .0) (c .before .before .before .before .next-cycle .result) (c .before .before .before .before .next-cycle .ensures .0) (c .enum-told .given .1)
 
 enum-known-from : tie.Need-enum-known-from Inv-loop μ-loop
 enum-known-from c = search needs
@@ -53,7 +53,7 @@ loop-less : tie.Need-loop-less Inv-loop μ-loop
 loop-less c = omega arith
 
 loop-again : tie.Need-loop-again Inv-loop μ-loop
-loop-again c = (λ hs H A. loops-found hs H (c .before .before .before .before .before .before .before .before .before .before .before .before .before .loop .inv .0 hs H A) (c .before .before .before .before .before .before .before .before .before .before .next-cycle .last .1 .0) (c .before .before .before .before .before .before .before .before .before .before .next-cycle .result) (c .before .before .before .before .before .before .before .before .before .before .next-cycle .ensures) (c .before .before .before .before .before .before .from .given .1) (c .before .before .before .before .before .before .before .before .before .before .before .before .loop-test .taken) (c .before .before .report-loop .ensures), c .before .before .before .before .before .before .before .before .before .before .next-cycle .kept .1 .0 ∙ c .before .before .before .before .before .before .before .before .before .before .before .before .before .loop .inv .1, c .before .before .report-loop .kept .1 .1 .1 .1 .1 .0 ∙ c .before .before .before .before .before .before .before .before .before .before .before .before .before .loop .inv .2)
+loop-again c = (λ hs H A. loops-found hs H (c .before .before .before .before .before .before .before .before .before .before .before .before .before .loop .inv .0 hs H A) (c .before .before .before .before .before .before .before .before .before .before .next-cycle .last .1 .0) (c .before .before .before .before .before .before .before .before .before .before .next-cycle .result) (c .before .before .before .before .before .before .before .before .before .before .next-cycle .ensures .0) (c .before .before .before .before .before .before .from .given .1) (c .before .before .before .before .before .before .before .before .before .before .before .before .loop-test .taken) (c .before .before .report-loop .ensures), c .before .before .before .before .before .before .before .before .before .before .next-cycle .kept .1 .0 ∙ c .before .before .before .before .before .before .before .before .before .before .before .before .before .loop .inv .1, c .before .before .report-loop .kept .1 .1 .1 .1 .1 .0 ∙ c .before .before .before .before .before .before .before .before .before .before .before .before .before .loop .inv .2)
 
 same-length-3 : tie.Need-same-length-3 Inv-loop μ-loop
 same-length-3 c = c .before .loop .inv .1 ∙ c .before .before .before .before .begin .kept .1 .0
@@ -62,7 +62,7 @@ same-length-4 : tie.Need-same-length-4 Inv-loop μ-loop
 same-length-4 c = c .before .loop .inv .2
 
 returns-2 : tie.Need-returns-2 Inv-loop μ-loop
-returns-2 c = λ hs H R. loops-out hs H (c .before .loop .inv .0 hs H (c .before .before .before .before .begin .ensures hs H R)) (c .loop-test .left)
+returns-2 c = λ hs H R. loops-out hs H (c .before .loop .inv .0 hs H (c .before .before .before .before .begin .ensures .0 hs H R)) (c .loop-test .left)
 
 pub report-loops-spec : {M : Type 1} → statement M
 report-loops-spec =

@@ -22,14 +22,14 @@ loop-holds c = refl
 shared-slice-read-c : tie.Need-shared-slice-read-c Inv-loop μ-loop
 shared-slice-read-c c = omega arith
 
-digit-requires : tie.Need-digit-requires Inv-loop μ-loop
-digit-requires c κs = search needs
+is-digit-requires : tie.Need-is-digit-requires Inv-loop μ-loop
+is-digit-requires c κs = search needs
 
 returns : tie.Need-returns Inv-loop μ-loop
-returns c = digits-stop (c .before .before .before .before .before .before .args .s .now) (c .before .before .before .before .loop .i) (c .before .before .before .before .loop .a) (c .before .before .before .loop-test .taken) (sym (c .before .digit .ensures) ∙ not-true _ (c .if1 .taken)) ∙ sym (c .before .before .before .before .loop .inv)
+returns c = digits-stop (c .before .before .before .before .before .before .args .s .now) (c .before .before .before .before .loop .i) (c .before .before .before .before .loop .a) (c .before .before .before .loop-test .taken) (sym (c .before .is-digit .ensures) ∙ not-true _ (c .if1 .taken)) ∙ sym (c .before .before .before .before .loop .inv)
 
 sub-more : tie.Need-sub-more Inv-loop μ-loop
-sub-more c = let h = digit-range _ (sym (c .before .digit .ensures) ∙ not-false _ (c .if1 .left)) in omega arith
+sub-more c = let h = digit-range _ (sym (c .before .is-digit .ensures) ∙ not-false _ (c .if1 .left)) in omega arith
 
 more-requires : tie.Need-more-requires Inv-loop μ-loop
 more-requires c κs = search needs
@@ -41,7 +41,7 @@ loop-less : tie.Need-loop-less Inv-loop μ-loop
 loop-less c = omega arith
 
 loop-again : tie.Need-loop-again Inv-loop μ-loop
-loop-again c = c .before .before .before .before .before .loop .inv ∙ digits-more (c .before .before .before .before .before .before .before .args .s .now) (c .before .before .before .before .before .loop .i) (c .before .before .before .before .before .loop .a) (c .before .before .before .before .loop-test .taken) (sym (c .before .before .digit .ensures) ∙ not-false _ (c .before .if1 .left)) ∙ ap (digitsFrom (drop (c .before .before .before .before .before .loop .i + 1) (c .before .before .before .before .before .before .before .args .s .now)) (c .before .before .before .before .before .loop .i + 1)) (sym (c .more .ensures))
+loop-again c = c .before .before .before .before .before .loop .inv ∙ digits-more (c .before .before .before .before .before .before .before .args .s .now) (c .before .before .before .before .before .loop .i) (c .before .before .before .before .before .loop .a) (c .before .before .before .before .loop-test .taken) (sym (c .before .before .is-digit .ensures) ∙ not-false _ (c .before .if1 .left)) ∙ ap (digitsFrom (drop (c .before .before .before .before .before .loop .i + 1) (c .before .before .before .before .before .before .before .args .s .now)) (c .before .before .before .before .before .loop .i + 1)) (sym (c .more .ensures))
 
 returns-2 : tie.Need-returns-2 Inv-loop μ-loop
 returns-2 c = digits-end (c .before .before .before .args .s .now) (c .before .loop .i) (c .before .loop .a) (c .loop-test .left) ∙ sym (c .before .loop .inv)
@@ -54,7 +54,7 @@ digits-spec =
     μ-loop
     loop-holds
     shared-slice-read-c
-    digit-requires
+    is-digit-requires
     returns
     sub-more
     more-requires

@@ -1,11 +1,14 @@
 -- `lines::read::set_line` meets its contract. The invariant: the bytes that are left, from line n on, have the fault that all have, and n counts the feeds. Assumes nothing.
-use Rattle.lines.proofs.ReadLaws.{set-feed, feeds-feed, feeds-plain, set-low, set-high, set-plain, ends-byte, line-out, line-none, line-open, none-fault, none-feeds, empty-ends}
+use borrow.Author.Needs.{needs}
+use Rattle.lines.proofs.ReadLaws.{set-feed, feeds-feed, feeds-plain, set-refused, set-plain, ends-byte, line-out, line-none, line-open, none-fault, none-feeds, empty-ends}
+use Rattle.lines.proofs.Laws.{class-is, not-feed, not-low, not-high}
+use Rattle.lines.specs.declared.bytes.Class.the-variants.{Feed, Refused}
 use Rattle.spec.specs.Refusal.{byte-fault}
 use Rattle.spec.specs.Reading.{feeds}
-use borrow.Author.Tests.{eq-eqb, ne-eqb}
 use lib.ListN.{length, drop}
 use Prim.Native.Nat.{suc, _+_, _-_, _≤_}
-use mathlib.Core.Path.{_≡_, refl, _∙_}
+use mathlib.Core.Path.{_≡_, refl, sym, _∙_}
+use mathlib.Core.List.{[], _∷_}
 use native.Mathlib.Omega.{arith}
 use Rattle.lines.proofs.read.set_line.Statement.{statement}
 use Rattle.lines.proofs.read.set_line.Tie as tie
@@ -19,8 +22,14 @@ abbrev μ-loop : tie.MeasureT-loop
 loop-holds : tie.Need-loop-holds Inv-loop μ-loop
 loop-holds c = (omega arith, omega arith, refl, omega arith)
 
-shared-slice-read-c : tie.Need-shared-slice-read-c Inv-loop μ-loop
-shared-slice-read-c c = omega arith
+shared-slice-read-class-of : tie.Need-shared-slice-read-class-of Inv-loop μ-loop
+shared-slice-read-class-of c = omega arith
+
+class-of-requires : tie.Need-class-of-requires Inv-loop μ-loop
+class-of-requires c κs = search needs
+
+enum-told : tie.Need-enum-told Inv-loop μ-loop
+enum-told c = search needs
 
 add-n : tie.Need-add-n Inv-loop μ-loop
 add-n c = omega arith
@@ -32,13 +41,13 @@ loop-less : tie.Need-loop-less Inv-loop μ-loop
 loop-less c = omega arith
 
 loop-again : tie.Need-loop-again Inv-loop μ-loop
-loop-again c = let f = feeds-feed (c .before .before .before .before .args .s .now) (c .before .before .before .loop .i) (c .before .before .before .loop .n) (c .before .before .loop-test .taken) (c .if1 .taken) in (omega arith, omega arith, c .before .before .before .loop .inv .2 ∙ set-feed (c .before .before .before .before .args .s .now) (c .before .before .before .loop .i) (c .before .before .before .loop .n) (c .before .before .loop-test .taken) (c .if1 .taken), omega (arith, c .before .before .before .loop .inv .3))
+loop-again c = let f = feeds-feed (c .before .before .before .before .before .before .before .args .s .now) (c .before .before .before .before .before .loop .i) (c .before .before .before .before .before .loop .n) (c .before .before .before .before .loop-test .taken) (class-is _ _ Feed (c .before .before .class-of .ensures) (c .enum-told .given .1)) in (omega arith, omega arith, c .before .before .before .before .before .loop .inv .2 ∙ set-feed (c .before .before .before .before .before .before .before .args .s .now) (c .before .before .before .before .before .loop .i) (c .before .before .before .before .before .loop .n) (c .before .before .before .before .loop-test .taken) (class-is _ _ Feed (c .before .before .class-of .ensures) (c .enum-told .given .1)), omega (arith, c .before .before .before .before .before .loop .inv .3))
+
+enum-told-2 : tie.Need-enum-told-2 Inv-loop μ-loop
+enum-told-2 c = search needs
 
 returns : tie.Need-returns Inv-loop μ-loop
-returns c = line-out (c .before .before .before .before .before .args .s .now) (c .before .before .before .before .loop .n) (c .before .before .before .before .loop .inv .2 ∙ set-low (c .before .before .before .before .before .args .s .now) (c .before .before .before .before .loop .i) (c .before .before .before .before .loop .n) (c .before .before .before .loop-test .taken) (c .before .if1 .left) (c .if2 .taken))
-
-returns-2 : tie.Need-returns-2 Inv-loop μ-loop
-returns-2 c = line-out (c .before .before .before .before .before .before .args .s .now) (c .before .before .before .before .before .loop .n) (c .before .before .before .before .before .loop .inv .2 ∙ set-high (c .before .before .before .before .before .before .args .s .now) (c .before .before .before .before .before .loop .i) (c .before .before .before .before .before .loop .n) (c .before .before .before .before .loop-test .taken) (c .before .before .if1 .left) (c .if3 .taken))
+returns c = line-out (c .before .before .before .before .before .before .before .args .s .now) (c .before .before .before .before .before .loop .n) (c .before .before .before .before .before .loop .inv .2 ∙ set-refused (c .before .before .before .before .before .before .before .args .s .now) (c .before .before .before .before .before .loop .i) (c .before .before .before .before .before .loop .n) (c .before .before .before .before .loop-test .taken) (class-is _ _ Refused (c .before .before .class-of .ensures) (c .enum-told2 .given .1)))
 
 add-i-2 : tie.Need-add-i-2 Inv-loop μ-loop
 add-i-2 c = omega arith
@@ -47,22 +56,25 @@ loop-less-2 : tie.Need-loop-less-2 Inv-loop μ-loop
 loop-less-2 c = omega arith
 
 loop-again-2 : tie.Need-loop-again-2 Inv-loop μ-loop
-loop-again-2 c = let f = feeds-plain (c .before .before .before .before .before .before .args .s .now) (c .before .before .before .before .before .loop .i) (c .before .before .before .before .before .loop .n) (c .before .before .before .before .loop-test .taken) (c .before .before .if1 .left) in (omega arith, omega arith, c .before .before .before .before .before .loop .inv .2 ∙ set-plain (c .before .before .before .before .before .before .args .s .now) (c .before .before .before .before .before .loop .i) (c .before .before .before .before .before .loop .n) (c .before .before .before .before .loop-test .taken) (c .before .before .if1 .left) (c .before .if2 .left) (c .if3 .left), omega (arith, c .before .before .before .before .before .loop .inv .3))
+loop-again-2 c = let f = feeds-plain (c .before .before .before .before .before .before .args .s .now) (c .before .before .before .before .loop .i) (c .before .before .before .before .loop .n) (c .before .before .before .loop-test .taken) (not-feed (0 ∷ 1 ∷ 2 ∷ 3 ∷ 4 ∷ 5 ∷ 8 ∷ []) _ _ (c .before .class-of .ensures) (c .match .keys3) tt) in (omega arith, omega arith, c .before .before .before .before .loop .inv .2 ∙ set-plain (c .before .before .before .before .before .before .args .s .now) (c .before .before .before .before .loop .i) (c .before .before .before .before .loop .n) (c .before .before .before .loop-test .taken) (not-feed (0 ∷ 1 ∷ 2 ∷ 3 ∷ 4 ∷ 5 ∷ 8 ∷ []) _ _ (c .before .class-of .ensures) (c .match .keys3) tt) (not-low (0 ∷ 1 ∷ 2 ∷ 3 ∷ 4 ∷ 5 ∷ 8 ∷ []) _ _ (c .before .class-of .ensures) (c .match .keys3) tt tt) (not-high (0 ∷ 1 ∷ 2 ∷ 3 ∷ 4 ∷ 5 ∷ 8 ∷ []) _ _ (c .before .class-of .ensures) (c .match .keys3) tt), omega (arith, c .before .before .before .before .loop .inv .3))
+
+returns-2 : tie.Need-returns-2 Inv-loop μ-loop
+returns-2 c = line-none (c .before .before .before .before .args .s .now) (c .before .before .loop .inv .2 ∙ none-fault (c .before .before .loop .n) (c .before .before .before .before .args .s .now) (c .before .before .loop .i) (c .before .loop-test .left)) (empty-ends (c .before .before .before .before .args .s .now) (omega arith))
+
+sub-is-feed : tie.Need-sub-is-feed Inv-loop μ-loop
+sub-is-feed c = omega arith
+
+shared-slice-read-is-feed : tie.Need-shared-slice-read-is-feed Inv-loop μ-loop
+shared-slice-read-is-feed c = omega arith
+
+is-feed-requires : tie.Need-is-feed-requires Inv-loop μ-loop
+is-feed-requires c κs = search needs
 
 returns-3 : tie.Need-returns-3 Inv-loop μ-loop
-returns-3 c = line-none (c .before .before .before .args .s .now) (c .before .before .loop .inv .2 ∙ none-fault (c .before .before .loop .n) (c .before .before .before .args .s .now) (c .before .before .loop .i) (c .before .loop-test .left)) (empty-ends (c .before .before .before .args .s .now) (omega arith))
-
-sub-if5 : tie.Need-sub-if5 Inv-loop μ-loop
-sub-if5 c = omega arith
-
-shared-slice-read-if5 : tie.Need-shared-slice-read-if5 Inv-loop μ-loop
-shared-slice-read-if5 c = omega arith
+returns-3 c = line-none (c .before .before .before .before .before .before .before .args .s .now) (c .before .before .before .before .before .loop .inv .2 ∙ none-fault (c .before .before .before .before .before .loop .n) (c .before .before .before .before .before .before .before .args .s .now) (c .before .before .before .before .before .loop .i) (c .before .before .before .before .loop-test .left)) (ends-byte (c .before .before .before .before .before .before .before .args .s .now) (c .before .before .before .before .before .loop .i) (omega arith) (c .before .before .before .if1 .left) ∙ sym (c .before .is-feed .ensures) ∙ c .if2 .taken)
 
 returns-4 : tie.Need-returns-4 Inv-loop μ-loop
-returns-4 c = line-none (c .before .before .before .before .before .args .s .now) (c .before .before .before .before .loop .inv .2 ∙ none-fault (c .before .before .before .before .loop .n) (c .before .before .before .before .before .args .s .now) (c .before .before .before .before .loop .i) (c .before .before .before .loop-test .left)) (ends-byte (c .before .before .before .before .before .args .s .now) (c .before .before .before .before .loop .i) (omega arith) (c .before .before .if4 .left) ∙ eq-eqb _ _ (c .if5 .taken))
-
-returns-5 : tie.Need-returns-5 Inv-loop μ-loop
-returns-5 c = line-open (c .before .before .before .before .before .args .s .now) (c .before .before .before .before .loop .n) (c .before .before .before .before .loop .inv .2 ∙ none-fault (c .before .before .before .before .loop .n) (c .before .before .before .before .before .args .s .now) (c .before .before .before .before .loop .i) (c .before .before .before .loop-test .left)) (ends-byte (c .before .before .before .before .before .args .s .now) (c .before .before .before .before .loop .i) (omega arith) (c .before .before .if4 .left) ∙ ne-eqb _ _ (c .if5 .left)) (omega (arith, c .before .before .before .before .loop .inv .3, none-feeds (c .before .before .before .before .before .args .s .now) (c .before .before .before .before .loop .i) (c .before .before .before .loop-test .left))) (λ z. c .before .before .if4 .left (omega arith))
+returns-4 c = line-open (c .before .before .before .before .before .before .before .args .s .now) (c .before .before .before .before .before .loop .n) (c .before .before .before .before .before .loop .inv .2 ∙ none-fault (c .before .before .before .before .before .loop .n) (c .before .before .before .before .before .before .before .args .s .now) (c .before .before .before .before .before .loop .i) (c .before .before .before .before .loop-test .left)) (ends-byte (c .before .before .before .before .before .before .before .args .s .now) (c .before .before .before .before .before .loop .i) (omega arith) (c .before .before .before .if1 .left) ∙ sym (c .before .is-feed .ensures) ∙ c .if2 .left) (omega (arith, c .before .before .before .before .before .loop .inv .3, none-feeds (c .before .before .before .before .before .before .before .args .s .now) (c .before .before .before .before .before .loop .i) (c .before .before .before .before .loop-test .left))) (λ z. c .before .before .before .if1 .left (omega arith))
 
 pub set-line-spec : {M : Type 1} → statement M
 set-line-spec =
@@ -71,18 +83,21 @@ set-line-spec =
     Inv-loop
     μ-loop
     loop-holds
-    shared-slice-read-c
+    shared-slice-read-class-of
+    class-of-requires
+    enum-told
     add-n
     add-i
     loop-less
     loop-again
+    enum-told-2
     returns
-    returns-2
     add-i-2
     loop-less-2
     loop-again-2
+    returns-2
+    sub-is-feed
+    shared-slice-read-is-feed
+    is-feed-requires
     returns-3
-    sub-if5
-    shared-slice-read-if5
-    returns-4
-    returns-5)
+    returns-4)

@@ -1,0 +1,3 @@
+pub mod CyclesLaws
+pub mod EvalLaws
+pub mod VerdictLaws

@@ -1,0 +1,25 @@
+-- `sites::records::extent_in` meets its contract. By its code. Assumes nothing.
+use mathlib.Core.Path.{_≡_}
+use Prim.Native.Nat.{ℕ}
+use native.Mathlib.Omega.{arith}
+use Rattle.sites.proofs.Sites.{extent-whole, extent-range, extent-dynamic, extent-unknown}
+use Rattle.sites.proofs.records.extent_in.Statement.{statement}
+use Rattle.sites.proofs.records.extent_in.Tie as tie
+
+one : {c : ℕ} → c ≡ 1 → ¬ (c ≡ 0)
+one e z = omega arith
+
+returns : tie.Need-returns
+returns c = extent-range _ _ (one (c .if1 .taken)) (c .if1 .taken)
+
+returns-2 : tie.Need-returns-2
+returns-2 c = extent-whole _ _ (c .if2 .taken)
+
+returns-3 : tie.Need-returns-3
+returns-3 c = extent-dynamic _ _ (c .before .before .if2 .left) (c .before .before .before .before .if1 .left) (c .if3 .taken)
+
+returns-4 : tie.Need-returns-4
+returns-4 c = extent-unknown _ _ (c .before .before .if2 .left) (c .before .before .before .before .if1 .left) (c .if3 .left)
+
+pub extent-in-spec : {M : Type 1} → statement M
+extent-in-spec = tie.close (tie.spec returns returns-2 returns-3 returns-4)
