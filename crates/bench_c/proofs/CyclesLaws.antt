@@ -23,7 +23,7 @@ use Rattle.graph.specs.declared.Added.the-variants as added
 use Rattle.graph.specs.declared.Cycle as C
 use Rattle.graph.specs.declared.Cycle.the-variants as cycles
 use Rattle.graph.proofs.Tables.{pick-true, pick-false, miss}
-use Rattle.bench_c.specs.Eval.{biased}
+use Rattle.consteval.specs.Worth.{biased}
 use Rattle.bench_c.specs.Cycles.{node-told, added-of, said, node-said, loop-at, Copied, Taken, HeadTold, ReadTold, Told, NextTold}
 
 -- a number below 512 is a node's

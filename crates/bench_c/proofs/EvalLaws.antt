@@ -8,10 +8,10 @@ use lib.Dec.{ltb}
 use lib.IntN.{pos, negsuc}
 use borrow.Author.Tests.{ltb-true, ltb-false}
 use Rattle.spec.specs.Value.{Value}
-use Rattle.consteval.specs.Worth.{worth}
+use Rattle.consteval.specs.Worth.{worth, biased}
 use Rattle.consteval.specs.declared.Value.{Value as Answer}
 use Rattle.consteval.specs.declared.Value.the-variants.{Known}
-use Rattle.bench_c.specs.Eval.{biased, code}
+use Rattle.bench_c.specs.Eval.{code}
 
 by-test : (x : ℕ) (b : Bool) → ltb x 2147483648 ≡ b → biased (cond b (negsuc (2147483648 - suc x)) (pos (x - 2147483648))) ≡ x
 by-test x true e = omega (arith, ltb-true x 2147483648 e)

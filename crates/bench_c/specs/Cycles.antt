@@ -15,7 +15,7 @@ use Rattle.graph.specs.Cycles.{Awaits, words-from}
 use Rattle.graph.specs.Leaves.{Keeps, below, HeadLeaves, ReadLeaves}
 use Rattle.graph.specs.declared.Node as D
 use Rattle.graph.specs.declared.Node.the-variants as kinds
-use Rattle.bench_c.specs.Eval.{biased}
+use Rattle.consteval.specs.Worth.{biased}
 use Rattle.graph.specs.declared.Added as A
 use Rattle.graph.specs.declared.Added.the-variants as added
 

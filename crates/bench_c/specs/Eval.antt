@@ -1,15 +1,10 @@
 -- A value as one number, for programs in other languages. 01: The line; The value; Refused because of the state.
 -- To a reader: definitions to believe: what drivercheck_eval takes and gives.
-use Prim.Native.Nat.{ℕ, _+_, _-_}
+use Prim.Native.Nat.{ℕ}
 use mathlib.Core.Bool.{true, false}
 use lib.Dec.{ltb}
-use lib.IntN.{ℤ, pos, negsuc}
 use Rattle.spec.specs.Value.{Value, known, missing, outside}
-
--- 01, The value: v + 2147483648, for v in INT
-abbrev pub biased : ℤ → ℕ
-biased (pos n) = n + 2147483648
-biased (negsuc n) = 2147483647 - n
+use Rattle.consteval.specs.Worth.{biased}
 
 -- 01, The line: the depth that is taken: at most the 32 brackets of the line format
 abbrev pub allowed : ℕ → ℕ

@@ -20,11 +20,11 @@ use Rattle.graph.proofs.Stands.{stands-within}
 use Rattle.consteval.specs.Worth.{signed, names-of, room, pushed}
 use Rattle.consteval.proofs.FillLaws.{pushed-length}
 use Rattle.consteval.proofs.TableLaws.{names-pushed}
-use Rattle.runs.specs.Run.{first-end, second-end, Run, ShowsItem, RunOf}
+use Rattle.runs.specs.Run.{Run, ShowsItem, RunOf}
 use Rattle.runs.specs.Run as run
 use Rattle.runs.proofs.Inside.{InRepeat, in-repeat, in-const-if, piece-length}
 use Rattle.walk.specs.Walk.{Got, full, then-go, Walked, Walks, walk-rounds, walk-repeat, walk-inner, walk-items, State, ask-walk}
-use Rattle.steps.specs.Steps.{body-at, value-between, times-of, RoundsFit, TimesAre, branch-of, taken, ChosenIs}
+use Rattle.steps.specs.Steps.{body-at, low-value, times-of, times-number, bounds-number, RoundsFit, TimesAre, branch-of, chosen-number, condition-number, taken, ChosenIs}
 use Rattle.steps.specs.declared.Head.the-variants as head
 use Rattle.steps.specs.declared.Times as T
 use Rattle.steps.specs.declared.Times.the-variants as times
@@ -132,12 +132,12 @@ module _ (fuel : ℕ) (mo : Mode) (text kinds mods : List ℕ) (count : ℕ) (x 
   walks-body w G = λ names′ left′ st′. walk-items (body-of w G) (step-of fuel text mo (w .header) (w .busy)) names′ left′ st′
 
   module _ (r : T.Times) (told : (r ≡ times-of x depth (names-of names₀ used) left₀)
-      × RoundsFit r (value-between x (first-end x) (second-end x) depth (names-of names₀ used))) where
+      × (RoundsFit r (low-value x depth (names-of names₀ used)) × (times-number r ≡ bounds-number x depth (names-of names₀ used)))) where
     told-as : (t : T.Times) → r ≡ t → (w : Single) (G : Repeated w)
         → TimesAre t left₀ (G .head .0) (value (names-of names₀ used) (G .head .1)) (value (names-of names₀ used) (G .head .2))
     told-as t e w G =
         subst (λ (y : T.Times). TimesAre y left₀ (G .head .0) (value (names-of names₀ used) (G .head .1)) (value (names-of names₀ used) (G .head .2))) e
-        (times-are x depth (names-of names₀ used) left₀ r (told .0) (told .1) (G .head .0) (G .head .1) (G .head .2) (G .head .3) (shown w G))
+        (times-are x depth (names-of names₀ used) left₀ r (told .0) (told .1 .0) (G .head .0) (G .head .1) (G .head .2) (G .head .3) (shown w G))
 
     pub bounds-outside : r ≡ times.Outside → (w : Single) → Repeated w → one w ≡ full
     bounds-outside e w G =
@@ -374,11 +374,11 @@ module _ (fuel : ℕ) (mo : Mode) (text kinds mods : List ℕ) (count : ℕ) (x 
       ap (λ (i : Item). then-go (step-of fuel text mo (w .header) (w .busy) (names-of names₀ used) i (w .state))
       (λ s. walk-inner i (step-of fuel text mo (w .header) (w .busy)) (names-of names₀ used) left₀ s)) (G .head .3)
 
-  module _ (r : C.Chosen) (told : r ≡ branch-of x depth (names-of names₀ used)) where
+  module _ (r : C.Chosen) (told : (r ≡ branch-of x depth (names-of names₀ used)) × (chosen-number r ≡ condition-number x depth (names-of names₀ used))) where
     chosen-as : (t : C.Chosen) → r ≡ t → (w : Single) (G : Branching w) → ChosenIs t x depth (value (names-of names₀ used) (G .head .0)) (G .head .1) (G .head .2)
     chosen-as t e w G =
         subst (λ (y : C.Chosen). ChosenIs y x depth (value (names-of names₀ used) (G .head .0)) (G .head .1) (G .head .2)) e
-        (branch-is x depth (names-of names₀ used) r told (G .head .0) (G .head .1) (G .head .2) (shown-if w G))
+        (branch-is x depth (names-of names₀ used) r (told .0) (G .head .0) (G .head .1) (G .head .2) (shown-if w G))
 
     pub test-outside : r ≡ chosen.Outside → (w : Single) → Branching w → branches w ≡ full
     test-outside e w G =

@@ -21,8 +21,9 @@ use Rattle.runs.specs.Run.{RunOf}
 use Rattle.runs.specs.Text.{items-run}
 use Rattle.walk.specs.Walk.{Got, full, Walked, walk-items, State, no-own, over-own, begin, line-step, ask-walk, walk-module, own-walk}
 use Rattle.collect.specs.declared.Walked as W
-use Rattle.collect.specs.Cycle.{PartOf, mode, World, Given, Ends, walk-of}
-use Rattle.collect.specs.Face.{WalkGiven}
+use Rattle.collect.specs.declared.Walked.the-variants as walks
+use Rattle.collect.specs.Cycle.{PartOf, mode, World, Given, walk-number, Ends, walk-of}
+use Rattle.collect.specs.Face.{WalkGiven, Walkable}
 use Rattle.collect.proofs.Tables.{few, run-short, kinds-here, run-here, bound-here}
 
 -- the end of a module's run is a word
@@ -32,6 +33,11 @@ run-fits text mods m run base e b h s =
     let n : length run ≡ length (items-run text mods m) = ap length e in
     let t = run-short text mods m in
     omega arith
+
+-- within the limits of a text, whatever the walk says
+pub walkable-within : (a : W.Walked) (text : List ℕ) (count : ℕ) → length text ≤ 32768 → count ≤ 32 → Walkable (walk-number a) text count
+walkable-within (walks.Left l) text count h n = (h, n)
+walkable-within walks.Full text count h n = tt
 
 -- own tables with no row are within their limits
 none-over : over-own no-own ≡ false

@@ -3,28 +3,38 @@ use mathlib.Core.Path.{_≡_, refl, sym, _∙_, subst}
 use mathlib.Core.Bool.{Bool, true, false}
 use mathlib.Core.List.{List}
 use Prim.Native.Nat.{ℕ}
+use Rattle.spec.specs.Bytes.{Bytes}
+use Rattle.spec.specs.Value.{Names}
 use Rattle.spec.specs.Cleared.{Cleared, ClearedUnless}
+use Rattle.sites.specs.Own.{added}
+use Rattle.sites.specs.declared.Stored.the-variants as stored
+use Rattle.items.specs.Added.{line-added}
 use Rattle.walk.specs.Walk.{Got, State}
 use Rattle.collect.specs.declared.Walked as W
 use Rattle.collect.specs.declared.Walked.the-variants as walks
 use Rattle.collect.specs.declared.Asked as A
 use Rattle.collect.specs.declared.Asked.the-variants as asked
-use Rattle.collect.specs.Cycle.{Mode, Stepped, OwnKept, WalkLeaves, AskLeaves}
+use Rattle.collect.specs.Cycle.{Mode, Stepped, LinesAdded, OwnKept, WalkLeaves, AskLeaves}
 use Rattle.collect.specs.Plain.{PlainLeaves, InstLeaves}
 
 -- ---- the words in the place of own tables
 
 pub own-same : (checking : Bool) (own : List ℕ) → OwnKept checking own own
-own-same true own = tt
+own-same true own = LinesAdded.none
 own-same false own = refl
 
+lines-again : {a b c : List ℕ} → LinesAdded a b → LinesAdded b c → LinesAdded a c
+lines-again p LinesAdded.none = p
+lines-again p (LinesAdded.line own₁ own₂ x base bound d kinds names q e) = LinesAdded.line own₁ own₂ x base bound d kinds names (lines-again p q) e
+
 pub own-again : (checking : Bool) (a b c : List ℕ) → OwnKept checking a b → OwnKept checking b c → OwnKept checking a c
-own-again true a b c p q = tt
+own-again true a b c p q = lines-again p q
 own-again false a b c p q = q ∙ p
 
--- in a module's own check nothing is said of them here
-pub own-filled : (checking : Bool) (own own′ : List ℕ) → checking ≡ true → OwnKept checking own own′
-own-filled checking own own′ e = rw e tt
+-- in a module's own check a line adds to them
+pub own-filled : (checking : Bool) (own own′ : List ℕ) → checking ≡ true → (x : Bytes) (base : ℕ) (bound : Bool) (d : ℕ) (kinds : List ℕ) (names : Names)
+    → line-added x base bound d kinds names own ≡ added stored.Done own′ → OwnKept checking own own′
+own-filled checking own own′ e x base bound d kinds names h = rw e (LinesAdded.line own own′ x base bound d kinds names LinesAdded.none h)
 
 -- ---- a walk, a line, a summary that was asked for, by what it said
 

@@ -21,11 +21,12 @@ use Rattle.steps.specs.declared.modules.Named.{Named}
 use Rattle.steps.specs.declared.modules.Named.the-variants as named
 use Rattle.steps.proofs.StepLaws.{is-refused, not-refused}
 use Rattle.items.specs.Held.{Held}
+use Rattle.items.specs.Lines.{emptied}
 use Rattle.collect.specs.declared.Walked as W
 use Rattle.collect.specs.declared.Walked.the-variants as walks
 use Rattle.collect.specs.declared.Collected.the-variants as collected
-use Rattle.collect.specs.Cycle.{mode, Ends, Framed, RoundsWithin}
-use Rattle.collect.specs.Face.{WalkGiven, ModuleGiven, Collects, LentAfter}
+use Rattle.collect.specs.Cycle.{mode, walk-number, Ends, LinesAdded, Framed, RoundsWithin}
+use Rattle.collect.specs.Face.{WalkGiven, ModuleGiven, Collects, Walkable, LentAfter}
 use Rattle.collect.proofs.Going.{names-framed}
 
 -- ---- a module
@@ -86,11 +87,11 @@ module _ {text kinds mods : List ℕ} {count m : ℕ} {names own g k : List ℕ}
 abbrev pub Sizes : List ℕ → List ℕ → List ℕ → List ℕ → List ℕ → List ℕ → List ℕ → List ℕ → Type 0
 Sizes names own g k names′ own′ g′ k′ = (length names′ ≡ length names) × (length own′ ≡ length own) × (length g′ ≡ length g) × (length k′ ≡ length k)
 
-module _ (text mods : List ℕ) (m : ℕ) (names own g k names′ own′ g′ k′ : List ℕ) (s : Sizes names own g k names′ own′ g′ k′) where
+module _ (text mods : List ℕ) (count m : ℕ) (names own g k names′ own′ g′ k′ : List ℕ) (s : Sizes names own g k names′ own′ g′ k′) where
   pub lent-left : (used left : ℕ) (r : Named) (table : List ℕ) → r ≡ named-by text mods m names → table ≡ table-by text mods m names → r ≡ named.Used used
-      → Framed used table names′ → LentAfter (collected.Left used left) text mods m names own g k names′ own′ g′ k′
-  lent-left used left r table a t e f =
-      record { sizes = s; named = (sym a ∙ e, subst (λ (y : List ℕ). Framed used y names′) t f); cleared = λ z. absurd (omega arith) }
+      → Framed used table names′ → (a : W.Walked) → a ≡ walks.Left left → Walkable (walk-number a) text count → (v : List ℕ) → v ≡ emptied own → LinesAdded v own′ → LentAfter (collected.Left used left) text mods count m names own g k names′ own′ g′ k′
+  lent-left used left r table a t e f w q h v z l =
+      record { sizes = s; named = (sym a ∙ e, subst (λ (y : List ℕ). Framed used y names′) t f); cleared = λ z. absurd (omega arith); owned = λ _. subst (λ (y : List ℕ). LinesAdded y own′) z l; walkable = rw q at h }
 
-  pub lent-full : Cleared names′ → Cleared own′ × Cleared g′ × Cleared k′ → LentAfter collected.Full text mods m names own g k names′ own′ g′ k′
-  lent-full n z = record { sizes = s; named = n; cleared = λ _. z }
+  pub lent-full : Cleared names′ → Cleared own′ × Cleared g′ × Cleared k′ → LentAfter collected.Full text mods count m names own g k names′ own′ g′ k′
+  lent-full n z = record { sizes = s; named = n; cleared = λ _. z; owned = λ e. absurd (omega arith); walkable = tt }

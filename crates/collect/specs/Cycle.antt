@@ -1,5 +1,5 @@
--- What the walk over a module's items needs of the text, and what it leaves. 01: The line; The value; The collected item; The site; The block; The
--- edge; Refused because of the state; Worthless checks.
+-- What the walk over a module's items needs of the text, and what it leaves. 01: The line; The collected item; The site; The block; The edge;
+-- Refused because of the state; Worthless checks.
 -- To a reader: definitions that contracts of this and other crates cite; each such contract is proved; check_drivers' own promise cites none of them.
 use mathlib.Core.Path.{_≡_}
 use mathlib.Core.Bool.{Bool, true, false}
@@ -16,11 +16,14 @@ use Rattle.spec.specs.Summary.{Kept}
 use Rattle.consteval.specs.Worth.{signed}
 use Rattle.lines.specs.Tables.{put-kinds, put-mods}
 use Rattle.graph.specs.Stands.{Stands}
+use Rattle.sites.specs.Own.{added}
+use Rattle.sites.specs.declared.Stored.the-variants as stored
 use Rattle.edges.specs.Reads.{KindsOf}
 use Rattle.runs.specs.Run.{ShowsItem, RunOf}
 use Rattle.walk.specs.Walk.{Got, full, going, then-go, Walked, walked, walk-rounds, walk-inner, Own, over-own, State, Walking, Answered, Asking, line-step, walk-items, ask-walk}
 use Rattle.walk.specs.Alike.{Alike}
 use Rattle.items.specs.Held.{Held}
+use Rattle.items.specs.Added.{line-added}
 use Rattle.summary.specs.Keeps.{Keeps, pairs-of}
 use Rattle.steps.specs.Steps.{HeadIs}
 use Rattle.steps.specs.declared.Head as H
@@ -140,9 +143,17 @@ abbrev pub RoundsWithin : W.Walked → ℕ → Type 0
 RoundsWithin (walks.Left l) left = l ≤ left
 RoundsWithin walks.Full left = Unit {0}
 
--- 01, Worthless checks: what every lent byte becomes: a summary's walk (false) has no own tables, and where it is not full the words in their place stay
+-- 01, The site; The block; Worthless checks: own′ comes of own by rows added as lines add them, of whatever bytes, kinds and values, one after the
+-- other; every other word stays
+pub data LinesAdded (own : List ℕ) : List ℕ → Type 0 where
+  none : LinesAdded own own
+  line : (own₁ own₂ : List ℕ) (x : Bytes) (base : ℕ) (bound : Bool) (d : ℕ) (kinds : List ℕ) (names : Names) → LinesAdded own own₁
+      → line-added x base bound d kinds names own₁ ≡ added stored.Done own₂ → LinesAdded own own₂
+
+-- 01, Worthless checks: what every lent byte becomes where a walk is not full: in a module's own check (true) rows are added to the own tables, as
+-- lines add them; a summary's walk (false) has none, and the words in their place stay
 abbrev pub OwnKept : Bool → (own own′ : List ℕ) → Type 0
-OwnKept true own own′ = Unit {0}
+OwnKept true own own′ = LinesAdded own own′
 OwnKept false own own′ = own′ ≡ own
 
 -- 01, Refused because of the state; Worthless checks: the tables that a walk fills, whatever was lent: where it is full every place is 0; where it is

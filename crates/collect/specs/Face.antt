@@ -1,5 +1,5 @@
--- What collecting a module in its own check needs, and what it leaves. 01: The value; The collected item; The site; The block; The edge; Refused
--- because of the state; Worthless checks.
+-- What collecting a module in its own check needs, and what it leaves. 01: Refused because of the text; Refused because of the state; The value; The
+-- collected item; The site; The block; The edge; Worthless checks.
 -- To a reader: definitions that the contracts of this crate cite; each such contract is proved; check_drivers' own promise cites none of them.
 use mathlib.Core.Path.{_≡_}
 use mathlib.Core.Bool.{true, false}
@@ -20,10 +20,11 @@ use Rattle.walk.specs.Walk.{Got, full, going, Walked, walked, State, no-own}
 use Rattle.steps.specs.Modules.{name-places, named-by, table-by}
 use Rattle.steps.specs.declared.modules.Named.the-variants as named
 use Rattle.items.specs.Held.{Held}
+use Rattle.items.specs.Lines.{emptied}
 use Rattle.summary.specs.Keeps.{Keeps}
 use Rattle.collect.specs.declared.Collected.{Collected}
 use Rattle.collect.specs.declared.Collected.the-variants as collected
-use Rattle.collect.specs.Cycle.{Tabled, Holding, mode, Framed}
+use Rattle.collect.specs.Cycle.{Tabled, Holding, mode, LinesAdded, Framed}
 
 -- 01, Refused because of the state: module x is number m of an accepted text; `own` has just the places of its tables, and names, graph and
 -- summaries have theirs or more; the words k hold the summaries kept so far, and what the others hold does not matter
@@ -51,8 +52,9 @@ used-of (collected.Left used left) = used
 used-of collected.Full = 0
 
 -- 01, The value; The collected item; The site; The block; The edge: the module's name table, the rounds left, and the state of the walk, which the
--- words hold: own tables, graph and summaries; or the walk is full. What stands behind the names that are used,
--- behind the count of a table or the places of a graph, and in the table of conflicts, is free.
+-- words hold: own tables, graph and summaries; or the walk is full. Free are the words that stand for nothing: behind the names in use; of the graph
+-- behind its nodes and edges, and what a node has no use for; of the summaries behind the pairs, and of modules that are not kept. Those of the own
+-- tables behind their counts, and in the table of conflicts, stay as they were where the number is 0 (`LentAfter`).
 abbrev pub Collects : Collected → (text names own g k : List ℕ) → Module → Got (Walked State) → Type 0
 Collects r text names own g k x y =
     by-number (number-of r)
@@ -65,13 +67,21 @@ abbrev pub NamesAfter : Collected → (text mods : List ℕ) → ℕ → (names 
 NamesAfter r text mods m names names′ =
     by-number (number-of r) ((named-by text mods m names ≡ named.Used (used-of r)) × Framed (used-of r) (table-by text mods m names) names′) (Cleared names′)
 
+-- 01, Refused because of the text: 1 over 32,768 bytes, 7 a 33rd module: an answer of 0 is only given of at most 32,768 bytes and 32 modules
+abbrev pub Walkable : (number : ℕ) → (text : List ℕ) → (count : ℕ) → Type 0
+Walkable number text count = by-number number ((length text ≤ 32768) × (count ≤ 32)) (Unit {0})
+
 -- 01, Worthless checks; Refused because of the state: what every slice that is lent to be written becomes, whatever it held: it keeps its length,
--- and where the number is 20 each place of it is 0. Elsewhere `Collects` says what own tables, graph and summaries hold; where `ModuleGiven` does not
--- hold that is free, and so are the words behind the names in use.
-pub record LentAfter (r : Collected) (text mods : List ℕ) (m : ℕ) (names own g k names′ own′ g′ k′ : List ℕ) : Type 0 where
+-- and where the number is 20 each place of it is 0; where it is 0 the counts of the own tables are made 0, and then rows are added to them, as lines
+-- add them. Where `ModuleGiven` does not hold, free are: whether the number is 20, but for what `NamesAfter` and `Walkable` say; the rounds left,
+-- 4,096 at most; which rows these are; the words of graph and summaries where it is 0. Where it holds, `Collects` says these. The words behind the
+-- names in use are always free.
+pub record LentAfter (r : Collected) (text mods : List ℕ) (count m : ℕ) (names own g k names′ own′ g′ k′ : List ℕ) : Type 0 where
   pub sizes : (length names′ ≡ length names) × (length own′ ≡ length own) × (length g′ ≡ length g) × (length k′ ≡ length k)
   pub named : NamesAfter r text mods m names names′
   pub cleared : number-of r ≡ 20 → Cleared own′ × Cleared g′ × Cleared k′
+  pub owned : number-of r ≡ 0 → LinesAdded (emptied own) own′
+  pub walkable : Walkable (number-of r) text count
 
 -- 01, The collected item: where the walk over the items of module x begins: its name table stands, with room for the variables of open repeats, and
 -- its tables are empty

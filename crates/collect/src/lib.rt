@@ -26,8 +26,8 @@ ghost use Rattle.walk.specs.Walk.{ask-walk, own-walk};
 ghost use Rattle.steps.specs.declared.Head as heads;
 ghost use Rattle.steps.specs.declared.Head.the-variants as head;
 ghost use Rattle.summary.specs.Keeps.{Keeps};
-ghost use Rattle.collect.specs.Face.{WalkGiven, ModuleGiven, Collects, left-of, LentAfter};
-ghost use Rattle.collect.specs.Cycle.{Mode, World, Given, Single, OneGiven, mode, Ends, walk-of, one-of, turns-of, step-of, Framed, RoundsWithin, WalkLeaves, Stepped, Tabled, AskedFor, AskLeaves};
+ghost use Rattle.collect.specs.Face.{WalkGiven, ModuleGiven, Collects, left-of, Walkable, LentAfter};
+ghost use Rattle.collect.specs.Cycle.{walk-number, Mode, World, Given, Single, OneGiven, mode, Ends, walk-of, one-of, turns-of, step-of, Framed, RoundsWithin, WalkLeaves, Stepped, Tabled, AskedFor, AskLeaves};
 
 // What collecting a module gives: a limit is passed or a constant is outside INT; else how many names its table has, and the rounds left.
 pub enum Collected {
@@ -453,6 +453,7 @@ fn walk_module(
         → Ends r (mode true (x .bound)) (now (text .entry)) (now (own .exit)) (now (g .exit)) (now (k .exit)) [] (own-walk (decode (now (text .entry))) x kept)) ⌝ }
     ensures { λ r. ⌜ Framed used (now (names .entry)) (now (names .exit)) × RoundsWithin r 4096 ⌝ }
     ensures { λ r. ⌜ WalkLeaves r true (now (own .entry)) (now (own .exit)) (now (g .exit)) (now (k .exit)) ⌝ }
+    ensures { λ r. ⌜ Walkable (walk-number r) (now (text .entry)) count ⌝ }
 {
     if 32768 < text.len() {
         places::clear_tables(own, g, k);
@@ -491,7 +492,8 @@ fn walk_module(
 }
 
 // Collects module m in its own check: its name table; its own tables and its graph, both empty where the walk begins; and in k, which holds the
-// summaries kept so far, those that its instances ask for. Where it is full, every place that is lent to be written is 0 afterwards.
+// summaries kept so far, those that its instances ask for. Where it is full, every place that is lent to be written is 0 afterwards. `LentAfter`
+// says what holds whatever is lent, and what is free then.
 pub fn collect_module(
     text: &[u8],
     kinds: &[u8],
@@ -507,7 +509,7 @@ pub fn collect_module(
         (now (names .entry)) (now (own .entry)) (now (g .entry)) (now (k .entry)) x kept
         → Collects r (now (text .entry)) (now (names .exit)) (now (own .exit)) (now (g .exit)) (now (k .exit)) x (own-walk (decode (now (text .entry))) x kept)) ⌝ }
     ensures { λ r. ⌜ left-of r ≤ 4096 ⌝ }
-    ensures { λ r. ⌜ LentAfter r (now (text .entry)) (now (mods .entry)) m (now (names .entry)) (now (own .entry)) (now (g .entry)) (now (k .entry))
+    ensures { λ r. ⌜ LentAfter r (now (text .entry)) (now (mods .entry)) count m (now (names .entry)) (now (own .entry)) (now (g .entry)) (now (k .entry))
         (now (names .exit)) (now (own .exit)) (now (g .exit)) (now (k .exit)) ⌝ }
 {
     match modules::names_of_module(text, mods, m, names) {

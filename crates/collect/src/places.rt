@@ -13,7 +13,7 @@ ghost use Rattle.consteval.specs.Worth.{number-of};
 const NAMES: usize = 256;
 
 // The kinds of the names of module m.
-pub fn module_kinds(kinds: &[u8], m: u32) -> &[u8]
+pub(crate) fn module_kinds(kinds: &[u8], m: u32) -> &[u8]
     ensures { λ r. ⌜ now r ≡ take 256 (drop (m * 256) (now (kinds .entry))) ⌝ }
 {
     let from = m as usize * NAMES;
@@ -21,7 +21,7 @@ pub fn module_kinds(kinds: &[u8], m: u32) -> &[u8]
 }
 
 // Where the run of the items of module m begins: at the byte before the first.
-pub fn run_at(mods: &[u32], m: u32) -> u32
+pub(crate) fn run_at(mods: &[u32], m: u32) -> u32
     ensures { λ r. ⌜ r ≡ getD (now (mods .entry)) (m * 4 + 2) 0 - 1 ⌝ }
 {
     let i = edges::word(mods, m as usize * 4 + 2);
@@ -29,14 +29,14 @@ pub fn run_at(mods: &[u32], m: u32) -> u32
 }
 
 // Is module m bound?
-pub fn is_bound(mods: &[u32], m: u32) -> bool
+pub(crate) fn is_bound(mods: &[u32], m: u32) -> bool
     ensures { λ r. ⌜ r ≡ ltb 0 (getD (now (mods .entry)) (m * 4) 0) ⌝ }
 {
     0 < edges::word(mods, m as usize * 4)
 }
 
 // Is the value outside INT?
-pub fn is_outside(v: Value) -> bool
+pub(crate) fn is_outside(v: Value) -> bool
     ensures { λ r. ⌜ r ≡ ltb 0 (number-of v) ⌝ }
 {
     match v {
@@ -47,7 +47,7 @@ pub fn is_outside(v: Value) -> bool
 }
 
 // Every place of the tables that a walk fills becomes 0.
-pub fn clear_tables(own: &mut [u32], g: &mut [u32], k: &mut [u32])
+pub(crate) fn clear_tables(own: &mut [u32], g: &mut [u32], k: &mut [u32])
     ensures { λ _. ⌜ Cleared (now (own .exit)) × Cleared (now (g .exit)) × Cleared (now (k .exit)) ⌝ }
 {
     graph::clear(own);

@@ -24,7 +24,7 @@ fn line_heads(x: &[u8], depth: u32, ks: &[u8], names: &[u32], used: usize, g: &m
 
 // The line x, which holds no items, asks for no summary and begins at `from` of the text: its entries in the own tables, then what it heads and
 // reads. False where a constant is outside INT or a limit is passed. Only a module's own check has own tables.
-pub fn plain_line(
+pub(crate) fn plain_line(
     x: &[u8],
     from: u32,
     depth: u32,
@@ -65,7 +65,7 @@ pub fn plain_line(
 
 // The `inst` line x heads the outputs in the summary of its module, `count` pairs of k from `first` on: false where an index is outside INT or a
 // limit is passed.
-pub fn inst_line(
+pub(crate) fn inst_line(
     x: &[u8],
     depth: u32,
     index: Value,

@@ -14,11 +14,13 @@ use Rattle.spec.specs.Bytes.{Bytes}
 use Rattle.spec.specs.Syntax.{eq, Item, Items, port, wire, reg, mem, const, drive, on, inst, repeat, const-if, Header, kind, val, Line, module-line, header-line, item-line}
 use Rattle.spec.specs.Decode.{decode-line}
 use Rattle.spec.specs.Refusal.{lines, decode-lines, in-int, line-in-range, item-in-range, expr-in-range}
-use Rattle.spec.specs.Value.{Value, known, missing, outside, Names, within, value, Table, val-names, with-value, const-names, name-table, own-vals}
+use Rattle.spec.specs.Value.{Value, known, missing, outside, Names, within, value, is-outside, Table, val-names, with-value, const-names, name-table, own-vals}
 use Rattle.spec.specs.Constants.{InInt, AllInInt}
 use Rattle.spec.proofs.Constants.{constants}
-use Rattle.consteval.specs.Worth.{signed, pairs, names-of, room, pushed, biased}
-use Rattle.consteval.specs.Fill.{held, val-of-line, const-of-item, const-of-line, Filling, by-entry, vals-of, consts-of, then-consts, fill-of, headers-of, items-of, all-in-range, Right, Fills}
+use Rattle.consteval.specs.Worth.{signed, worth, refused-if, number-of, pairs, names-of, room, pushed, biased}
+use Rattle.consteval.specs.declared.Value.{Value as Answer}
+use Rattle.consteval.specs.declared.Value.the-variants.{Known, Missing, Outside}
+use Rattle.consteval.specs.Fill.{held, entry-number, val-of-line, const-of-item, const-of-line, Filling, filling, by-entry, vals-of, consts-of, then-consts, fill-of, headers-of, items-of, line-out, all-in-range, Right, Fills}
 use Rattle.consteval.proofs.ArithLaws.{signed-low, signed-high}
 use Rattle.consteval.proofs.FillLaws.{pushed-length, put-in, put-full}
 use Rattle.consteval.specs.declared.fill.Filled.{Filled}
@@ -263,10 +265,72 @@ both-right items e vs Left x r = absurd r
 both-right items e vs Short x r = omega (arith, grows (record { names = vs; out = false }) (items-of (decode-lines (lines items))), r)
 both-right items e vs Wrong x r = absurd r
 
-pub fills : Fills
+pub fills : (header items : Bytes) (t : List ℕ) → Fills (fill-of header items t .answer) header items (fill-of header items t .table)
 unfolding fill-of name-table own-vals
-fills = record {
-  right = λ bound header items t h i. both-right items i (val-names [] (headers-of (decode-lines (lines header)))) (vals-of (lines header) t 0 .answer) (vals-of (lines header) t 0 .table)
-      (subst (λ (y : Names). ValsOf (vals-of (lines header) t 0) (val-names y (headers-of (decode-lines (lines header))))) (names-none t)
-      (vals-right (lines header) h t 0 (omega arith) (subst (λ (y : Names). AllInInt y) (sym (names-none t)) tt)));
-}
+fills header items t bound h i =
+    both-right items i (val-names [] (headers-of (decode-lines (lines header)))) (vals-of (lines header) t 0 .answer) (vals-of (lines header) t 0 .table)
+    (subst (λ (y : Names). ValsOf (vals-of (lines header) t 0) (val-names y (headers-of (decode-lines (lines header))))) (names-none t)
+    (vals-right (lines header) h t 0 (omega arith) (subst (λ (y : Names). AllInInt y) (sym (names-none t)) tt)))
+
+pub filled : (header items : Bytes) (t : List ℕ) (r : Filled) (t′ : List ℕ) → filling r t′ ≡ fill-of header items t → (filling r t′ ≡ fill-of header items t) × Fills r header items t′
+filled header items t r t′ e = (e, subst (λ (f : Filling). Fills (f .answer) header items (f .table)) (sym e) (fills header items t))
+
+-- ---- the number of what a line adds
+held-number : (n : ℕ) (x : Value) → n < 4294967296 → entry-number (held n x) ≡ refused-if (is-outside x)
+held-number n (known z) h = hold (ltb n 4294967296) (lt-ltb n 4294967296 h)
+  where
+    hold : (b : Bool) → b ≡ true → entry-number (elim b as (λ _. Entry) [ true ↦ Put n (biased z) | false ↦ Bad ]) ≡ 0
+    hold b e = rw e
+held-number n missing h = refl
+held-number n outside h = refl
+
+answer-number : (v : Answer) → refused-if (is-outside (worth v)) ≡ number-of v
+answer-number (Known x) = refl
+answer-number Missing = refl
+answer-number Outside = refl
+
+pub held-by : (n : ℕ) (v : Answer) (r : Entry) → r ≡ held n (worth v) → (r ≡ held n (worth v)) × (n < 4294967296 → entry-number r ≡ number-of v)
+held-by n v r e = (e, λ h. ap entry-number e ∙ held-number n (worth v) h ∙ answer-number v)
+
+val-number : (l : Line) → line-in-range l ≡ true → entry-number (val-of-line l) ≡ 0
+unfolding line-in-range
+val-number (module-line m b) e = refl
+val-number (header-line (kind n k)) e = refl
+val-number (header-line (val n z)) e =
+    let p = both (ltb n 256) (in-int z) e in
+    ap (λ (x : Value). entry-number (held n x)) (within-known z (p .1)) ∙ held-number n (known z) (omega (arith, ltb-true n 256 (p .0)))
+val-number (item-line i) e = refl
+
+pub val-by : (s : Bytes) (r : Entry) → r ≡ val-of-line (decode-line s) → (r ≡ val-of-line (decode-line s)) × (line-in-range (decode-line s) ≡ true → entry-number r ≡ 0)
+val-by s r e = (e, λ h. ap entry-number e ∙ val-number (decode-line s) h)
+
+out-of : (names : Names) (n : ℕ) (x : Value) → is-outside x ≡ with-value n x (record { names = names; out = false }) .out
+unfolding with-value
+out-of names n (known z) = refl
+out-of names n missing = refl
+out-of names n outside = refl
+
+item-number : (names : Names) (i : Item) → item-in-range i ≡ true
+    → entry-number (const-of-item names i) ≡ refused-if (const-names (record { names = names; out = false }) (Items.more i Items.none) .out)
+unfolding const-names item-in-range
+item-number names (port d n w s) e = refl
+item-number names (wire n x s) e = refl
+item-number names (reg n s) e = refl
+item-number names (mem n s) e = refl
+item-number names (const n x) e =
+    held-number n (value names x) (omega (arith, ltb-true n 256 (both (ltb n 256) (expr-in-range x) e .0))) ∙ ap refused-if (out-of names n (value names x))
+item-number names (drive lv x) e = refl
+item-number names (on s ss) e = refl
+item-number names (inst i) e = refl
+item-number names (repeat n l h js) e = refl
+item-number names (const-if c js ks) e = refl
+
+const-number : (names : Names) (l : Line) → line-in-range l ≡ true → entry-number (const-of-line names l) ≡ refused-if (line-out names l)
+unfolding line-in-range items-of const-names
+const-number names (module-line m b) e = refl
+const-number names (header-line h) e = refl
+const-number names (item-line i) e = item-number names i e
+
+pub const-by : (names : Names) (s : Bytes) (r : Entry) → r ≡ const-of-line names (decode-line s)
+    → (r ≡ const-of-line names (decode-line s)) × (line-in-range (decode-line s) ≡ true → entry-number r ≡ refused-if (line-out names (decode-line s)))
+const-by names s r e = (e, λ h. ap entry-number e ∙ const-number names (decode-line s) h)

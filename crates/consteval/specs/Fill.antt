@@ -1,6 +1,6 @@
 -- The name table of a module as it is filled: what each line adds, line by line, until a line stops it. 01: The line; The value; Refused because of
 -- the text; Refused because of the state.
--- To a reader: definitions that contracts of this and other crates cite, and a statement, Fills, proved in proofs/TableLaws.
+-- To a reader: definitions that contracts of this and other crates cite; each such contract is proved; check_drivers' own promise cites none of them.
 use mathlib.Core.Path.{_≡_}
 use mathlib.Core.Bool.{Bool, true, false, _&&_}
 use mathlib.Core.List.{List, [], _∷_}
@@ -11,7 +11,7 @@ use Rattle.spec.specs.Bytes.{Bytes}
 use Rattle.spec.specs.Syntax.{Item, Items, port, wire, reg, mem, const, drive, on, inst, repeat, const-if, Header, kind, val, Module, Line, module-line, header-line, item-line}
 use Rattle.spec.specs.Decode.{decode-line}
 use Rattle.spec.specs.Refusal.{lines, decode-lines, line-in-range}
-use Rattle.spec.specs.Value.{Value, known, missing, outside, Names, within, value, Table, name-table, own-vals}
+use Rattle.spec.specs.Value.{Value, known, missing, outside, Names, within, value, Table, const-names, name-table, own-vals}
 use Rattle.spec.specs.Cleared.{by-number}
 use Rattle.lines.specs.declared.words.Word.{Word}
 use Rattle.lines.specs.declared.words.Word.the-variants.{N as N-word, F as F-word, Ix as Ix-word, If as If-word, All as All-word, Neg as Neg-word, Not as Not-word, Clog2 as Clog2-word, Add as Add-word, Sub as Sub-word, Mul as Mul-word, Eq as Eq-word, Ne as Ne-word, Lt as Lt-word, Le as Le-word, Gt as Gt-word, Ge as Ge-word, And as And-word, Or as Or-word, Shl as Shl-word, Shr as Shr-word, Band as Band-word, Bor as Bor-word, Bxor as Bxor-word, True as True-word, False as False-word, Bit as Bit-word, Opaque as Opaque-word, Bits as Bits-word, Signed as Signed-word, Lv as Lv-word, Set as Set-word, Default as Default-word, Loop as Loop-word, When as When-word, Then as Then-word, Else as Else-word, Conn as Conn-word, Dash as Dash-word, Port as Port-word, Wire as Wire-word, Reg as Reg-word, Mem as Mem-word, Const as Const-word, Drive as Drive-word, On as On-word, Inst as Inst-word, Repeat as Repeat-word, ConstIf as ConstIf-word, In as In-word, Out as Out-word, Module as Module-word, Kind as Kind-word, Val as Val-word, Bound as Bound-word, Unbound as Unbound-word, Other as Other-word}
@@ -99,6 +99,14 @@ held n (known z) = elim (ltb n 4294967296) [ true ↦ Put n (biased z) | false �
 held n missing = Skip
 held n outside = Outside
 
+-- 01, Refused because of the state: 20 where the value is outside INT, 0 where a pair or nothing is added; `Bad` is of no line in range, and counts as
+-- 20 too
+abbrev pub entry-number : Entry → ℕ
+entry-number Skip = 0
+entry-number (Put n v) = 0
+entry-number Outside = 20
+entry-number Bad = 20
+
 -- 01, The value: what a line adds to the table as a header line: a `val` line its name and INT
 abbrev pub val-of-line : Line → Entry
 val-of-line (module-line m b) = Skip
@@ -183,6 +191,10 @@ items-of (item-line i ∷ ls) = Items.more i (items-of ls)
 abbrev pub module-of : Bool → Bytes → Bytes → Module
 module-of bound header items = record { bound = bound; header = headers-of (decode-lines (lines header)); items = items-of (decode-lines (lines items)) }
 
+-- 01, The value; Refused because of the state: whether a line, read as an item line under the names so far, is a `const` whose value is outside INT
+abbrev pub line-out : Names → Line → Bool
+line-out names l = const-names (record { names = names; out = false }) (items-of (l ∷ [])) .out
+
 -- 01, Refused because of the text: no number of these lines is out of range
 unfoldable pub all-in-range : List Line → Bool
 all-in-range [] = true
@@ -215,8 +227,9 @@ Stopped Wrong t T = ⊥
 abbrev pub Right : Filled → List ℕ → Table → Type 0
 Right r t T = by-number (number-of r) ((names-of t (used-of r) ≡ T .names) × (T .out ≡ false) × (used-of r ≤ length t / 2)) (Stopped r t T)
 
--- 01, The value; Refused because of the state: the theorem: of lines in range the table is the name table of their module, a constant is outside INT,
--- or the table is too small
-pub record Fills : Type 0 where
-  pub right : (bound : Bool) (header items : Bytes) (t : List ℕ) → all-in-range (decode-lines (lines header)) ≡ true → all-in-range (decode-lines (lines items)) ≡ true →
-      Right (fill-of header items t .answer) (fill-of header items t .table) (name-table (own-vals (module-of bound header items)) (module-of bound header items))
+-- 01, The value; Refused because of the state: what filling a table answers and leaves, of lines in range, be their module bound or not: its name
+-- table; or 20, where a constant is outside INT or the table is too small
+abbrev pub Fills : Filled → Bytes → Bytes → List ℕ → Type 0
+Fills r header items t =
+    (bound : Bool) → all-in-range (decode-lines (lines header)) ≡ true → all-in-range (decode-lines (lines items)) ≡ true
+    → Right r t (name-table (own-vals (module-of bound header items)) (module-of bound header items))

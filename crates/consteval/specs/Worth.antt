@@ -35,6 +35,11 @@ worth (Known x) = known (signed x)
 worth Missing = missing
 worth Outside = outside
 
+-- 01, Refused because of the state: 20 where this is so, and 0 where it is not
+abbrev pub refused-if : Bool → ℕ
+refused-if true = 20
+refused-if false = 0
+
 -- 01, Refused because of the state: 20 where the value is outside INT, else 0
 abbrev pub number-of : Answer → ℕ
 number-of (Known x) = 0

@@ -10,7 +10,7 @@ ghost use Rattle.spec.specs.Value.{within, truth-value, clog2-bits, clog2-value
 ghost use Rattle.spec.specs.Syntax.{and, or};
 ghost use Rattle.consteval.specs.Worth.{signed, worth, unary-of, binary-of};
 
-pub fn positive(n: u64) -> Value
+pub(crate) fn positive(n: u64) -> Value
     ensures { λ r. ⌜ worth r ≡ within (pos n) ⌝ }
 {
     if n < 2147483648 {
@@ -19,7 +19,7 @@ pub fn positive(n: u64) -> Value
     Value::Outside
 }
 
-pub fn negative(n: u64) -> Value
+pub(crate) fn negative(n: u64) -> Value
     ensures { λ r. ⌜ worth r ≡ within (negℤ (pos n)) ⌝ }
 {
     if n <= 2147483648 {
@@ -102,7 +102,7 @@ fn clog2(x: u32) -> Value
     positive(clog2_bits(x - 2147483648) as u64)
 }
 
-pub fn unary(o: Unary, x: u32) -> Value
+pub(crate) fn unary(o: Unary, x: u32) -> Value
     ensures { λ r. ⌜ worth r ≡ unary-value (unary-of o) (signed x) ⌝ }
 {
     match o {
@@ -205,7 +205,7 @@ fn bxor(x: u32, y: u32) -> u32
     ((x ^ 2147483648) ^ (y ^ 2147483648)) ^ 2147483648
 }
 
-pub fn binary(o: Binary, x: u32, y: u32) -> Value
+pub(crate) fn binary(o: Binary, x: u32, y: u32) -> Value
     ensures { λ r. ⌜ worth r ≡ binary-value (binary-of o) (signed x) (signed y) ⌝ }
 {
     match o {

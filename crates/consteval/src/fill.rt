@@ -11,12 +11,14 @@ use lines::parts::Pair;
 use lines::words;
 use lines::words::Word;
 ghost use mathlib.Core.Path.{_≡_};
+ghost use mathlib.Core.Bool.{true};
+ghost use Prim.Native.Nat.{_<_};
 ghost use Rattle.spec.specs.Bytes.{integer};
 ghost use Rattle.spec.specs.Decode.{decode-line};
-ghost use Rattle.spec.specs.Refusal.{lines};
+ghost use Rattle.spec.specs.Refusal.{lines, line-in-range};
 ghost use Rattle.spec.specs.Value.{within};
-ghost use Rattle.consteval.specs.Worth.{worth, names-of};
-ghost use Rattle.consteval.specs.Fill.{line-end, role, held, val-of-line, const-of-line, filling, vals-of, consts-of, fill-of};
+ghost use Rattle.consteval.specs.Worth.{worth, number-of, refused-if, names-of};
+ghost use Rattle.consteval.specs.Fill.{line-end, role, held, entry-number, val-of-line, const-of-line, filling, vals-of, consts-of, fill-of, line-out, Fills};
 
 // Pairs used, or why there is no table. `Bad`: a number that is out of its range, which no accepted text has.
 pub enum Filled {
@@ -27,14 +29,14 @@ pub enum Filled {
 }
 
 // What a line adds to the table.
-pub enum Entry {
+enum Entry {
     Skip,
     Put(u32, u32),
     Outside,
     Bad,
 }
 
-pub enum Role {
+enum Role {
     Val,
     Const,
     Other,
@@ -134,6 +136,7 @@ fn whole(s: &[u8]) -> Value
 // A name and its value, as they are held.
 fn to_hold(n: u64, v: Value) -> Entry
     ensures { λ r. ⌜ r ≡ held n (worth v) ⌝ }
+    ensures { λ r. ⌜ (n < 4294967296 → entry-number r ≡ number-of v) ⌝ }
 {
     match v {
         Value::Known(x) => {
@@ -150,6 +153,7 @@ fn to_hold(n: u64, v: Value) -> Entry
 // What a header line adds: a `val` its name and INT.
 fn val_entry(s: &[u8]) -> Entry
     ensures { λ r. ⌜ r ≡ val-of-line (decode-line (now (s .entry))) ⌝ }
+    ensures { λ r. ⌜ (line-in-range (decode-line (now (s .entry))) ≡ true → entry-number r ≡ 0) ⌝ }
 {
     if s.len() == 0 {
         return Entry::Skip;
@@ -171,6 +175,8 @@ fn val_entry(s: &[u8]) -> Entry
 // What an item line adds: a `const` its name and value, under the table so far.
 fn const_entry(s: &[u8], names: &[u32], used: usize) -> Entry
     ensures { λ r. ⌜ r ≡ const-of-line (names-of (now (names .entry)) used) (decode-line (now (s .entry))) ⌝ }
+    ensures { λ r. ⌜ (line-in-range (decode-line (now (s .entry))) ≡ true
+        → entry-number r ≡ refused-if (line-out (names-of (now (names .entry)) used) (decode-line (now (s .entry))))) ⌝ }
 {
     if s.len() == 0 {
         return Entry::Skip;
@@ -246,6 +252,7 @@ fn fill_consts(s: &[u8], names: &mut [u32], from: usize) -> Filled
 // The table of a module, from its header's lines and its items' lines.
 pub fn fill(header: &[u8], items: &[u8], names: &mut [u32]) -> Filled
     ensures { λ r. ⌜ filling r (now (names .exit)) ≡ fill-of (now (header .entry)) (now (items .entry)) (now (names .entry)) ⌝ }
+    ensures { λ r. ⌜ Fills r (now (header .entry)) (now (items .entry)) (now (names .exit)) ⌝ }
 {
     match fill_vals(header, names) {
         Filled::Used(n) => fill_consts(items, names, n),

@@ -18,7 +18,7 @@ ghost use Rattle.consteval.specs.Worth.{worth, names-of};
 pub mod arith;
 pub mod fill;
 pub mod names;
-pub mod shape;
+mod shape;
 
 // A value v in INT is held as v + 2147483648.
 pub enum Value {

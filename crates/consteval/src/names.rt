@@ -18,7 +18,7 @@ fn counted(names: &[u32], used: usize) -> usize
 }
 
 // The newest value of a name.
-pub fn look_up(names: &[u32], used: usize, n: u64) -> Value
+pub(crate) fn look_up(names: &[u32], used: usize, n: u64) -> Value
     ensures { λ r. ⌜ worth r ≡ value-of-name (names-of (now (names .entry)) used) n ⌝ }
 {
     let mut i = counted(names, used);

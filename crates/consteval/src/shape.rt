@@ -3,13 +3,13 @@ use lines::words::Word;
 ghost use mathlib.Core.Path.{_≡_};
 ghost use Rattle.consteval.specs.Worth.{shape};
 
-pub enum Unary {
+pub(crate) enum Unary {
     Neg,
     Not,
     Clog2,
 }
 
-pub enum Binary {
+pub(crate) enum Binary {
     Add,
     Sub,
     Mul,
@@ -28,7 +28,7 @@ pub enum Binary {
     Bxor,
 }
 
-pub enum Shape {
+pub(crate) enum Shape {
     Name,
     If,
     One(Unary),
@@ -38,7 +38,7 @@ pub enum Shape {
     None,
 }
 
-pub fn shape_of(w: Word) -> Shape
+pub(crate) fn shape_of(w: Word) -> Shape
     ensures { λ r. ⌜ r ≡ shape w ⌝ }
 {
     match w {

@@ -1,4 +1,4 @@
--- What reporting a module's own tables leaves. 01: The site; Refused because of the state.
+-- What reporting a module's own tables leaves. 01: Refused because of the state; The report.
 -- To a reader: definitions that the contracts of this crate cite; each such contract is proved; check_drivers' own promise cites none of them.
 use mathlib.Core.Path.{_≡_}
 use mathlib.Core.Bool.{Bool, true, false}

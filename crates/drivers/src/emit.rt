@@ -10,9 +10,9 @@ ghost use Rattle.report.specs.Line.{report-of, walk-head, walk-node, walk-tail}
 ghost use Rattle.drivers.specs.Emits.{Appends, Emits};
 
 // Where the next line goes, one past the buffer's end where they no longer fit; and how many reports there are so far.
-pub struct Place {
-    pub at: usize,
-    pub reports: usize,
+pub(crate) struct Place {
+    pub(crate) at: usize,
+    pub(crate) reports: usize,
 }
 
 // The place behind n bytes.
@@ -40,7 +40,7 @@ fn one_more(reports: usize, at: usize) -> usize
 }
 
 // A report's line.
-pub fn emit(buf: &mut [u8], p: Place, write: bool, x: Report) -> Place
+pub(crate) fn emit(buf: &mut [u8], p: Place, write: bool, x: Report) -> Place
     ensures { λ r. ⌜ Emits write (now (buf .entry)) p (report-of x ∷ []) (now (buf .exit)) r ⌝ }
 {
     let at = behind(buf, p.at, report::count_report(x));
@@ -53,7 +53,7 @@ pub fn emit(buf: &mut [u8], p: Place, write: bool, x: Report) -> Place
 }
 
 // The head of a loop report's line.
-pub fn emit_walk_head(buf: &mut [u8], p: Place, write: bool, m: u32, start: u32) -> Place
+pub(crate) fn emit_walk_head(buf: &mut [u8], p: Place, write: bool, m: u32, start: u32) -> Place
     ensures { λ r. ⌜ Appends write (now (buf .entry)) p (walk-head m start) 0 (now (buf .exit)) r ⌝ }
 {
     let at = behind(buf, p.at, report::count_walk_head(m, start));
@@ -66,7 +66,7 @@ pub fn emit_walk_head(buf: &mut [u8], p: Place, write: bool, m: u32, start: u32)
 }
 
 // A node of a loop report's line.
-pub fn emit_walk_node(buf: &mut [u8], p: Place, write: bool, n: Node) -> Place
+pub(crate) fn emit_walk_node(buf: &mut [u8], p: Place, write: bool, n: Node) -> Place
     ensures { λ r. ⌜ Appends write (now (buf .entry)) p (walk-node n) 0 (now (buf .exit)) r ⌝ }
 {
     let at = behind(buf, p.at, report::count_walk_node(n));
@@ -79,7 +79,7 @@ pub fn emit_walk_node(buf: &mut [u8], p: Place, write: bool, n: Node) -> Place
 }
 
 // The end of a loop report's line, with which the report counts.
-pub fn emit_walk_tail(buf: &mut [u8], p: Place, write: bool) -> Place
+pub(crate) fn emit_walk_tail(buf: &mut [u8], p: Place, write: bool) -> Place
     ensures { λ r. ⌜ Appends write (now (buf .entry)) p walk-tail 1 (now (buf .exit)) r ⌝ }
 {
     let at = behind(buf, p.at, report::count_walk_tail());

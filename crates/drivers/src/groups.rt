@@ -37,7 +37,7 @@ ghost use Rattle.drivers.specs.Emits.{Emits};
 ghost use Rattle.drivers.specs.Groups.{Reported};
 
 // Done with the next place; or a width that decides coverage is outside INT.
-pub enum Covered {
+pub(crate) enum Covered {
     Done(Place),
     Outside,
 }
@@ -327,7 +327,7 @@ fn report_mem_blocks(own: &[u32], m: u32, buf: &mut [u8], p: Place, write: bool)
 }
 
 // All reports of a module, from its own tables and its graph, in order: misuses, conflicts, outputs, registers, memories, loops.
-pub fn report_module(
+pub(crate) fn report_module(
     text: &[u8],
     names: &[u32],
     used: usize,

@@ -71,7 +71,7 @@ fn report_loop(
 }
 
 // The reports of the graph's closed walks, in order.
-pub fn report_loops(
+pub(crate) fn report_loops(
     g: &[u32],
     w: &mut [u32],
     m: u32,

@@ -22,7 +22,7 @@ use Rattle.graph.specs.Stands.{Heading, Read}
 use Rattle.graph.specs.declared.Added as A
 use Rattle.graph.specs.declared.Added.the-variants as added
 use Rattle.edges.specs.Reads.{kind-word, KindsOf, ReadAll}
-use Rattle.edges.specs.Shows.{ShowsExpr, NameRead, begins, as-name, name-of, NamedBy}
+use Rattle.edges.specs.Shows.{ShowsExpr, NameRead, opens, begins, as-name, name-of, NamedBy}
 use Rattle.edges.proofs.ReadLaws.{read-none, read-one}
 use Rattle.runs.proofs.Inside.{placed}
 use Rattle.edges.specs.declared.Named.the-variants as named
@@ -144,29 +144,32 @@ module _ (kinds : List ℕ) (m : ℕ) (g : List ℕ) (from : ℕ) {k : ℕ} (q :
     pub name-full : a ≡ added.Full → NameRead false m kinds g g′ from
     name-full e = signal-read false (λ j f. let x : _≡_ {A = ℕ} 0 1 = cc in absurd (omega arith)) (λ f. refl)
 
--- ---- `begins`
+-- ---- `opens`, and the byte behind
+
+module _ (x : Bytes) (a : ℕ) where
+  pub opens-not : (getD x 0 0 ≡ 40 → ⊥) → false ≡ opens x a
+  opens-not f = rw (ne-eqb (getD x 0 0) 40 f)
+
+  pub opens-by : getD x 0 0 ≡ 40 → {c : ℕ} → c ≡ getD x 1 0 → eqb c a ≡ opens x a
+  opens-by e q = rw (eq-eqb (getD x 0 0) 40 e, q)
+
+  module _ (b : ℕ) {r : Bool} (q : r ≡ opens x a) where
+    pub begins-not : r ≡ false → false ≡ begins x a b
+    unfolding begins
+    begins-not f = ap (λ (z : Bool). z && eqb (getD x 2 0) b) (sym f ∙ q)
+
+    pub begins-by : r ≡ true → {t : Bool} {c : ℕ} → c ≡ getD x 2 0 → t ≡ eqb c b → t ≡ begins x a b
+    unfolding begins
+    begins-by f qc qt = qt ∙ ap (λ (z : ℕ). eqb z b) qc ∙ ap (λ (z : Bool). z && eqb (getD x 2 0) b) (sym f ∙ q)
 
 module _ (x : Bytes) (a b : ℕ) where
-  pub begins-closed : (getD x 0 0 ≡ 40 → ⊥) → false ≡ begins x a b
-  unfolding begins
-  begins-closed f = rw (ne-eqb (getD x 0 0) 40 f, begins)
-
-  module _ (e : getD x 0 0 ≡ 40) where
-    pub begins-other : (getD x 1 0 ≡ a → ⊥) → false ≡ begins x a b
-    unfolding begins
-    begins-other f = rw (eq-eqb (getD x 0 0) 40 e, ne-eqb (getD x 1 0) a f, begins)
-
-    pub begins-last : getD x 1 0 ≡ a → {c : ℕ} → c ≡ getD x 2 0 → eqb c b ≡ begins x a b
-    unfolding begins
-    begins-last f q = rw (eq-eqb (getD x 0 0) 40 e, eq-eqb (getD x 1 0) a f, q, begins)
-
   -- the three bytes
   pub begins-parts : begins x a b ≡ true → (getD x 0 0 ≡ 40) × (getD x 1 0 ≡ a) × (getD x 2 0 ≡ b)
   unfolding begins
   begins-parts e =
-      let p = and-parts (eqb (getD x 0 0) 40) (eqb (getD x 1 0) a && eqb (getD x 2 0) b) e in
-      let q = and-parts (eqb (getD x 1 0) a) (eqb (getD x 2 0) b) (p .1) in
-      (eqb-true (getD x 0 0) 40 (p .0), eqb-true (getD x 1 0) a (q .0), eqb-true (getD x 2 0) b (q .1))
+      let p = and-parts (opens x a) (eqb (getD x 2 0) b) e in
+      let q = and-parts (eqb (getD x 0 0) 40) (eqb (getD x 1 0) a) (p .0) in
+      (eqb-true (getD x 0 0) 40 (q .0), eqb-true (getD x 1 0) a (q .1), eqb-true (getD x 2 0) b (p .1))
 
 -- ---- one law for each way of `name_of`
 

@@ -17,9 +17,11 @@ use Rattle.spec.proofs.Shown.{expr-shown}
 use Rattle.lines.specs.Parts.{part-end, piece, next-end, follows}
 use Rattle.edges.specs.declared.Named as N
 use Rattle.edges.specs.declared.Named.the-variants as named
+use Rattle.edges.specs.declared.FieldOf as F
 use Rattle.edges.specs.declared.FieldOf.the-variants as of
 use Rattle.edges.specs.Reads.{KindsOf}
 use Rattle.edges.specs.Shows.{ShowsExpr, begins, name-of, indexed-name, inst-by, NamedBy, IndexedBy, FieldOfIs}
+use Rattle.edges.specs.Total.{index-by, inner-by, field-by}
 use Rattle.runs.proofs.Inside.{placed}
 use Rattle.edges.proofs.ExprLaws.{number-first, begins-parts, name-is}
 
@@ -185,3 +187,27 @@ module _ (x : Bytes) (kinds : List ℕ) (v : N.Named) (is : v ≡ name-of x) whe
 
     pub of-other : v ≡ named.Not → u ≡ named.Not → FieldOfIs of.Other x kinds
     of-other e f y d s header w = no-inst-of y (named-as x v named.Not is e d y s) (indexed-as named.Not f d y s) header
+
+-- what the bytes x say of an `f` of the expression that they show
+pub field-is : (x : Bytes) (kinds : List ℕ) → FieldOfIs (field-by kinds x) x kinds
+unfolding field-by
+field-is x kinds = go (name-of x) refl
+  where
+    inst : (i : ℕ) → name-of x ≡ named.Is i → (b : Bool) → inst-by kinds i ≡ b → FieldOfIs (elim b as (λ _. F.FieldOf) [ true ↦ of.Inst i | false ↦ of.Other ]) x kinds
+    inst i e true f = of-inst x kinds (name-of x) refl e (inst-by kinds i) refl f
+    inst i e false f = of-signal x kinds (name-of x) refl e (inst-by kinds i) refl f
+
+    inst-at : (i : ℕ) → indexed-name x ≡ named.Is i → (b : Bool) → inst-by kinds i ≡ b → FieldOfIs (elim b as (λ _. F.FieldOf) [ true ↦ of.InstAt i | false ↦ of.Other ]) x kinds
+    inst-at i e true f = of-inst-at x kinds (name-of x) refl (indexed-name x) refl e (inst-by kinds i) refl f
+    inst-at i e false f = of-signal-at x kinds (name-of x) refl (indexed-name x) refl e (inst-by kinds i) refl f
+
+    indexed : name-of x ≡ named.Not → (u : N.Named) → indexed-name x ≡ u → FieldOfIs (index-by kinds u) x kinds
+    indexed n (named.Is i) e = inst-at i e (inst-by kinds i) refl
+    indexed n named.Not e = of-other x kinds (name-of x) refl (indexed-name x) refl n e
+
+    go : (v : N.Named) → name-of x ≡ v → FieldOfIs (inner-by kinds v (indexed-name x)) x kinds
+    go (named.Is i) e = inst i e (inst-by kinds i) refl
+    go named.Not e = indexed e (indexed-name x) refl
+
+pub field-says : (x : Bytes) (kinds : List ℕ) {v : F.FieldOf} → v ≡ field-by kinds x → FieldOfIs v x kinds
+field-says x kinds e = subst (λ z. FieldOfIs z x kinds) (sym e) (field-is x kinds)

@@ -2,7 +2,7 @@
 -- Assumes nothing.
 use mathlib.Core.Path.{_≡_, refl, sym, _∙_, ap}
 use mathlib.Core.Bool.{Bool, true, false}
-use mathlib.Core.List.{List}
+use mathlib.Core.List.{List, []}
 use mathlib.Core.Option.{some}
 use Prim.Native.Nat.{ℕ, zero, suc, _-_, _≤_, _<_}
 use native.Mathlib.Omega.{arith}
@@ -11,7 +11,7 @@ use lib.Dec.{ltb}
 use lib.IntN.{ℤ, negsuc}
 use borrow.Author.Tests.{ltb-true}
 use Rattle.spec.specs.Value.{Value}
-use Rattle.spec.specs.Edge.{Node, inst-out, Head, is-inst, indexed-reads}
+use Rattle.spec.specs.Edge.{Node, inst-out, no-reads, Head, is-inst, indexed-reads}
 use Rattle.graph.specs.Table.{unbiased}
 use Rattle.graph.specs.Stands.{Heading, Read}
 use Rattle.graph.specs.declared.Added as A
@@ -56,6 +56,20 @@ module _ (kinds : List ℕ) (i : ℕ) {k : ℕ} (q : k ≡ getD kinds i 0) where
   pub inst-here : 6 ≤ k → true ≡ inst-by kinds i
   inst-here l = sym (large-kind k l) ∙ ap (λ (z : ℕ). is-inst (kind-word z)) q
 
+-- what an index reads, by its value
+module _ (i p : ℕ) {v : Answer} {z : Value} (qv : worth v ≡ z) where
+  by-value : (u : Answer) → v ≡ u → indexed-reads i (worth u) p ≡ indexed-reads i z p
+  by-value u e = ap (λ (y : Value). indexed-reads i y p) (ap worth (sym e) ∙ qv)
+
+  pub reads-missing : v ≡ Missing → no-reads ≡ indexed-reads i z p
+  reads-missing e = by-value Missing e
+
+  pub reads-outside : v ≡ Outside → record { nodes = []; out = true } ≡ indexed-reads i z p
+  reads-outside e = by-value Outside e
+
+  pub reads-known : {x : ℕ} → v ≡ Known x → one-read (inst-out i (some (unbiased x)) p) ≡ indexed-reads i z p
+  reads-known {x} e = ap (λ (u : ℤ). one-read (inst-out i (some u) p)) (sym (same-word x)) ∙ by-value (Known x) e
+
 module _ (g : List ℕ) (from : ℕ) where
   module _ (m : Node) (a : A.Added) (g′ : List ℕ) (read : (hs : List Head) (n : Node) (start : ℕ) (rs : List Node) → Heading g hs n start rs from → Read a g′ hs n start rs from m) where
     pub output-at : {j : ℕ} → a ≡ added.At j → NodesRead true (one-read m) g g′ from
@@ -73,11 +87,8 @@ module _ (g : List ℕ) (from : ℕ) where
     index-outside g′ e = rw (sym qv ∙ ap worth e) (λ hs n start rs h. read-out hs n start from g′ rs)
 
     module _ {x : ℕ} (e : v ≡ Known x) (a : A.Added) (g′ : List ℕ) (read : (hs : List Head) (n : Node) (start : ℕ) (rs : List Node) → Heading g hs n start rs from → Read a g′ hs n start rs from (inst-out i (some (unbiased x)) p)) where
-      known-here : indexed-reads i z p ≡ one-read (inst-out i (some (unbiased x)) p)
-      known-here = ap (λ (u : Value). indexed-reads i u p) (sym qv ∙ ap worth e) ∙ ap (λ (u : ℤ). one-read (inst-out i (some u) p)) (same-word x)
-
       pub index-at : {j : ℕ} → a ≡ added.At j → NodesRead true (indexed-reads i z p) g g′ from
-      index-at f = rw known-here (output-at (inst-out i (some (unbiased x)) p) a g′ read f)
+      index-at f = rw (sym (reads-known i p qv e)) (output-at (inst-out i (some (unbiased x)) p) a g′ read f)
 
       pub index-full : a ≡ added.Full → NodesRead false (indexed-reads i z p) g g′ from
-      index-full f = rw known-here (output-full (inst-out i (some (unbiased x)) p) a g′ read f)
+      index-full f = rw (sym (reads-known i p qv e)) (output-full (inst-out i (some (unbiased x)) p) a g′ read f)

@@ -6,3 +6,6 @@ pub mod PartLaws
 pub mod LineLaws
 pub mod PairLaws
 pub mod OutputLaws
+pub mod TotalLaws
+pub mod ShownLaws
+pub mod LeaveLaws

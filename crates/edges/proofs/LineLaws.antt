@@ -47,12 +47,12 @@ as-full v e g hs {m} {n} {s} {t} p q h =
 module _ (x : Bytes) (d : ℕ) {a : ℕ} (fa : EndsAt x 5 a) {b : ℕ} (fb : EndsAt x a b) {m : ℕ} (qm : m ≡ number-at x 5 a)
     {c : ℕ} (fc : EndsAt x b c) {t : ℕ} (qt : t ≡ number-at x b c) (kinds : List ℕ) (names : Names) (g : List ℕ) where
   -- what the code found is what the line shows
-  record WireParts (n : ℕ) (e : Expr) (start : ℕ) : Type 0 where
-    name : signal m ≡ signal n
-    place : t ≡ start
-    here : ShowsExpr (piece x a b) (d - 1) e
+  pub record WireParts (n : ℕ) (e : Expr) (start : ℕ) : Type 0 where
+    pub name : signal m ≡ signal n
+    pub place : t ≡ start
+    pub here : ShowsExpr (piece x a b) (d - 1) e
 
-  wire-parts : (n : ℕ) (e : Expr) (start : ℕ) → ShowsItem x d (wire n e start) → WireParts n e start
+  pub wire-parts : (n : ℕ) (e : Expr) (start : ℕ) → ShowsItem x d (wire n e start) → WireParts n e start
   unfolding show-item show-form show-rest item-depth item-in-range
   wire-parts n e start s =
       let q : drop 5 x ≡ 32 ∷ show-number n ++ show-rest (show-expr e ∷ show-number start ∷ []) = ap (drop 5) (s .shown) in
@@ -79,7 +79,7 @@ module _ (x : Bytes) (d : ℕ) {a : ℕ} (fa : EndsAt x 5 a) {b : ℕ} (fb : End
         head-full hs (signal n) start (expr-reads y header names) g₁ (as-full v e g₁ hs (p .name) (p .place) (headed hs k))
 
     -- the expression is read
-    pub wire-reads : {i : ℕ} → v ≡ added.At i → {u : Bytes} → u ≡ piece x a b → {l : ℕ} → l ≡ d - 1 → (r : Bool) (g′ : List ℕ)
+    pub wire-reads : {i : ℕ} → v ≡ added.At i → {u : Bytes} → u ≡ piece x a b → {l : ℕ} → d - 1 ≤ l → (r : Bool) (g′ : List ℕ)
         → ExprRead r u l kinds names g₁ g′ i → WireHeads r x d kinds names g g′
     unfolding line-heads
     wire-reads {i} e {u} qu {l} ql r g′ f n y start s header w hs k =
@@ -91,12 +91,12 @@ module _ (x : Bytes) (d : ℕ) {a : ℕ} (fa : EndsAt x 5 a) {b : ℕ} (fb : End
 -- ---- `drive_heads`
 
 -- the indexes of an LV as expressions
-index-exprs : Index → Exprs
+pub index-exprs : Index → Exprs
 index-exprs whole = Exprs.none
 index-exprs (at-bit e) = Exprs.more e Exprs.none
 index-exprs (high-low h l) = Exprs.more h (Exprs.more l Exprs.none)
 
-index-shows : (i : Index) (s : Bytes) (d : ℕ) → s ≡ show-rest (show-index i) → index-depth i ≤ d → index-in-range i ≡ true → ShowsExprs s d (index-exprs i)
+pub index-shows : (i : Index) (s : Bytes) (d : ℕ) → s ≡ show-rest (show-index i) → index-depth i ≤ d → index-in-range i ≡ true → ShowsExprs s d (index-exprs i)
 unfolding index-exprs show-index show-expr index-depth exprs-depth index-in-range exprs-in-range
 index-shows whole s d e l r = record { shown = e; deep = omega arith; ranged = refl }
 index-shows (at-bit y) s d e l r = record { shown = e; deep = omega arith; ranged = both-true r refl }
@@ -104,7 +104,7 @@ index-shows (high-low y z) s d e l r =
     let p = and-parts (expr-in-range y) (expr-in-range z) r in
     record { shown = e; deep = omega arith; ranged = both-true (p .0) (both-true (p .1) refl) }
 
-indexes-read : (i : Index) (header : List Header) (names : Names) → exprs-reads (index-exprs i) header names ≡ index-reads header names i
+pub indexes-read : (i : Index) (header : List Header) (names : Names) → exprs-reads (index-exprs i) header names ≡ index-reads header names i
 unfolding index-exprs index-reads expr-reads
 indexes-read whole header names = refl
 indexes-read (at-bit e) header names = and-none (expr-reads e header names)
@@ -135,17 +135,17 @@ drives-high (suc (suc (suc (suc (suc (suc k)))))) lv q l = refl
 module _ (x : Bytes) (d : ℕ) {a : ℕ} (fa : EndsAt x 6 a) {u : Bytes} (qu : u ≡ piece x 6 a) {b : ℕ} (fb : EndsAt u 3 b) {m : ℕ} (qm : m ≡ number-at u 3 b)
     (kinds : List ℕ) {k : ℕ} (qk : k ≡ getD kinds m 0) (names : Names) (g : List ℕ) where
   -- what the code found is what the line shows
-  record DriveParts (lv : LValue) (e : Expr) : Type 0 where
-    name : m ≡ lv .name
-    start-at : drop b u ≡ show-rest (show-number (lv .start) ∷ show-index (lv .index))
-    expr-at : drop a x ≡ show-rest (show-expr e ∷ [])
-    start-small : lv .start < 2147483648
-    ranged : expr-in-range e ≡ true
-    index-ranged : index-in-range (lv .index) ≡ true
-    deep : expr-depth e ≤ d - 1
-    index-deep : index-depth (lv .index) ≤ d - 2
+  pub record DriveParts (lv : LValue) (e : Expr) : Type 0 where
+    pub name : m ≡ lv .name
+    pub start-at : drop b u ≡ show-rest (show-number (lv .start) ∷ show-index (lv .index))
+    pub expr-at : drop a x ≡ show-rest (show-expr e ∷ [])
+    pub start-small : lv .start < 2147483648
+    pub ranged : expr-in-range e ≡ true
+    pub index-ranged : index-in-range (lv .index) ≡ true
+    pub deep : expr-depth e ≤ d - 1
+    pub index-deep : index-depth (lv .index) ≤ d - 2
 
-  drive-parts : (lv : LValue) (e : Expr) → ShowsItem x d (drive lv e) → DriveParts lv e
+  pub drive-parts : (lv : LValue) (e : Expr) → ShowsItem x d (drive lv e) → DriveParts lv e
   unfolding show-item show-lvalue show-form show-rest item-depth item-in-range
   drive-parts lv e s =
       let q : drop 6 x ≡ 32 ∷ show-lvalue lv ++ show-rest (show-expr e ∷ []) = ap (drop 6) (s .shown) in

@@ -50,13 +50,13 @@ module _ (x : Bytes) (d : ℕ) (i : Inst) (s : ShowsItem x d (inst i)) {a : ℕ}
   place-at = ended-next x a (show-number (i .«module») ∷ show-number (i .start) ∷ show-conns (i .conns)) (place-shown (i .place) .part) (name-at .follows) fb
 
   -- its numbers are in range
-  record Ranged : Type 0 where
-    name-small : i .name < 256
-    module-small : i .«module» < 256
-    start-small : i .start < 2147483648
-    conns-ranged : conns-in-range (i .conns) ≡ true
+  pub record Ranged : Type 0 where
+    pub name-small : i .name < 256
+    pub module-small : i .«module» < 256
+    pub start-small : i .start < 2147483648
+    pub conns-ranged : conns-in-range (i .conns) ≡ true
 
-  ranged : Ranged
+  pub ranged : Ranged
   unfolding item-in-range inst-in-range
   ranged =
       let p = and-parts (ltb (i .name) 256 && place-in-range (i .place) && ltb (i .«module») 256 && ltb (i .start) 2147483648) (conns-in-range (i .conns)) (s .ranged) in
@@ -74,7 +74,7 @@ module _ (x : Bytes) (d : ℕ) (i : Inst) (s : ShowsItem x d (inst i)) {a : ℕ}
     module-at : Ended x b c (show-number (i .«module»)) (show-number (i .start) ∷ show-conns (i .conns))
     module-at = ended-next x b (show-number (i .start) ∷ show-conns (i .conns)) (number-part (i .«module»)) (place-at .follows) fc
 
-    start-at : {e : ℕ} → EndsAt x c e → Ended x c e (show-number (i .start)) (show-conns (i .conns))
+    pub start-at : {e : ℕ} → EndsAt x c e → Ended x c e (show-number (i .start)) (show-conns (i .conns))
     start-at fe = ended-next x c (show-conns (i .conns)) (number-part (i .start)) (module-at .follows) fe
 
 -- ---- `inst_index` and `inst_module`
@@ -146,12 +146,12 @@ module-is x d i s =
 module _ (o : ℕ) (s : Summary) (t : Bytes) (d : ℕ) (kinds : List ℕ) (names : Names) (g : List ℕ) (from : ℕ)
     {a : ℕ} (fa : EndsAt t 5 a) {m : ℕ} (qm : m ≡ number-at t 5 a) {v : Bool} (qv : v ≡ reaches o m s) where
   -- the parts of a connection
-  record ConnParts (y : Conn) : Type 0 where
-    port-here : m ≡ y .port
-    behind : drop a t ≡ show-rest (show-expr (y .signal) ∷ [])
-    signal-ranged : expr-in-range (y .signal) ≡ true
+  pub record ConnParts (y : Conn) : Type 0 where
+    pub port-here : m ≡ y .port
+    pub behind : drop a t ≡ show-rest (show-expr (y .signal) ∷ [])
+    pub signal-ranged : expr-in-range (y .signal) ≡ true
 
-  conn-parts : (y : Conn) → ShowsConn t d y → ConnParts y
+  pub conn-parts : (y : Conn) → ShowsConn t d y → ConnParts y
   unfolding show-form show-rest conns-in-range
   conn-parts y h =
       let q : drop 5 t ≡ 32 ∷ show-number (y .port) ++ show-rest (show-expr (y .signal) ∷ []) = ap (drop 5) (h .shown) in
@@ -164,7 +164,7 @@ module _ (o : ℕ) (s : Summary) (t : Bytes) (d : ℕ) (kinds : List ℕ) (names
   reached : (y : Conn) → ShowsConn t d y → reaches o (y .port) s ≡ v
   reached y h = ap (λ (z : ℕ). reaches o z s) (sym (conn-parts y h .port-here)) ∙ sym qv
 
-  by-reach : (y : Conn) → ShowsConn t d y → (header : List Header)
+  pub by-reach : (y : Conn) → ShowsConn t d y → (header : List Header)
       → conn-reads header names s o (y ∷ []) ≡ elim v as (λ _. Reads) [ true ↦ and-reads (expr-reads (y .signal) header names) no-reads | false ↦ no-reads ]
   unfolding conn-reads
   by-reach y h header = ap (λ (b : Bool). elim b as (λ _. Reads) [ true ↦ and-reads (expr-reads (y .signal) header names) no-reads | false ↦ no-reads ]) (reached y h)
@@ -189,7 +189,7 @@ module _ (o : ℕ) (s : Summary) (t : Bytes) (d : ℕ) (kinds : List ℕ) (names
 -- ---- `conns_read`
 
 -- the first connection, then the others
-conns-split : (header : List Header) (names : Names) (s : Summary) (o : ℕ) (y : Conn) (cs : List Conn)
+pub conns-split : (header : List Header) (names : Names) (s : Summary) (o : ℕ) (y : Conn) (cs : List Conn)
     → and-reads (conn-reads header names s o (y ∷ [])) (conn-reads header names s o cs) ≡ conn-reads header names s o (y ∷ cs)
 unfolding conn-reads
 conns-split header names s o y cs = go (reaches o (y .port) s)
@@ -205,7 +205,7 @@ conns-split header names s o y cs = go (reaches o (y .port) s)
     go false = refl
 
 module _ (o : ℕ) (s : Summary) (x : Bytes) (a d : ℕ) (kinds : List ℕ) (names : Names) (from : ℕ) where
-  conn-first : (y : Conn) (cs : List Conn) → ShowsConns (drop a x) d (y ∷ cs) → {b : ℕ} → b ≡ part-end x (a + 1) → {t : Bytes} → t ≡ piece x a b
+  pub conn-first : (y : Conn) (cs : List Conn) → ShowsConns (drop a x) d (y ∷ cs) → {b : ℕ} → b ≡ part-end x (a + 1) → {t : Bytes} → t ≡ piece x a b
       → ShowsConn t d y × ShowsConns (drop b x) d cs
   unfolding show-conns conns-in-range conns-depth
   conn-first y cs h qb qt =

@@ -91,11 +91,11 @@ follows-byte s a c e = ap (λ (z : ℕ). eqb z 32) (sym (getD-drop-here s a) ∙
 
 module _ (e : Bytes) (d : ℕ) (kinds : List ℕ) (names : Names) (g : List ℕ) (from : ℕ) {a : ℕ} (fa : EndsAt e 2 a) {u : Bytes} (qu : u ≡ piece e 2 a) where
   -- what the `f` is of, and its output
-  record Field (y : Expr) (m p : ℕ) : Type 0 where
-    inner : ShowsExpr u d y
-    out : p ≡ m
+  pub record Field (y : Expr) (m p : ℕ) : Type 0 where
+    pub inner : ShowsExpr u d y
+    pub out : p ≡ m
 
-  field-parts : {b : ℕ} → EndsAt e a b → {p : ℕ} → p ≡ number-at e a b → (y : Expr) (m : ℕ) → ShowsExpr e (suc d) (field y m) → Field y m p
+  pub field-parts : {b : ℕ} → EndsAt e a b → {p : ℕ} → p ≡ number-at e a b → (y : Expr) (m : ℕ) → ShowsExpr e (suc d) (field y m) → Field y m p
   unfolding show-expr show-form show-rest expr-depth expr-in-range
   field-parts {b} fb {p} qp y m s =
       let q : drop 2 e ≡ 32 ∷ show-expr y ++ show-rest (show-number m ∷ []) = ap (drop 2) (s .shown) in
@@ -140,7 +140,7 @@ module _ (e : Bytes) (d : ℕ) (kinds : List ℕ) (names : Names) (g : List ℕ)
 -- ---- `expr_reads`
 
 -- the parts that are read are less deep, and in range
-children-deep : (x : Expr) (d : ℕ) → 0 < d → expr-depth x ≤ d → exprs-depth (children x) ≤ d - 1
+pub children-deep : (x : Expr) (d : ℕ) → 0 < d → expr-depth x ≤ d → exprs-depth (children x) ≤ d - 1
 unfolding children expr-depth
 children-deep (lit n) d l h = omega arith
 children-deep (truth b) d l h = omega arith
@@ -155,7 +155,7 @@ children-deep (all es) d l h = omega arith
 pub both-true : {a b : Bool} → a ≡ true → b ≡ true → a && b ≡ true
 both-true p q = rw p q
 
-children-ranged : (x : Expr) → expr-in-range x ≡ true → exprs-in-range (children x) ≡ true
+pub children-ranged : (x : Expr) → expr-in-range x ≡ true → exprs-in-range (children x) ≡ true
 unfolding children expr-in-range
 children-ranged (lit n) h = refl
 children-ranged (truth b) h = refl
@@ -248,7 +248,7 @@ module _ (e : Bytes) (d : ℕ) (kinds : List ℕ) (names : Names) (g : List ℕ)
 
 module _ (s : Bytes) (a d : ℕ) (kinds : List ℕ) (names : Names) (from : ℕ) where
   -- the parts are those of es, of which the first begins here
-  part-first : (y : Expr) (es : Exprs) → ShowsExprs (drop a s) d (Exprs.more y es) → {b : ℕ} → b ≡ part-end s (a + 1) → {t : Bytes} → t ≡ piece s a b
+  pub part-first : (y : Expr) (es : Exprs) → ShowsExprs (drop a s) d (Exprs.more y es) → {b : ℕ} → b ≡ part-end s (a + 1) → {t : Bytes} → t ≡ piece s a b
       → ShowsExpr t d y × ShowsExprs (drop b s) d es
   unfolding show-expr exprs-in-range exprs-depth
   part-first y es h qb qt =

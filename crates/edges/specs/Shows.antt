@@ -1,7 +1,7 @@
 -- Expressions as the code reads them: by the first bytes of a form, and then part by part. 01: The line; The edge; Refused because of the
 -- state.
--- To a reader: definitions that the contracts of this crate cite; each such contract is proved; NamedBy and IndexedBy are statements, proved in
--- proofs/ExprLaws (name-is) and proofs/FieldLaws (indexed-is); check_drivers' own promise cites none of them.
+-- To a reader: definitions that the contracts of this crate cite; each such contract is proved; NamedBy, IndexedBy and FieldOfIs are
+-- statements, proved in proofs/ExprLaws (name-is) and proofs/FieldLaws (indexed-is, field-is); check_drivers' own promise cites none of them.
 use mathlib.Core.Path.{_≡_}
 use mathlib.Core.Bool.{Bool, true, false, _&&_}
 use mathlib.Core.List.{List, [], _∷_}
@@ -45,9 +45,13 @@ NameRead r m kinds g g′ from = (header : List Header) → KindsOf kinds header
 abbrev pub one-read : Node → Reads
 one-read n = record { nodes = n ∷ []; out = false }
 
+-- 01, The line: whether the bytes x begin with a bracket and then a
+abbrev pub opens : Bytes → ℕ → Bool
+opens x a = eqb (getD x 0 0) 40 && eqb (getD x 1 0) a
+
 -- 01, The line: whether the bytes x begin with a bracket and then a and b
 unfoldable pub begins : Bytes → ℕ → ℕ → Bool
-begins x a b = eqb (getD x 0 0) 40 && (eqb (getD x 1 0) a && eqb (getD x 2 0) b)
+begins x a b = opens x a && eqb (getD x 2 0) b
 
 -- 01, The edge: a number as a name, none where it is no word of 32 bits
 abbrev pub as-name : ℕ → N.Named

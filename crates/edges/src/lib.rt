@@ -4,6 +4,7 @@ use graph::Added;
 use graph::Node;
 use lines::bytes::is_minus;
 use lines::bytes::is_open;
+use lines::bytes::is_space;
 use lines::numbers;
 use lines::parts;
 ghost use mathlib.Core.Path.{_≡_};
@@ -14,17 +15,19 @@ ghost use mathlib.Core.Bool.{_&&_};
 ghost use mathlib.Core.Option.{none};
 ghost use Rattle.spec.specs.Decode.{decode-expr};
 ghost use Rattle.spec.specs.Value.{value};
-ghost use Rattle.spec.specs.Edge.{inst-out, indexed-reads, reaches, index-of, has-output};
+ghost use Rattle.spec.specs.Edge.{inst-out, name-reads, indexed-reads, reaches, index-of, has-output};
 ghost use Rattle.graph.specs.Table.{node-of};
-ghost use Rattle.spec.specs.Cleared.{ClearedUnless};
 ghost use Rattle.consteval.specs.Worth.{names-of, worth};
-ghost use Rattle.edges.specs.Shows.{begins, name-of, indexed-name, inst-by, NameRead, FieldOfIs, NodesRead, FieldRead, ExprRead, PartsRead, one-read};
+ghost use Rattle.edges.specs.Reads.{kind-word};
+ghost use Rattle.edges.specs.Shows.{opens, name-of, indexed-name, inst-by, NameRead, NodesRead, FieldRead, ExprRead, PartsRead, one-read};
 ghost use Rattle.edges.specs.Lines.{WireHeads, DriveHeads, summary-at, end-behind, number-at, inst-index, inst-module, ConnRead, ConnsRead, OutputHead, InstHeads};
+ghost use Rattle.edges.specs.Total.{field-by, field-read, expr-read, parts-read, conn-read, conns-read, inst-reads};
+ghost use Rattle.edges.specs.Leaves.{ReadsOrCleared, WireLeaves, DriveLeaves, OutputLeaves, InstLeaves};
 
 // The node `from`, which the last line headed, reads the name n, by its kind: false where a limit is passed, and then the graph is cleared.
 fn name_read(kinds: &[u8], n: u32, g: &mut [u32], from: u32) -> bool
     ensures { λ r. ⌜ NameRead r n (now (kinds .entry)) (now (g .entry)) (now (g .exit)) from ⌝ }
-    ensures { λ r. ⌜ ClearedUnless r (now (g .exit)) ⌝ }
+    ensures { λ r. ⌜ ReadsOrCleared r (name-reads (kind-word (getD (now (kinds .entry)) n 0)) n) from (now (g .entry)) (now (g .exit)) ⌝ }
 {
     let k = parts::byte(kinds, n as usize);
     if k == 0 {
@@ -45,24 +48,24 @@ enum Named {
     Not,
 }
 
-// Does x begin with a bracket and then a and b?
-fn begins(x: &[u8], a: u8, b: u8) -> bool
-    ensures { λ r. ⌜ r ≡ begins (now (x .entry)) a b ⌝ }
+// Does x begin with a bracket and then the letter a?
+fn opens(x: &[u8], a: u8) -> bool
+    ensures { λ r. ⌜ r ≡ opens (now (x .entry)) a ⌝ }
 {
     if !is_open(parts::byte(x, 0)) {
         return false;
     }
-    if parts::byte(x, 1) != a {
-        return false;
-    }
-    parts::byte(x, 2) == b
+    parts::byte(x, 1) == a
 }
 
 // Is the expression x a name? By the first bytes of a form.
 fn name_of(x: &[u8]) -> Named
     ensures { λ r. ⌜ r ≡ name-of (now (x .entry)) ⌝ }
 {
-    if !begins(x, b'n', b' ') {
+    if !opens(x, b'n') {
+        return Named::Not;
+    }
+    if !is_space(parts::byte(x, 2)) {
         return Named::Not;
     }
     let a = parts::part_end(x, 3);
@@ -77,7 +80,10 @@ fn name_of(x: &[u8]) -> Named
 fn indexed_name(x: &[u8]) -> Named
     ensures { λ r. ⌜ r ≡ indexed-name (now (x .entry)) ⌝ }
 {
-    if !begins(x, b'i', b'x') {
+    if !opens(x, b'i') {
+        return Named::Not;
+    }
+    if parts::byte(x, 2) != b'x' {
         return Named::Not;
     }
     let a = parts::part_end(x, 4);
@@ -103,7 +109,7 @@ enum FieldOf {
 
 // What an `f` of the expression x is of.
 fn field_of(x: &[u8], kinds: &[u8]) -> FieldOf
-    ensures { λ r. ⌜ FieldOfIs r (now (x .entry)) (now (kinds .entry)) ⌝ }
+    ensures { λ r. ⌜ r ≡ field-by (now (kinds .entry)) (now (x .entry)) ⌝ }
 {
     match name_of(x) {
         Named::Is(i) => {
@@ -127,7 +133,7 @@ fn field_of(x: &[u8], kinds: &[u8]) -> FieldOf
 // The node `from` reads the output p of the instance i. At a limit the graph is cleared.
 fn output_read(i: u32, p: u32, g: &mut [u32], from: u32) -> bool
     ensures { λ r. ⌜ NodesRead r (one-read (inst-out i none p)) (now (g .entry)) (now (g .exit)) from ⌝ }
-    ensures { λ r. ⌜ ClearedUnless r (now (g .exit)) ⌝ }
+    ensures { λ r. ⌜ ReadsOrCleared r (one-read (inst-out i none p)) from (now (g .entry)) (now (g .exit)) ⌝ }
 {
     match graph::read(g, from, Node::Output(i, p)) {
         Added::At(_) => true,
@@ -148,7 +154,7 @@ fn index_read(
 ) -> bool
     ensures { λ r. ⌜ NodesRead r (indexed-reads i (value (names-of (now (names .entry)) used) (decode-expr depth (now (e .entry)))) p)
         (now (g .entry)) (now (g .exit)) from ⌝ }
-    ensures { λ r. ⌜ ClearedUnless r (now (g .exit)) ⌝ }
+    ensures { λ r. ⌜ ReadsOrCleared r (indexed-reads i (value (names-of (now (names .entry)) used) (decode-expr depth (now (e .entry)))) p) from (now (g .entry)) (now (g .exit)) ⌝ }
 {
     match consteval::eval(e, depth, names, used) {
         Value::Known(v) => match graph::read(g, from, Node::OutputAt(i, v, p)) {
@@ -203,7 +209,7 @@ fn field_reads(
     from: u32,
 ) -> bool
     ensures { λ r. ⌜ FieldRead r (now (e .entry)) depth (now (kinds .entry)) (names-of (now (names .entry)) used) (now (g .entry)) (now (g .exit)) from ⌝ }
-    ensures { λ r. ⌜ ClearedUnless r (now (g .exit)) ⌝ }
+    ensures { λ r. ⌜ ReadsOrCleared r (field-read (expr-read (now (kinds .entry)) (names-of (now (names .entry)) used) depth) (now (kinds .entry)) (names-of (now (names .entry)) used) depth (now (e .entry))) from (now (g .entry)) (now (g .exit)) ⌝ }
 {
     let a = next_end(e, 2);
     let x = parts::between(e, 2, a);
@@ -231,7 +237,7 @@ fn expr_reads(
     from: u32,
 ) -> bool
     ensures { λ r. ⌜ ExprRead r (now (e .entry)) depth (now (kinds .entry)) (names-of (now (names .entry)) used) (now (g .entry)) (now (g .exit)) from ⌝ }
-    ensures { λ r. ⌜ ClearedUnless r (now (g .exit)) ⌝ }
+    ensures { λ r. ⌜ ReadsOrCleared r (expr-read (now (kinds .entry)) (names-of (now (names .entry)) used) depth (now (e .entry))) from (now (g .entry)) (now (g .exit)) ⌝ }
 {
     if !is_open(parts::byte(e, 0)) {
         return true;
@@ -263,7 +269,7 @@ fn parts_read(
     from: u32,
 ) -> bool
     ensures { λ r. ⌜ PartsRead r (drop end (now (e .entry))) depth (now (kinds .entry)) (names-of (now (names .entry)) used) (now (g .entry)) (now (g .exit)) from ⌝ }
-    ensures { λ r. ⌜ ClearedUnless r (now (g .exit)) ⌝ }
+    ensures { λ r. ⌜ ReadsOrCleared r (parts-read (now (kinds .entry)) (names-of (now (names .entry)) used) depth (now (e .entry)) end) from (now (g .entry)) (now (g .exit)) ⌝ }
 {
     let mut a = end;
     while parts::more(e, a) {
@@ -286,8 +292,8 @@ pub fn wire_heads(
     used: usize,
     g: &mut [u32],
 ) -> bool
+    ensures { λ r. ⌜ WireLeaves r (now (x .entry)) depth (now (kinds .entry)) (names-of (now (names .entry)) used) (now (g .entry)) (now (g .exit)) ⌝ }
     ensures { λ r. ⌜ WireHeads r (now (x .entry)) depth (now (kinds .entry)) (names-of (now (names .entry)) used) (now (g .entry)) (now (g .exit)) ⌝ }
-    ensures { λ r. ⌜ ClearedUnless r (now (g .exit)) ⌝ }
     ensures { λ _. ⌜ length (now (g .exit)) ≡ length (now (g .entry)) ⌝ }
 {
     let a = next_end(x, 5);
@@ -320,8 +326,8 @@ pub fn drive_heads(
     used: usize,
     g: &mut [u32],
 ) -> bool
+    ensures { λ r. ⌜ DriveLeaves r (now (x .entry)) depth (now (kinds .entry)) (names-of (now (names .entry)) used) (now (g .entry)) (now (g .exit)) ⌝ }
     ensures { λ r. ⌜ DriveHeads r (now (x .entry)) depth (now (kinds .entry)) (names-of (now (names .entry)) used) (now (g .entry)) (now (g .exit)) ⌝ }
-    ensures { λ r. ⌜ ClearedUnless r (now (g .exit)) ⌝ }
     ensures { λ _. ⌜ length (now (g .exit)) ≡ length (now (g .entry)) ⌝ }
 {
     let a = next_end(x, 6);
@@ -451,7 +457,7 @@ fn conn_read(
     from: u32,
 ) -> bool
     ensures { λ r. ⌜ ConnRead r o (summary-at (now (w .entry)) first count) (now (c .entry)) depth (now (kinds .entry)) (names-of (now (names .entry)) used) (now (g .entry)) (now (g .exit)) from ⌝ }
-    ensures { λ r. ⌜ ClearedUnless r (now (g .exit)) ⌝ }
+    ensures { λ r. ⌜ ReadsOrCleared r (conn-read (now (kinds .entry)) (names-of (now (names .entry)) used) (summary-at (now (w .entry)) first count) o depth (now (c .entry))) from (now (g .entry)) (now (g .exit)) ⌝ }
 {
     let a = next_end(c, 5);
     if !reaches(w, first, count, o, number_at(c, 5, a)) {
@@ -484,7 +490,7 @@ fn conns_read(
     from: u32,
 ) -> bool
     ensures { λ r. ⌜ ConnsRead r o (summary-at (now (w .entry)) first count) (drop end (now (x .entry))) depth (now (kinds .entry)) (names-of (now (names .entry)) used) (now (g .entry)) (now (g .exit)) from ⌝ }
-    ensures { λ r. ⌜ ClearedUnless r (now (g .exit)) ⌝ }
+    ensures { λ r. ⌜ ReadsOrCleared r (conns-read (now (kinds .entry)) (names-of (now (names .entry)) used) (summary-at (now (w .entry)) first count) o depth (now (x .entry)) end) from (now (g .entry)) (now (g .exit)) ⌝ }
 {
     let mut a = end;
     while parts::more(x, a) {
@@ -524,7 +530,7 @@ fn output_head(
     g: &mut [u32],
 ) -> bool
     ensures { λ r. ⌜ OutputHead r o (worth index) (summary-at (now (w .entry)) first count) (now (x .entry)) depth (now (kinds .entry)) (names-of (now (names .entry)) used) (now (g .entry)) (now (g .exit)) ⌝ }
-    ensures { λ r. ⌜ ClearedUnless r (now (g .exit)) ⌝ }
+    ensures { λ r. ⌜ OutputLeaves r (inst-reads (now (kinds .entry)) (names-of (now (names .entry)) used) (summary-at (now (w .entry)) first count) depth (now (x .entry)) o) o (worth index) (now (x .entry)) (now (g .entry)) (now (g .exit)) ⌝ }
 {
     let a = next_end(x, 5);
     let c = next_end(x, next_end(x, a));
@@ -563,8 +569,8 @@ pub fn inst_heads(
     used: usize,
     g: &mut [u32],
 ) -> bool
+    ensures { λ r. ⌜ InstLeaves r (worth index) (summary-at (now (w .entry)) first count) (now (x .entry)) depth (now (kinds .entry)) (names-of (now (names .entry)) used) (now (g .entry)) (now (g .exit)) ⌝ }
     ensures { λ r. ⌜ InstHeads r (worth index) (summary-at (now (w .entry)) first count) (now (x .entry)) depth (now (kinds .entry)) (names-of (now (names .entry)) used) (now (g .entry)) (now (g .exit)) ⌝ }
-    ensures { λ r. ⌜ ClearedUnless r (now (g .exit)) ⌝ }
     ensures { λ _. ⌜ length (now (g .exit)) ≡ length (now (g .entry)) ⌝ }
 {
     let mut p = first;

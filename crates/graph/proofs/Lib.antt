@@ -16,4 +16,3 @@ pub mod Steps
 pub mod Falling
 pub mod Reports
 pub mod Resetting
-pub mod Cleared

@@ -90,9 +90,10 @@ pub record ReachLeaves (g w w′ : List ℕ) (r : ℕ) : Type 0 where
   pub before : Keeps (below 2) w w′
   pub behind : (hs : List Head) → Stands g hs → Clean w → (j : ℕ) → 1538 ≤ j → getD w′ j 0 ≡ getD w j 0
 
--- 01, The walk: the work slice is prepared: the nodes in order, no node seen, an empty path, no root taken, all steps left
+-- 01, The walk: the work slice is prepared: the nodes in order, where it has a word for each; no node seen, an empty path, no root taken, all steps
+-- left. In a shorter slice the words from 1538 on are left free
 pub record Prepared (g w w′ : List ℕ) : Type 0 where
-  pub order : Roomy w → words-below w′ 1538 (count g) ≡ in-order g (count g)
+  pub order : 1538 + count g ≤ length w → words-below w′ 1538 (count g) ≡ in-order g (count g)
   pub unused : (j : ℕ) → 1538 + count g ≤ j → j < 2050 → getD w′ j 0 ≡ getD w j 0
   pub unseen : (t : ℕ) → t < 512 → getD w′ (2050 + t) 0 ≡ 0
   pub depth : getD w′ 3586 0 ≡ 0
@@ -101,7 +102,7 @@ pub record Prepared (g w w′ : List ℕ) : Type 0 where
 
 -- 01, The walk; Worthless checks: what preparing the work slice leaves, whatever the slices hold: the words of `reach`, the cursors and the
 -- path as they were. All words stay where there are more than 512 nodes or 4,096 edges. The edges in order, from 3590 on, are left free where g
--- stands for no graph; else Awaits says what they are, and every word behind the 29,190 stays
+-- stands for no graph or the slice has fewer than 29,190 words; else Awaits says what they are, and every word behind the 29,190 stays
 pub record BeginLeaves (g w w′ : List ℕ) : Type 0 where
   pub before : Keeps (below 1538) w w′
   pub path : (j : ℕ) → 2562 ≤ j → j < 3586 → getD w′ j 0 ≡ getD w j 0

@@ -1,4 +1,5 @@
--- The heads for which a graph's slice stands. 01: The edge; The walk; Refused because of the state; Worthless checks.
+-- The heads for which a graph's slice stands. 01: The edge; The walk; Refused because of the state;
+-- Worthless checks; Forms for specific places.
 -- To a reader: definitions that contracts of this and other crates cite; each such contract is proved; check_drivers' own promise needs only graph-places.
 use mathlib.Core.Path.{_≡_}
 use mathlib.Core.Bool.{true, false}

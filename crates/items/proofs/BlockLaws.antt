@@ -310,12 +310,12 @@ module _ (x : Bytes) (block d : ℕ) (kinds : List ℕ) (own : List ℕ) where
     unfolding show-stmt show-form stmt-depth stmt-in-range
     loop-shows ss p = let k = p .deep in record { shown = ap (drop 5) (p .shown); deep = omega arith; ranged = p .ranged }
 
-    pub stmt-loop : getD x 1 0 ≡ 108 → StmtsAfter r x 5 block (d - 1) kinds own own′ → StmtAfter r x block d kinds own own′
+    pub stmt-loop : (getD x 1 0 ≡ 115 → ⊥) → (getD x 1 0 ≡ 100 → ⊥) → (getD x 1 0 ≡ 119 → ⊥) → StmtsAfter r x 5 block (d - 1) kinds own own′ → StmtAfter r x block d kinds own own′
     unfolding show-stmt show-form stmt-pairs stmt-misuses
-    stmt-loop b f (set n s) p = absurd (omega (arith, byte-of x d (set n s) p))
-    stmt-loop b f (default n) p = absurd (omega (arith, byte-of x d (default n) p))
-    stmt-loop b f (loop ss) p = f ss (loop-shows ss p)
-    stmt-loop b f (when ss ts) p = absurd (omega (arith, byte-of x d (when ss ts) p))
+    stmt-loop a b c f (set n s) p = absurd (a (byte-of x d (set n s) p))
+    stmt-loop a b c f (default n) p = absurd (b (byte-of x d (default n) p))
+    stmt-loop a b c f (loop ss) p = f ss (loop-shows ss p)
+    stmt-loop a b c f (when ss ts) p = absurd (c (byte-of x d (when ss ts) p))
 
   module _ (b₁ : getD x 1 0 ≡ 115 → ⊥) (b₂ : getD x 1 0 ≡ 100 → ⊥) (b₃ : getD x 1 0 ≡ 108 → ⊥) where
     -- only `when` is left

@@ -1,6 +1,6 @@
 -- Constants, extents and driven names: one law for each way of `constant_at`, `lvalue_extent`, `drive_output` and `drive`.
 -- Assumes nothing.
-use mathlib.Core.Path.{_≡_, refl, sym, _∙_, ap}
+use mathlib.Core.Path.{_≡_, refl, sym, _∙_, ap, ap₂, subst}
 use mathlib.Core.Bool.{Bool, true, false, _&&_, _||_, or-true, true≢false}
 use mathlib.Core.List.{List, [], _∷_, _++_, append-nil}
 use mathlib.Core.Option.{some}
@@ -40,8 +40,8 @@ use Rattle.items.specs.declared.Constant.{Constant}
 use Rattle.items.specs.declared.Extended as E
 use Rattle.items.specs.declared.Extended.the-variants as extended
 use Rattle.items.specs.Held.{Held, OwnAfter}
-use Rattle.items.specs.Lines.{named-at, NamedIs, NamedAt, ShowsLValue, ConstantIs, outside-at, index-outside, says-outside, ExtentIs, ExtentAt, with-block, DriveOutput, DriveLine, lvalue-part, driven, drive-outside}
-use Rattle.items.proofs.Places.{part-follows, part-ends, no-part, one-part, named-means, drive-lvalue, lvalue-named}
+use Rattle.items.specs.Lines.{named-at, NamedIs, NamedAt, ShowsLValue, ConstantIs, expr-at, index-at, index-outside, says-outside, ExtentIs, with-block, DriveOutput, DriveLine, lvalue-part, driven, drive-outside}
+use Rattle.items.proofs.Places.{part-follows, part-ends, named-means, drive-lvalue, lvalue-named}
 use Rattle.items.proofs.Tables.{held-within, held-sites, held-misuse}
 
 -- ---- the kind of a name
@@ -79,135 +79,110 @@ module _ (x : Bytes) (b e d : ℕ) (names : Names) {t : Bytes} (qt : t ≡ piece
       let z : value names (decode-expr d (piece x b e)) ≡ outside = sym constant-here ∙ ap worth f in
       record { out = ap is-outside (sym z); within = λ g. absurd (true≢false g) }
 
--- ---- whether an index is outside INT
+-- ---- the index that stands in any bytes
 
-module _ (y : Bytes) (end d : ℕ) (names : Names) where
-  index-by : (f a g b : Bool) → follows y end ≡ f → outside-at y end d names ≡ a → follows y (next-end y end) ≡ g → outside-at y (next-end y end) d names ≡ b
-      → f && (a || (g && b)) ≡ index-outside y end d names
-  unfolding index-outside
-  index-by f a g b p q r s =
-      sym
-      (ap (λ (z : Bool). z && (outside-at y end d names || (follows y (next-end y end) && outside-at y (next-end y end) d names))) p
-      ∙ ap (λ (z : Bool). f && (z || (follows y (next-end y end) && outside-at y (next-end y end) d names))) q
-      ∙ ap (λ (z : Bool). f && (a || (z && outside-at y (next-end y end) d names))) r
-      ∙ ap (λ (z : Bool). f && (a || (g && z))) s)
+module _ (y : Bytes) (end d : ℕ) where
+  index-none : follows y end ≡ false → index-at y end d ≡ whole
+  unfolding index-at
+  index-none f = rw (f, index-at)
 
-  -- the constant that the code takes
-  constant-at : {a : ℕ} → a ≡ part-end y (end + 1) → (h : Constant) → ConstantIs h (value names (decode-expr d (piece y end a))) → outside-at y end d names ≡ h .out
-  unfolding next-end
-  constant-at qa h c = ap (λ (n : ℕ). is-outside (value names (decode-expr d (piece y end n)))) (sym qa) ∙ sym (c .out)
+  index-one : follows y end ≡ true → follows y (next-end y end) ≡ false → index-at y end d ≡ at-bit (expr-at y end d)
+  unfolding index-at
+  index-one f g = rw (f, g, index-at)
+
+  index-two : follows y end ≡ true → follows y (next-end y end) ≡ true → index-at y end d ≡ high-low (expr-at y end d) (expr-at y (next-end y end) d)
+  unfolding index-at
+  index-two f g = rw (f, g, index-at)
 
   -- the one that is shown
   constant-shown : (e : Expr) (xs : List Bytes) → expr-depth e ≤ d → drop end y ≡ show-rest (show-expr e ∷ xs)
-      → (outside-at y end d names ≡ is-outside (value names e)) × (drop (next-end y end) y ≡ show-rest xs)
+      → (expr-at y end d ≡ e) × (drop (next-end y end) y ≡ show-rest xs)
   unfolding show-rest
   constant-shown e xs l q =
       let p = placed y end 32 xs (expr-shown e .part) q in
-      (ap (λ (z : Expr). is-outside (value names z)) (ap (decode-expr d) (p .here) ∙ expr-shown e .back d l), p .follows)
+      (ap (decode-expr d) (p .here) ∙ expr-shown e .back d l, p .follows)
 
-or-false : (b : Bool) → b || false ≡ b
-or-false true = refl
-or-false false = refl
-
--- what it means where an index stands there
-index-means : (y : Bytes) (end d : ℕ) (names : Names) (i : Index) → drop end y ≡ show-rest (show-index i) → index-depth i ≤ d
-    → index-outside y end d names ≡ any-outside names (index-constants i)
-unfolding show-index any-outside index-constants index-depth
-index-means y end d names whole q l = sym (index-by y end d names false _ _ _ (part-ends y end q) refl refl refl)
-index-means y end d names (at-bit e) q l =
-    let c = constant-shown y end d names e [] l q in
-    sym (index-by y end d names true _ false _ (part-follows y end (show-expr e) [] q) (c .0) (part-ends y (next-end y end) (c .1)) refl)
-index-means y end d names (high-low h k) q l =
-    let c = constant-shown y end d names h (show-expr k ∷ []) (omega arith) q in
-    let v = constant-shown y (next-end y end) d names k [] (omega arith) (c .1) in
-    sym (index-by y end d names true _ true _ (part-follows y end (show-expr h) (show-expr k ∷ []) q) (c .0) (part-follows y (next-end y end) (show-expr k) [] (c .1)) (v .0))
-    ∙ ap (λ (z : Bool). is-outside (value names h) || z) (sym (or-false (is-outside (value names k))))
+-- it is the one that is shown
+index-read : (y : Bytes) (end d : ℕ) (i : Index) → drop end y ≡ show-rest (show-index i) → index-depth i ≤ d → index-at y end d ≡ i
+unfolding show-index index-depth
+index-read y end d whole q l = index-none y end d (part-ends y end q)
+index-read y end d (at-bit e) q l =
+    let c = constant-shown y end d e [] l q in
+    index-one y end d (part-follows y end (show-expr e) [] q) (part-ends y (next-end y end) (c .1)) ∙ ap at-bit (c .0)
+index-read y end d (high-low h k) q l =
+    let c = constant-shown y end d h (show-expr k ∷ []) (omega arith) q in
+    let v = constant-shown y (next-end y end) d k [] (omega arith) (c .1) in
+    index-two y end d (part-follows y end (show-expr h) (show-expr k ∷ []) q) (part-follows y (next-end y end) (show-expr k) [] (c .1)) ∙ ap₂ high-low (c .0) (v .0)
 
 -- ---- extents
 
 -- what the code says of the index behind the part that ends at `end`
 abbrev Extends : E.Extended → Bytes → ℕ → Bool → ℕ → Names → Type 0
-Extends r y end bound d names = ExtentAt r y end bound d names × (says-outside r ≡ index-outside y end d names)
+Extends r y end bound d names = ExtentIs r bound names (index-at y end d) × (says-outside r ≡ index-outside y end d names)
 
-module _ (y : Bytes) (end : ℕ) (bound : Bool) (d : ℕ) (names : Names) where
-  whole-is : follows y end ≡ false → ExtentAt (extended.Is extent.Whole) y end bound d names
-  unfolding show-index any-outside index-constants lvalue-extent
-  whole-is f whole q l = (refl, refl)
-  whole-is f (at-bit e) q l = absurd (no-part y end (show-expr e) [] q f)
-  whole-is f (high-low h e) q l = absurd (no-part y end (show-expr h) (show-expr e ∷ []) q f)
+says-so : (r : E.Extended) (bound : Bool) (names : Names) (i : Index) → ExtentIs r bound names i → says-outside r ≡ any-outside names (index-constants i)
+says-so (extended.Is e) bound names i h = sym (h .0)
+says-so extended.Outside bound names i h = sym h
 
-  pub extent-whole : follows y end ≡ false → Extends (extended.Is extent.Whole) y end bound d names
-  extent-whole f = (whole-is f, index-by y end d names false _ _ _ f refl refl refl)
+module _ (r : E.Extended) (y : Bytes) (end : ℕ) (bound : Bool) (d : ℕ) (names : Names) where
+  extends-by : (i : Index) → index-at y end d ≡ i → ExtentIs r bound names i → Extends r y end bound d names
+  extends-by i q h =
+      let t : ExtentIs r bound names (index-at y end d) = subst (ExtentIs r bound names) (sym q) h in
+      (t, says-so r bound names (index-at y end d) t)
 
--- the constant that stands there is the one that is shown
-index-here : (y : Bytes) (end d : ℕ) (names : Names) {a : ℕ} → a ≡ part-end y (end + 1) → (h : Constant) → ConstantIs h (value names (decode-expr d (piece y end a)))
-    → (e : Expr) (xs : List Bytes) → expr-depth e ≤ d → drop end y ≡ show-rest (show-expr e ∷ xs) → ConstantIs h (value names e) × (drop a y ≡ show-rest xs)
-unfolding show-rest next-end
-index-here y end d names {a} qa h c e xs l q =
-    let p = placed y end 32 xs (expr-shown e .part) q in
-    let z : decode-expr d (piece y end a) ≡ e = ap (decode-expr d) (ap (piece y end) qa ∙ p .here) ∙ expr-shown e .back d l in
-    (rw z at c, ap (λ (m : ℕ). drop m y) qa ∙ p .follows)
+pub extent-whole : (y : Bytes) (end : ℕ) (bound : Bool) (d : ℕ) (names : Names) → follows y end ≡ false → Extends (extended.Is extent.Whole) y end bound d names
+unfolding any-outside index-constants lvalue-extent
+extent-whole y end bound d names f = extends-by (extended.Is extent.Whole) y end bound d names whole (index-none y end d f) (refl, refl)
 
 module _ (y : Bytes) (end : ℕ) (bound : Bool) (d : ℕ) (names : Names) (f : follows y end ≡ true) {a : ℕ} (qa : a ≡ part-end y (end + 1))
     (h : Constant) (ch : ConstantIs h (value names (decode-expr d (piece y end a)))) where
-  out-is : h .out ≡ true → ExtentAt extended.Outside y end bound d names
-  unfolding show-index any-outside index-constants index-depth
-  out-is o whole q l = absurd (one-part y end q f)
-  out-is o (at-bit e) q l = let c = index-here y end d names qa h ch e [] l q in rw (sym (c .0 .out) ∙ o)
-  out-is o (high-low e k) q l = let c = index-here y end d names qa h ch e (show-expr k ∷ []) (omega arith) q in rw (sym (c .0 .out) ∙ o)
-
-  pub extent-out : h .out ≡ true → Extends extended.Outside y end bound d names
-  extent-out o = (out-is o, index-by y end d names true true _ _ f (constant-at y end d names qa h ch ∙ o) refl refl)
-
   second-here : {t : Bool} → follows y a ≡ t → follows y (next-end y end) ≡ t
   unfolding next-end
   second-here g = ap (λ (n : ℕ). follows y n) (sym qa) ∙ g
 
-  module _ (o : h .out ≡ false) where
-    bit-is : follows y a ≡ false → (x : Extent) → extent-of x ≡ bit-extent bound (value-of (h .known) (h .value)) → ExtentAt (extended.Is x) y end bound d names
-    unfolding show-index any-outside index-constants lvalue-extent index-depth
-    bit-is g x w whole q l = absurd (one-part y end q f)
-    bit-is g x w (at-bit e) q l =
-        let c = index-here y end d names qa h ch e [] l q in
-        (rw (sym (c .0 .out) ∙ o), w ∙ ap (bit-extent bound) (sym (c .0 .within o)))
-    bit-is g x w (high-low e k) q l =
-        let c = index-here y end d names qa h ch e (show-expr k ∷ []) (omega arith) q in
-        absurd (no-part y a (show-expr k) [] (c .1) g)
+  first-here : expr-at y end d ≡ decode-expr d (piece y end a)
+  unfolding next-end
+  first-here = ap (λ (n : ℕ). decode-expr d (piece y end n)) (sym qa)
 
+  -- one index
+  one-here : follows y a ≡ false → index-at y end d ≡ at-bit (decode-expr d (piece y end a))
+  one-here g = index-one y end d f (second-here g) ∙ ap at-bit first-here
+
+  -- two
+  two-here : follows y a ≡ true → {b : ℕ} → b ≡ part-end y (a + 1) → index-at y end d ≡ high-low (decode-expr d (piece y end a)) (decode-expr d (piece y a b))
+  unfolding next-end
+  two-here g qb =
+      index-two y end d f (second-here g)
+      ∙ ap₂ high-low first-here (ap (λ (n : ℕ). decode-expr d (piece y n (part-end y (n + 1)))) (sym qa) ∙ ap (λ (n : ℕ). decode-expr d (piece y a n)) (sym qb))
+
+  pub extent-out : h .out ≡ true → Extends extended.Outside y end bound d names
+  unfolding any-outside index-constants
+  extent-out o = go (follows y a) refl
+    where
+      go : (t : Bool) → follows y a ≡ t → Extends extended.Outside y end bound d names
+      go false g = extends-by extended.Outside y end bound d names _ (one-here g) (rw (sym (ch .out) ∙ o))
+      go true g = extends-by extended.Outside y end bound d names _ (two-here g refl) (rw (sym (ch .out) ∙ o))
+
+  module _ (o : h .out ≡ false) where
     pub extent-bit : follows y a ≡ false → (x : Extent) → extent-of x ≡ bit-extent bound (value-of (h .known) (h .value)) → Extends (extended.Is x) y end bound d names
-    extent-bit g x w = (bit-is g x w, index-by y end d names true false false _ f (constant-at y end d names qa h ch ∙ o) (second-here g) refl)
+    unfolding any-outside index-constants lvalue-extent
+    extent-bit g x w = extends-by (extended.Is x) y end bound d names _ (one-here g) (rw (sym (ch .out) ∙ o), w ∙ ap (bit-extent bound) (sym (ch .within o)))
 
     module _ (g : follows y a ≡ true) {b : ℕ} (qb : b ≡ part-end y (a + 1)) (m : Constant) (cm : ConstantIs m (value names (decode-expr d (piece y a b)))) where
-      second-out : {t : Bool} → m .out ≡ t → outside-at y (next-end y end) d names ≡ t
-      unfolding next-end
-      second-out n = ap (λ (k : ℕ). outside-at y k d names) (sym qa) ∙ constant-at y a d names qb m cm ∙ n
-
-      second-is : m .out ≡ true → ExtentAt extended.Outside y end bound d names
-      unfolding show-index any-outside index-constants index-depth
-      second-is n whole q l = absurd (one-part y end q f)
-      second-is n (at-bit e) q l = let c = index-here y end d names qa h ch e [] l q in absurd (one-part y a (c .1) g)
-      second-is n (high-low e k) q l =
-          let c = index-here y end d names qa h ch e (show-expr k ∷ []) (omega arith) q in
-          let v = index-here y a d names qb m cm k [] (omega arith) (c .1) in
-          rw (sym (v .0 .out) ∙ n) (or-true (is-outside (value names e)))
-
-      range-is : m .out ≡ false → (x : Extent) → extent-of x ≡ range-extent bound (value-of (h .known) (h .value)) (value-of (m .known) (m .value)) → ExtentAt (extended.Is x) y end bound d names
-      unfolding show-index any-outside index-constants lvalue-extent index-depth
-      range-is n x w whole q l = absurd (one-part y end q f)
-      range-is n x w (at-bit e) q l = let c = index-here y end d names qa h ch e [] l q in absurd (one-part y a (c .1) g)
-      range-is n x w (high-low e k) q l =
-          let c = index-here y end d names qa h ch e (show-expr k ∷ []) (omega arith) q in
-          let v = index-here y a d names qb m cm k [] (omega arith) (c .1) in (
-            rw (sym (c .0 .out) ∙ o, sym (v .0 .out) ∙ n),
-            w ∙ ap (λ (z : Value). range-extent bound z (value-of (m .known) (m .value))) (sym (c .0 .within o)) ∙ ap (range-extent bound (value names e)) (sym (v .0 .within n)),
-          )
-
       pub extent-second-out : m .out ≡ true → Extends extended.Outside y end bound d names
-      extent-second-out n = (second-is n, index-by y end d names true false true true f (constant-at y end d names qa h ch ∙ o) (second-here g) (second-out n))
+      unfolding any-outside index-constants
+      extent-second-out n =
+          extends-by extended.Outside y end bound d names _ (two-here g qb) (rw (sym (cm .out) ∙ n) (or-true (is-outside (value names (decode-expr d (piece y end a))))))
 
       pub extent-range : m .out ≡ false → (x : Extent) → extent-of x ≡ range-extent bound (value-of (h .known) (h .value)) (value-of (m .known) (m .value))
           → Extends (extended.Is x) y end bound d names
-      extent-range n x w = (range-is n x w, index-by y end d names true false true false f (constant-at y end d names qa h ch ∙ o) (second-here g) (second-out n))
+      unfolding any-outside index-constants lvalue-extent
+      extent-range n x w =
+          extends-by (extended.Is x) y end bound d names _ (two-here g qb) (
+            rw (sym (ch .out) ∙ o, sym (cm .out) ∙ n),
+            w ∙ ap (λ (z : Value). range-extent bound z (value-of (m .known) (m .value))) (sym (ch .within o))
+                ∙ ap (range-extent bound (value names (decode-expr d (piece y end a)))) (sym (cm .within n)),
+          )
 
 -- ---- what a drive adds, by what driving does
 
@@ -246,9 +221,11 @@ true-right a b e = rw e (or-true a)
 
 -- ---- the drive of an output
 
-module _ (y : Bytes) (l : Named) (bound : Bool) (d : ℕ) (names : Names) (x : E.Extended) (hx : ExtentAt x y (l .end) bound d names) where
+module _ (y : Bytes) (l : Named) (bound : Bool) (d : ℕ) (names : Names) (x : E.Extended) (hx : ExtentIs x bound names (index-at y (l .end) d)) where
   extent-told : (lv : LValue) → ShowsLValue y d lv → NamedIs l y (lv .name) (lv .start) (show-index (lv .index)) → (z : E.Extended) → x ≡ z → ExtentIs z bound names (lv .index)
-  extent-told lv p n z q = rw q at (hx (lv .index) (n .behind) (p .deep))
+  extent-told lv p n z q =
+      let t : ExtentIs x bound names (lv .index) = subst (ExtentIs x bound names) (index-read y (l .end) d (lv .index) (n .behind) (p .deep)) hx in
+      rw q at t
 
   pub output-outside : (own own′ : List ℕ) → x ≡ extended.Outside → DriveOutput false y l bound d names own own′
   output-outside own own′ q lv e p n header k text o h =
@@ -392,7 +369,7 @@ module _ (x : Bytes) (bound : Bool) (d : ℕ) (kinds : List ℕ) (names : Names)
   pub outside-index : k ≡ 2 → (lv : LValue) (e : Expr) → ShowsItem x d (drive lv e) → (header : List Header) → KindsOf kinds header
       → index-outside y (l .end) d names ≡ any-outside names (line-constants header (drive lv e))
   outside-index z lv e p header w =
-      index-means y (l .end) d names (lv .index) (line-named lv e p .behind) (drive-lvalue x d lv e p qa qy .deep)
+      ap (λ (i : Index). any-outside names (index-constants i)) (index-read y (l .end) d (lv .index) (line-named lv e p .behind) (drive-lvalue x d lv e p qa qy .deep))
       ∙ sym (ap (any-outside names) (drive-line-constants bound header names lv e an-output (ap driving (line-kind lv e p header w ∙ ap kind-word z))))
 
 -- ---- one law for each way of `drive_outside`

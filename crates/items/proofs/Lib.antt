@@ -3,3 +3,4 @@ pub mod Places
 pub mod DriveLaws
 pub mod BlockLaws
 pub mod LineLaws
+pub mod AddedLaws

@@ -1,7 +1,7 @@
 -- Tables that hold each name once have room for every name; and what each addition leaves of the tables that the words hold.
 -- Assumes nothing.
 use mathlib.Core.Path.{_≡_, refl, sym, _∙_, ap}
-use mathlib.Core.Bool.{Bool, true, false, _||_, true≢false}
+use mathlib.Core.Bool.{Bool, true, false, _||_}
 use mathlib.Core.Logic.{_⊎_, inl, inr}
 use mathlib.Core.List.{List, [], _∷_, _++_, List·Memᴰ·head, List·Memᴰ·tail, List·Memᴰ·cases-cons}
 use Prim.Native.Nat.{ℕ, suc, _≤_, _<_}
@@ -12,44 +12,18 @@ use borrow.Author.Tests.{lt-ltb, le-ltb}
 use Rattle.spec.specs.Bytes.{Bytes}
 use Rattle.spec.specs.Syntax.{name-bound}
 use Rattle.spec.specs.Refusal.{has-name}
-use Rattle.spec.specs.Cleared.{Cleared}
 use Rattle.spec.specs.Graph.{_∈_}
 use Rattle.spec.specs.DepthFirst.{among}
 use Rattle.spec.specs.Site.{Site, Output, Misused}
 use Rattle.spec.specs.Block.{Pair, Storage}
 use Rattle.spec.proofs.Numbers.{if-case}
 use Rattle.sites.specs.Own as table
-use Rattle.sites.specs.Own.{Table, Added, Port, places, rows-in, site-table, pair-table, own-of, entry-names, grown, first-kept, row-added, pair-row-added, first-added, add-output, add-reg, add-mem, add-misuse}
-use Rattle.sites.proofs.Added.{row-none, pair-none, first-none}
+use Rattle.sites.specs.Own.{Port, rows-in, site-table, pair-table, own-of, entry-names, grown, first-kept, add-output, add-reg, add-mem, add-misuse}
 use Rattle.sites.proofs.Rows.{run-length, rows-limit}
 use Rattle.walk.specs.Walk.{Own, add-new, add-all, same-output, same-storage, over-own}
 use Rattle.walk.proofs.Room.{keys, adds-keys, few-keys}
-use Rattle.items.specs.Held.{PortIs, Ports, Few, Held, OwnLeaves}
+use Rattle.items.specs.Held.{PortIs, Ports, Few, Held}
 use Rattle.items.specs.Lines.{with-block}
-
--- ---- what every lent word becomes
-
-pub leaves-kept : (b : Bool) (own own′ : List ℕ) → b ≡ true → OwnLeaves b own own′ → OwnLeaves true own own′
-leaves-kept b own own′ e h = rw e at h
-
-pub leaves-cleared : (b : Bool) (own own′ : List ℕ) → b ≡ false → OwnLeaves b own own′ → Cleared own′
-leaves-cleared b own own′ e h = rw e at h
-
--- after a step that was not refused, another
-pub leaves-after : (a b : Bool) (own own′ own″ : List ℕ) → a ≡ true → length own′ ≡ length own → OwnLeaves a own own′ → OwnLeaves b own′ own″ → OwnLeaves b own own″
-leaves-after false b own own′ own″ e l p q = absurd (true≢false (sym e))
-leaves-after true true own own′ own″ e l p q = λ n. q (λ f. n (sym l ∙ f)) ∙ p n
-leaves-after true false own own′ own″ e l p q = q
-
--- an addition leaves a slice of another length as it was
-pub row-stays : (x : Added (List ℕ)) (t : Table) (own vs : List ℕ) → x ≡ row-added t own vs → ¬ (length own ≡ places) → x .own ≡ own
-row-stays x t own vs e n = ap (λ (y : Added (List ℕ)). y .own) (e ∙ sym (row-none t own vs n))
-
-pub pair-stays : (x : Added (List ℕ)) (p : Pair) (own : List ℕ) → x ≡ pair-row-added p own → ¬ (length own ≡ places) → x .own ≡ own
-pair-stays x p own e n = ap (λ (y : Added (List ℕ)). y .own) (e ∙ sym (pair-none p own n))
-
-pub first-stays : (own′ : List ℕ) (t : Table) (own vs : List ℕ) → own′ ≡ first-added t own vs → ¬ (length own ≡ places) → own′ ≡ own
-first-stays own′ t own vs e n = e ∙ sym (first-none t own vs n)
 
 -- ---- a table that holds each name once
 

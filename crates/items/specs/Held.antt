@@ -13,7 +13,6 @@ use Rattle.spec.specs.Show.{show-width}
 use Rattle.spec.specs.Decode.{depth-limit}
 use Rattle.spec.specs.Refusal.{width-depth, width-in-range}
 use Rattle.spec.specs.Value.{Names}
-use Rattle.spec.specs.Cleared.{Cleared}
 use Rattle.spec.specs.Site.{Output, line-constants, any-outside}
 use Rattle.sites.specs.Own.{Port, places, own-of, entry-names}
 use Rattle.walk.specs.Walk.{Own, own-line, over-own}
@@ -53,12 +52,6 @@ pub record Held (text : Bytes) (own : List ℕ) (o : Own) : Type 0 where
   pub few-regs : Few (entry-names (λ x. x .name) (o .regs))
   pub few-mems : Few (entry-names (λ x. x .name) (o .mems))
   pub few-misuses : Few (entry-names (λ x. x .name) (o .misuses))
-
--- 01, Worthless checks; Refused because of the state: what every lent word becomes, whatever line and words are lent: where the line is refused
--- (false) each is 0; else a slice that has not as many places as the tables stays as it was, and `OwnAfter` says what one that has them holds
-abbrev pub OwnLeaves : Bool → (own own′ : List ℕ) → Type 0
-OwnLeaves true own own′ = ¬ (length own ≡ places) → own′ ≡ own
-OwnLeaves false own own′ = Cleared own′
 
 -- 01, The site; The block; Refused because of the state: what a collected line leaves: its entries; or a constant was
 -- outside INT, or a limit is passed

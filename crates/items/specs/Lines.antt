@@ -2,14 +2,15 @@
 -- of the state.
 -- To a reader: definitions that contracts of this and other crates cite; each such contract is proved; check_drivers' own promise cites none of them.
 use mathlib.Core.Path.{_≡_}
-use mathlib.Core.Bool.{Bool, true, false, _&&_, _||_}
+use mathlib.Core.Bool.{Bool, true, false, _&&_}
 use mathlib.Core.List.{List, [], _∷_}
 use mathlib.Core.Option.{some}
 use Prim.Native.Nat.{ℕ, _+_, _≤_, _<_}
-use lib.ListN.{length, getD, take, drop}
+use lib.ListN.{length, getD, take, drop, replicate}
+use lib.Seq.{sets}
 use lib.Dec.{eqb, ltb}
 use Rattle.spec.specs.Bytes.{Bytes, number, show-number, show-rest}
-use Rattle.spec.specs.Syntax.{name-bound, number-bound, out-kind, Expr, Width, Index, LValue, Stmt, Stmts, set, default, Dir, Item, port, reg, mem, drive, on, Header}
+use Rattle.spec.specs.Syntax.{name-bound, number-bound, out-kind, Expr, Width, Index, whole, at-bit, high-low, LValue, Stmt, Stmts, set, default, Dir, Item, port, reg, mem, drive, on, Header}
 use Rattle.spec.specs.Show.{show-index, show-lvalue, show-stmt, show-stmts}
 use Rattle.spec.specs.Decode.{decode-expr}
 use Rattle.spec.specs.Refusal.{index-depth, stmt-depth, stmts-depth, stmt-in-range, stmts-in-range}
@@ -35,11 +36,9 @@ pub record StandsAt (text : Bytes) (base : ℕ) (x : Bytes) : Type 0 where
   pub inside : base + length x ≤ length text
   pub short : length text < 4294967296
 
--- 01, The site; The block: the counts of the tables are 0, and every other word stays
-pub record Emptied (old new : List ℕ) : Type 0 where
-  pub size : length new ≡ length old
-  pub counts : (k : ℕ) → k < 7 → getD new k 0 ≡ 0
-  pub others : (k : ℕ) → 7 ≤ k → getD new k 0 ≡ getD old k 0
+-- 01, The site; The block: the seven counts of the tables are 0, and every other word stays
+abbrev pub emptied : List ℕ → List ℕ
+emptied own = sets own 0 (replicate 7 0)
 
 -- ---- 01, The line: parts of a line
 
@@ -102,14 +101,21 @@ pub record ConstantIs (r : Constant) (v : Value) : Type 0 where
   pub out : r .out ≡ is-outside v
   pub within : r .out ≡ false → v ≡ value-of (r .known) (r .value)
 
--- 01, The value; Refused because of the state: whether the constant in any bytes behind the part that ends at `before` is outside INT
-abbrev pub outside-at : Bytes → (before d : ℕ) → Names → Bool
-outside-at x before d names = is-outside (value names (decode-expr d (piece x before (next-end x before))))
+-- 01, The line: the E in any bytes behind the part that ends at `before`, at most d brackets deep
+abbrev pub expr-at : Bytes → (before d : ℕ) → Expr
+expr-at x before d = decode-expr d (piece x before (next-end x before))
 
--- 01, The value: both indexes of an output's LV always are evaluated: whether one of the first two parts in any bytes behind the one that ends at
--- `end` is outside INT
-unfoldable pub index-outside : Bytes → (end d : ℕ) → Names → Bool
-index-outside x end d names = follows x end && (outside-at x end d names || (follows x (next-end x end) && outside-at x (next-end x end) d names))
+-- 01, The line: and then nothing, one E or two: the index in any bytes behind the part that ends at `end`, by the first two parts there
+unfoldable pub index-at : Bytes → (end d : ℕ) → Index
+index-at x end d =
+    elim (follows x end) [
+      | true ↦ elim (follows x (next-end x end)) [ true ↦ high-low (expr-at x end d) (expr-at x (next-end x end) d) | false ↦ at-bit (expr-at x end d) ]
+      | false ↦ whole
+    ]
+
+-- 01, The value; Refused because of the state: both indexes of an output's LV always are evaluated: whether one of these is outside INT
+abbrev pub index-outside : Bytes → (end d : ℕ) → Names → Bool
+index-outside x end d names = any-outside names (index-constants (index-at x end d))
 
 -- 01, Refused because of the state: 20 where an index of an LV is outside INT, else 0
 abbrev pub number-of : E.Extended → ℕ
@@ -124,10 +130,6 @@ says-outside r = ltb 0 (number-of r)
 abbrev pub ExtentIs : E.Extended → Bool → Names → Index → Type 0
 ExtentIs (extended.Is e) bound names i = (any-outside names (index-constants i) ≡ false) × (extent-of e ≡ lvalue-extent bound names i)
 ExtentIs extended.Outside bound names i = any-outside names (index-constants i) ≡ true
-
--- 01, The site; Refused because of the state: r says so of the index that stands behind the part that ends at `end`
-abbrev pub ExtentAt : E.Extended → Bytes → ℕ → Bool → ℕ → Names → Type 0
-ExtentAt r x end bound d names = (i : Index) → drop end x ≡ show-rest (show-index i) → index-depth i ≤ d → ExtentIs r bound names i
 
 -- ---- 01, The block; The site: statements
 

@@ -16,12 +16,14 @@ ghost use Rattle.consteval.specs.Worth.{names-of};
 ghost use Rattle.lines.specs.Parts.{piece};
 ghost use Rattle.sites.specs.Own.{places};
 ghost use Rattle.walk.specs.Walk.{no-own};
-ghost use Rattle.items.specs.Held.{Held, OwnLeaves};
-ghost use Rattle.items.specs.Lines.{Emptied, number-at, named-at, ConstantIs, ExtentAt, says-outside, index-outside, SetAfter, DefaultAfter, StmtAfter, StmtsAfter, PortLine, RegLine, MemLine, DriveOutput, DriveLine, OnLine, OwnLine, drive-outside};
+ghost use Rattle.items.specs.Held.{Held};
+ghost use Rattle.edges.specs.Total.{parts-behind};
+ghost use Rattle.items.specs.Added.{OwnLeaves, port-added, reg-added, mem-added, output-driven, drive-added, set-added, default-added, stmt-added, all-added, on-added, line-added};
+ghost use Rattle.items.specs.Lines.{emptied, number-at, named-at, ConstantIs, index-at, ExtentIs, says-outside, index-outside, SetAfter, DefaultAfter, StmtAfter, StmtsAfter, PortLine, RegLine, MemLine, DriveOutput, DriveLine, OnLine, OwnLine, drive-outside};
 
-// Empties the tables before the first item of a module: the counts become 0, and no other word matters then.
+// Empties the tables before the first item of a module: the counts become 0, and every other word stays.
 pub fn reset(own: &mut [u32])
-    ensures { λ _. ⌜ Emptied (now (own .entry)) (now (own .exit)) ⌝ }
+    ensures { λ _. ⌜ now (own .exit) ≡ emptied (now (own .entry)) ⌝ }
     ensures { λ _. ⌜ (length (now (own .entry)) ≡ places → (text : Bytes) → Held text (now (own .exit)) no-own) ⌝ }
 {
     let mut i: usize = 0;
@@ -127,7 +129,7 @@ enum Extended {
 fn port_line(x: &[u8], base: u32, own: &mut [u32])
     ensures { λ _. ⌜ PortLine (now (x .entry)) base (now (own .entry)) (now (own .exit)) ⌝ }
     ensures { λ _. ⌜ length (now (own .exit)) ≡ length (now (own .entry)) ⌝ }
-    ensures { λ _. ⌜ OwnLeaves true (now (own .entry)) (now (own .exit)) ⌝ }
+    ensures { λ _. ⌜ now (own .exit) ≡ port-added (now (x .entry)) base (now (own .entry)) ⌝ }
 {
     if parts::byte(x, 6) != b'o' {
         return;
@@ -155,7 +157,7 @@ fn port_line(x: &[u8], base: u32, own: &mut [u32])
 fn reg_line(x: &[u8], own: &mut [u32])
     ensures { λ _. ⌜ RegLine (now (x .entry)) (now (own .entry)) (now (own .exit)) ⌝ }
     ensures { λ _. ⌜ length (now (own .exit)) ≡ length (now (own .entry)) ⌝ }
-    ensures { λ _. ⌜ OwnLeaves true (now (own .entry)) (now (own .exit)) ⌝ }
+    ensures { λ _. ⌜ now (own .exit) ≡ reg-added (now (x .entry)) (now (own .entry)) ⌝ }
 {
     let l = named_at(x, 4);
     sites::add_reg(own, l.name, l.start);
@@ -164,7 +166,7 @@ fn reg_line(x: &[u8], own: &mut [u32])
 fn mem_line(x: &[u8], own: &mut [u32])
     ensures { λ _. ⌜ MemLine (now (x .entry)) (now (own .entry)) (now (own .exit)) ⌝ }
     ensures { λ _. ⌜ length (now (own .exit)) ≡ length (now (own .entry)) ⌝ }
-    ensures { λ _. ⌜ OwnLeaves true (now (own .entry)) (now (own .exit)) ⌝ }
+    ensures { λ _. ⌜ now (own .exit) ≡ mem-added (now (x .entry)) (now (own .entry)) ⌝ }
 {
     let l = named_at(x, 4);
     sites::add_mem(own, l.name, l.start);
@@ -179,7 +181,7 @@ fn lvalue_extent(
     names: &[u32],
     used: usize,
 ) -> Extended
-    ensures { λ r. ⌜ ExtentAt r (now (lv .entry)) end bound depth (names-of (now (names .entry)) used) ⌝ }
+    ensures { λ r. ⌜ ExtentIs r bound (names-of (now (names .entry)) used) (index-at (now (lv .entry)) end depth) ⌝ }
     ensures { λ r. ⌜ says-outside r ≡ index-outside (now (lv .entry)) end depth (names-of (now (names .entry)) used) ⌝ }
 {
     if !parts::more(lv, end) {
@@ -215,7 +217,7 @@ fn drive_output(
 ) -> bool
     ensures { λ r. ⌜ DriveOutput r (now (lv .entry)) l bound depth (names-of (now (names .entry)) used) (now (own .entry)) (now (own .exit)) ⌝ }
     ensures { λ _. ⌜ length (now (own .exit)) ≡ length (now (own .entry)) ⌝ }
-    ensures { λ r. ⌜ OwnLeaves r (now (own .entry)) (now (own .exit)) ⌝ }
+    ensures { λ r. ⌜ OwnLeaves r (output-driven (now (lv .entry)) l bound depth (names-of (now (names .entry)) used) (now (own .entry))) (now (own .exit)) ⌝ }
 {
     let end = l.end;
     match lvalue_extent(lv, end, bound, depth, names, used) {
@@ -252,7 +254,7 @@ fn drive(
 ) -> bool
     ensures { λ r. ⌜ DriveLine r (now (x .entry)) bound depth (now (kinds .entry)) (names-of (now (names .entry)) used) (now (own .entry)) (now (own .exit)) ⌝ }
     ensures { λ _. ⌜ length (now (own .exit)) ≡ length (now (own .entry)) ⌝ }
-    ensures { λ r. ⌜ OwnLeaves r (now (own .entry)) (now (own .exit)) ⌝ }
+    ensures { λ r. ⌜ OwnLeaves r (drive-added (now (x .entry)) bound depth (now (kinds .entry)) (names-of (now (names .entry)) used) (now (own .entry))) (now (own .exit)) ⌝ }
 {
     let lv = parts::between(x, 6, parts::part_end(x, 7));
     let l = named_at(lv, 3);
@@ -279,7 +281,7 @@ fn drive(
 fn set_stmt(s: &[u8], block: u32, kinds: &[u8], own: &mut [u32]) -> bool
     ensures { λ r. ⌜ SetAfter r (now (s .entry)) block (now (kinds .entry)) (now (own .entry)) (now (own .exit)) ⌝ }
     ensures { λ _. ⌜ length (now (own .exit)) ≡ length (now (own .entry)) ⌝ }
-    ensures { λ r. ⌜ OwnLeaves r (now (own .entry)) (now (own .exit)) ⌝ }
+    ensures { λ r. ⌜ OwnLeaves r (set-added block (now (kinds .entry)) (now (s .entry)) (now (own .entry))) (now (own .exit)) ⌝ }
 {
     let l = named_at(s, 4);
     let k = parts::byte(kinds, l.name as usize);
@@ -306,7 +308,7 @@ fn set_stmt(s: &[u8], block: u32, kinds: &[u8], own: &mut [u32]) -> bool
 fn default_stmt(s: &[u8], block: u32, kinds: &[u8], own: &mut [u32]) -> bool
     ensures { λ r. ⌜ DefaultAfter r (now (s .entry)) block (now (kinds .entry)) (now (own .entry)) (now (own .exit)) ⌝ }
     ensures { λ _. ⌜ length (now (own .exit)) ≡ length (now (own .entry)) ⌝ }
-    ensures { λ r. ⌜ OwnLeaves r (now (own .entry)) (now (own .exit)) ⌝ }
+    ensures { λ r. ⌜ OwnLeaves r (default-added block (now (kinds .entry)) (now (s .entry)) (now (own .entry))) (now (own .exit)) ⌝ }
 {
     let n = number(s, 8, parts::part_end(s, 9));
     if parts::byte(kinds, n as usize) != 4 {
@@ -325,7 +327,7 @@ fn default_stmt(s: &[u8], block: u32, kinds: &[u8], own: &mut [u32]) -> bool
 fn block_stmt(s: &[u8], block: u32, depth: u32, kinds: &[u8], own: &mut [u32]) -> bool
     ensures { λ r. ⌜ StmtAfter r (now (s .entry)) block depth (now (kinds .entry)) (now (own .entry)) (now (own .exit)) ⌝ }
     ensures { λ _. ⌜ length (now (own .exit)) ≡ length (now (own .entry)) ⌝ }
-    ensures { λ r. ⌜ OwnLeaves r (now (own .entry)) (now (own .exit)) ⌝ }
+    ensures { λ r. ⌜ OwnLeaves r (stmt-added block (now (kinds .entry)) depth (now (s .entry)) (now (own .entry))) (now (own .exit)) ⌝ }
 {
     if depth == 0 {
         return true;
@@ -355,7 +357,7 @@ fn block_stmt(s: &[u8], block: u32, depth: u32, kinds: &[u8], own: &mut [u32]) -
 fn block_stmts(s: &[u8], end: usize, block: u32, depth: u32, kinds: &[u8], own: &mut [u32]) -> bool
     ensures { λ r. ⌜ StmtsAfter r (now (s .entry)) end block depth (now (kinds .entry)) (now (own .entry)) (now (own .exit)) ⌝ }
     ensures { λ _. ⌜ length (now (own .exit)) ≡ length (now (own .entry)) ⌝ }
-    ensures { λ r. ⌜ OwnLeaves r (now (own .entry)) (now (own .exit)) ⌝ }
+    ensures { λ r. ⌜ OwnLeaves r (all-added (stmt-added block (now (kinds .entry)) depth) (parts-behind (now (s .entry)) end) (now (own .entry))) (now (own .exit)) ⌝ }
 {
     let mut e = end;
     while parts::more(s, e) {
@@ -372,7 +374,7 @@ fn block_stmts(s: &[u8], end: usize, block: u32, depth: u32, kinds: &[u8], own: 
 fn on_block(x: &[u8], depth: u32, kinds: &[u8], own: &mut [u32]) -> bool
     ensures { λ r. ⌜ OnLine r (now (x .entry)) depth (now (kinds .entry)) (now (own .entry)) (now (own .exit)) ⌝ }
     ensures { λ _. ⌜ length (now (own .exit)) ≡ length (now (own .entry)) ⌝ }
-    ensures { λ r. ⌜ OwnLeaves r (now (own .entry)) (now (own .exit)) ⌝ }
+    ensures { λ r. ⌜ OwnLeaves r (on-added (now (x .entry)) depth (now (kinds .entry)) (now (own .entry))) (now (own .exit)) ⌝ }
 {
     let a = parts::part_end(x, 4);
     let block = number(x, 3, a);
@@ -380,7 +382,8 @@ fn on_block(x: &[u8], depth: u32, kinds: &[u8], own: &mut [u32]) -> bool
 }
 
 // What the collected line x adds to the tables of its module's own check, by the first byte of its word; the line begins at `base` of
-// the text. False where a constant is outside INT or a limit is passed; the tables are cleared then.
+// the text. False where a constant is outside INT or a limit is passed; the tables are cleared then. Nothing is left free: whatever is
+// lent, `OwnLeaves` says the answer and every word; `OwnLine` says what that means where x shows a line and the words hold tables.
 pub fn own_line(
     x: &[u8],
     base: u32,
@@ -393,7 +396,7 @@ pub fn own_line(
 ) -> bool
     ensures { λ r. ⌜ OwnLine r (now (x .entry)) base bound depth (now (kinds .entry)) (names-of (now (names .entry)) used) (now (own .entry)) (now (own .exit)) ⌝ }
     ensures { λ _. ⌜ length (now (own .exit)) ≡ length (now (own .entry)) ⌝ }
-    ensures { λ r. ⌜ OwnLeaves r (now (own .entry)) (now (own .exit)) ⌝ }
+    ensures { λ r. ⌜ OwnLeaves r (line-added (now (x .entry)) base bound depth (now (kinds .entry)) (names-of (now (names .entry)) used) (now (own .entry))) (now (own .exit)) ⌝ }
 {
     let c = parts::byte(x, 1);
     if c == b'd' {

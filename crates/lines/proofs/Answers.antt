@@ -1,19 +1,21 @@
 -- The ways of `read_text`: tables too short, a text that is refused, a text that is accepted.
 -- Assumes nothing.
 use mathlib.Core.Path.{_≡_, refl, sym, ap, _∙_}
+use mathlib.Core.Bool.{Bool, true, false}
 use mathlib.Core.List.{List}
 use Prim.Native.Nat.{ℕ, _≤_, _<_, _*_}
 use native.Mathlib.Omega.{arith}
+use lib.Dec.{ltb}
 use lib.ListN.{length, replicate, length-replicate}
 use borrow.Author.Tests.{lt-ltb, le-ltb}
 use Rattle.spec.specs.Bytes.{Bytes}
 use Rattle.spec.specs.Syntax.{name-bound}
 use Rattle.spec.specs.Refusal.{Verdict, well-formed, refused, refusal, decode, lines, at-start, lines-fault}
-use Rattle.lines.specs.Verdict.{told, modules-in}
-use Rattle.lines.specs.Read.{setLine}
+use Rattle.lines.specs.Verdict.{told, number-of as told-number, line-of as told-line, modules-in}
+use Rattle.lines.specs.Read.{fault-number, fault-line, setLine}
 use Rattle.lines.specs.Tables.{put-kinds, put-mods}
 use Rattle.lines.specs.Pass.{Fitting, Fills}
-use Rattle.lines.specs.Reader.{by-verdict, by-room, read-as, kinds-after, mods-after}
+use Rattle.lines.specs.Reader.{number-of, line-of, by-verdict, by-room, read-as, kinds-after, mods-after}
 use Rattle.lines.specs.declared.read.Verdict.{Verdict as Answer}
 use Rattle.lines.specs.declared.read.Verdict.the-variants.{Refused as No, Formed}
 use Rattle.lines.specs.declared.tables.Read.{Read}
@@ -41,9 +43,47 @@ told-formed : (v : Verdict) (c m : ℕ) → Formed m ≡ told v c → (v ≡ wel
 told-formed well-formed c m e = (refl, cc e)
 told-formed (refused j n) c m e = let z : _≡_ {A = ℕ} 0 1 = cc e in absurd (omega arith)
 
+-- a choice by the tables' room, under a function
+room-under : {A B : Type 0} (f : A → B) (s g : A) (k m : ℕ) → f (by-room s g k m) ≡ by-room (f s) (f g) k m
+unfolding by-room
+room-under f s g k m = go (ltb k (32 * name-bound)) (ltb m 128)
+  where
+    go : (a b : Bool) → f (elim a [ true ↦ s | false ↦ elim b [ true ↦ s | false ↦ g ] ]) ≡ elim a [ true ↦ f s | false ↦ elim b [ true ↦ f s | false ↦ f g ] ]
+    go true b = refl
+    go false true = refl
+    go false false = refl
+
+-- the number and the line of the answer
+read-number : (k m : ℕ) (t : Bytes) → number-of (read-as k m t) ≡ by-room 20 (fault-number (refusal t)) k m
+unfolding read-as
+read-number k m t = room-under number-of Short (by-verdict Refused (Accepted (length (decode t))) (refusal t)) k m ∙ ap (λ (n : ℕ). by-room 20 n k m) (go (refusal t))
+  where
+    go : (v : Verdict) → number-of (by-verdict Refused (Accepted (length (decode t))) v) ≡ fault-number v
+    go well-formed = refl
+    go (refused k n) = refl
+
+read-line : (k m : ℕ) (t : Bytes) → line-of (read-as k m t) ≡ by-room 0 (fault-line (refusal t)) k m
+unfolding read-as
+read-line k m t = room-under line-of Short (by-verdict Refused (Accepted (length (decode t))) (refusal t)) k m ∙ ap (λ (n : ℕ). by-room 0 n k m) (go (refusal t))
+  where
+    go : (v : Verdict) → line-of (by-verdict Refused (Accepted (length (decode t))) v) ≡ fault-line v
+    go well-formed = refl
+    go (refused k n) = refl
+
 module _ (t : Bytes) (kinds mods : List ℕ) where
   abbrev Left : Read → List ℕ → List ℕ → Type 0
   Left r ks ms = (r ≡ read-as (length kinds) (length mods) t) × ((ks ≡ kinds-after kinds (length mods) t) × (ms ≡ mods-after mods (length kinds) t))
+
+  -- with its number and line
+  abbrev Told : Read → List ℕ → List ℕ → Type 0
+  Told r ks ms =
+      (r ≡ read-as (length kinds) (length mods) t)
+      × ((ks ≡ kinds-after kinds (length mods) t)
+      × ((ms ≡ mods-after mods (length kinds) t)
+      × ((number-of r ≡ by-room 20 (fault-number (refusal t)) (length kinds) (length mods)) × (line-of r ≡ by-room 0 (fault-line (refusal t)) (length kinds) (length mods)))))
+
+  pub numbered : (r : Read) (ks ms : List ℕ) → Left r ks ms → Told r ks ms
+  numbered r ks ms e = (e .0, (e .1 .0, (e .1 .1, (ap number-of (e .0) ∙ read-number (length kinds) (length mods) t, ap line-of (e .0) ∙ read-line (length kinds) (length mods) t))))
 
   pub short-kinds : length kinds < 32 * name-bound → Left Short kinds mods
   unfolding read-as kinds-after mods-after
@@ -110,3 +150,12 @@ read-told t k m g h x e = ap as-verdict (e ∙ sym (room-fits Short (by-verdict 
     go : (v : Verdict) → as-verdict (by-verdict Refused (Accepted (length (decode t))) v) ≡ told v (length (decode t))
     go well-formed = refl
     go (refused k n) = refl
+
+-- and its number and line
+pub told-by : (t : Bytes) (r : Answer) → r ≡ told (refusal t) (length (decode t))
+    → (r ≡ told (refusal t) (length (decode t))) × ((told-number r ≡ fault-number (refusal t)) × (told-line r ≡ fault-line (refusal t)))
+told-by t r e = (e, (ap told-number e ∙ go (refusal t) .0, ap told-line e ∙ go (refusal t) .1))
+  where
+    go : (v : Verdict) → (told-number (told v (length (decode t))) ≡ fault-number v) × (told-line (told v (length (decode t))) ≡ fault-line v)
+    go well-formed = (refl, refl)
+    go (refused k n) = (refl, refl)

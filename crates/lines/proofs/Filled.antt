@@ -52,8 +52,9 @@ pub record Filling (t : Bytes) (at row modules : ℕ) (items : Bool) (first : �
 
 -- 01, Refused because of the text: where the pass stands: before a line without a fault so far; or a fault ended it, and it is what the text is
 -- refused with
-pub record Reading (t : Bytes) (kinds₀ mods₀ : List ℕ) (p : Progress) (kinds mods : List ℕ) : Type 0 where
+pub record Reading (t : Bytes) (kinds₀ mods₀ : List ℕ) (p : Progress) (seen kinds mods : List ℕ) : Type 0 where
+  pub places : length seen ≡ name-bound
   pub kinds-kept : length kinds ≡ length kinds₀
   pub mods-kept : length mods ≡ length mods₀
-  pub goes-on : p .fault ≡ 0 → Filling t (p .next) (p .row) (p .modules) (p .items) (p .first) (p .seen) kinds₀ mods₀ kinds mods
+  pub goes-on : p .fault ≡ 0 → Filling t (p .next) (p .row) (p .modules) (p .items) (p .first) seen kinds₀ mods₀ kinds mods
   pub stopped : (p .fault ≡ 0 → ⊥) → (length t ≤ p .next) × (Refused (p .fault) (p .row) ≡ told (lines-fault at-start 1 (lines t)) (modules-in (lines t)))

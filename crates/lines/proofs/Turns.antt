@@ -63,16 +63,16 @@ module _ (t : Bytes) (at n modules : ℕ) (items : Bool) (seen : List ℕ) (g : 
   abbrev before : Before
   before = record { modules = modules; has-item = items; kinds = g .kinds }
 
-  pub going-module : Right t at before (Module feed) → Going t (feed + 1) (n + 1) (modules + 1) false (replicate name-bound 0)
+  pub going-module : Right t at before (Module feed) → length seen ≡ name-bound → Going t (feed + 1) (n + 1) (modules + 1) false (replicate (length seen) 0)
   unfolding after-line modules-in gather
-  going-module r =
+  going-module r z =
       let p = r .1 in
       let m = pass-room t at feed before _ p h in
       record {
         kinds = [];
         verdict = rw (add-one n, add-one modules) (g .verdict ∙ pass-verdict t at feed before _ p n);
         count = let c = ap (λ (ls : List Line). length (gather ls .modules)) (pass-lines t at feed before _ p) in omega (arith, g .count, c);
-        agree = zeros-seen;
+        agree = rw z zeros-seen;
         ends = pass-ends t at feed before _ p (g .ends);
         few = let u = r .2 in omega arith;
         within = omega (arith, m .0);

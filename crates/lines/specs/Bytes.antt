@@ -1,4 +1,4 @@
--- What a byte is. 01: The line; Forms for specific places, character classes.
+-- What a byte is. 01: The line; Forms for specific places.
 -- To a reader: definitions that contracts of this and other crates cite; each such contract is proved; check_drivers' own promise cites none of them.
 use mathlib.Core.Bool.{Bool, true, false}
 use Prim.Native.Nat.{ℕ}

@@ -1,5 +1,5 @@
 -- What the code of src/read.rt does, on the bytes of a text and a position in it. proofs/ ties it to Refusal. 01: The line; Refused because of the
--- text.
+-- text; Forms for specific places.
 -- To a reader: definitions that contracts of this and other crates cite; each such contract is proved; check_drivers' own promise cites none of them.
 use mathlib.Core.Bool.{Bool, true, false}
 use mathlib.Core.List.{List, [], _∷_}
@@ -39,10 +39,30 @@ closesAt k (c ∷ s) =
 unfoldable pub notWritten : Bytes → ℕ → ℕ
 notWritten t at = elim (closesAt 1 (drop at t)) [ true ↦ 4 | false ↦ 3 ]
 
+-- 01, Refused because of the text: the number that a verdict names, and 0 for no fault
+abbrev pub fault-number : Verdict → ℕ
+fault-number well-formed = 0
+fault-number (refused k n) = k
+
 -- 01, Refused because of the text: the line that a verdict names, and 0 for no fault
 abbrev pub fault-line : Verdict → ℕ
 fault-line well-formed = 0
 fault-line (refused k n) = n
+
+-- 01, Forms for specific places; Refused because of the text: 01's number of a part as it was parsed, `at` being behind the line's opening
+-- bracket: 3 or 4 where it is badly written, 5 where a number in it is out of range, else 0; a form behind which the line goes on is told by notWritten
+abbrev pub parsed-number : Parsed → Bytes → ℕ → ℕ
+parsed-number Bad t at = notWritten t at
+parsed-number (Good j true) t at = 0
+parsed-number (Good j false) t at = 5
+
+-- 01, Forms for specific places; Refused because of the text: 01's number of what a line is: its fault, 3 to 7, and 0 where it adds something
+abbrev pub step-number : Step → ℕ
+step-number (Fault k) = k
+step-number (Module feed) = 0
+step-number (Kind feed n) = 0
+step-number (Val feed) = 0
+step-number (Item feed) = 0
 
 -- 01, Refused because of the text: the line that 2 names, and 0 where the text does not have that fault
 unfoldable pub setLine : Bytes → ℕ
@@ -85,10 +105,10 @@ headStep t at feed modules items seen =
 -- 01, Refused because of the text: the line at a position as it was parsed: 3 or 4 where it is badly written or goes on behind its form, 5 where a
 -- number is out of range, else by its head
 abbrev pub parsedStep : Parsed → Bytes → ℕ → ℕ → Bool → List ℕ → Step
-parsedStep Bad t at modules items seen = Fault (notWritten t (at + 1))
+parsedStep Bad t at modules items seen = Fault (parsed-number Bad t (at + 1))
 parsedStep (Good j range) t at modules items seen =
     elim (eqb (getD t j 0) 10) [
-      | true ↦ elim range [ true ↦ headStep t (at + 1) j modules items seen | false ↦ Fault 5 ]
+      | true ↦ elim range [ true ↦ headStep t (at + 1) j modules items seen | false ↦ Fault (parsed-number (Good j false) t (at + 1)) ]
       | false ↦ Fault (notWritten t (at + 1))
     ]
 

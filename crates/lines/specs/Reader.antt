@@ -1,6 +1,7 @@
 -- What the reader answers and leaves in the lent tables, for every text. 01: Refused because of the text; Refused because of the state; Worthless
 -- checks; Forms for specific places.
--- To a reader: definitions that contracts of this and other crates cite; number-of and line-of, an answer's number and line in 01, are to believe.
+-- To a reader: definitions that contracts of this and other crates cite; each such contract is proved; number-of and line-of give an answer's number
+-- and line in 01.
 use mathlib.Core.Bool.{true, false}
 use mathlib.Core.List.{List}
 use Prim.Native.Nat.{ℕ, _*_}

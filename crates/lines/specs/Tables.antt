@@ -1,5 +1,4 @@
--- The tables of a design: what the reader leaves in the lent slices of a text that it accepts. 01: The line; Refused because of the text; Refused
--- because of the state.
+-- The tables of a design: what the reader leaves in the lent slices of a text that it accepts. 01: The line.
 -- To a reader: definitions that contracts of this and other crates cite; each such contract is proved; check_drivers' own promise cites none of them.
 use mathlib.Core.Bool.{Bool, true, false}
 use mathlib.Core.List.{List, [], _∷_}

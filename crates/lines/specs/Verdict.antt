@@ -1,5 +1,6 @@
--- What the reader answers, in terms of Refusal. 01: Refused because of the text; Forms for specific places.
--- To a reader: definitions that contracts of this and other crates cite; number-of and line-of, an answer's number and line in 01, are to believe.
+-- What the reader answers, in terms of Refusal. 01: The line; Refused because of the text; Forms for specific places.
+-- To a reader: definitions that contracts of this and other crates cite; each such contract is proved; number-of and line-of give an answer's number
+-- and line in 01.
 use mathlib.Core.Path.{_≡_}
 use mathlib.Core.Bool.{true}
 use mathlib.Core.List.{List}

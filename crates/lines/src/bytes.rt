@@ -71,7 +71,7 @@ pub fn is_feed(b: u8) -> bool
     }
 }
 
-pub fn is_digit(b: u8) -> bool
+pub(crate) fn is_digit(b: u8) -> bool
     ensures { λ r. ⌜ r ≡ isDigit (classOf b) ⌝ }
 {
     match class_of(b) {
@@ -81,7 +81,7 @@ pub fn is_digit(b: u8) -> bool
 }
 
 // A byte of a word: a letter or a digit.
-pub fn is_word(b: u8) -> bool
+pub(crate) fn is_word(b: u8) -> bool
     ensures { λ r. ⌜ r ≡ isWord (classOf b) ⌝ }
 {
     match class_of(b) {

@@ -3,6 +3,7 @@ ghost use mathlib.Core.Path.{_≡_};
 ghost use Prim.Native.Nat.{_-_, min};
 ghost use Rattle.spec.specs.Bytes.{number};
 
+// What is below '0' counts as 0; `value` equals `number` for all bytes, 4,294,967,296 at most.
 fn digit(c: u8) -> u64
     ensures { λ r. ⌜ r ≡ c - 48 ⌝ }
 {

@@ -15,16 +15,16 @@ use crate::bytes::is_word;
 use crate::keys;
 
 // Names and MOD are below 256; START and literals below 2,147,483,648.
-pub const NAMES: u64 = 256;
+pub(crate) const NAMES: u64 = 256;
 // A place for each name.
-pub const EACH_NAME: usize = NAMES as usize;
+pub(crate) const EACH_NAME: usize = NAMES as usize;
 
 const MODS: u64 = 256;
 
 const NUMBERS: u64 = 2147483648;
 
 // What a part is: a number or a word of a kind, an expression, X, T, LV, C, S, I, `(then ..)` and `(else ..)`, a line, or none.
-pub enum Cat {
+pub(crate) enum Cat {
     Name,
     Start,
     Mod,
@@ -49,7 +49,7 @@ pub enum Cat {
 }
 
 // The categories of the next four parts and of all behind them, and how many parts are still needed.
-pub struct Shape {
+pub(crate) struct Shape {
     pub need: u8,
     pub a: Cat,
     pub b: Cat,
@@ -59,7 +59,7 @@ pub struct Shape {
 }
 
 // A part that was read: where it ends, whether its numbers are in range (5).
-pub enum Parsed {
+pub(crate) enum Parsed {
     Bad,
     Good { next: usize, range: bool },
 }
@@ -76,7 +76,7 @@ pub enum Number {
 }
 
 // The heads of E.
-pub enum Op {
+pub(crate) enum Op {
     Name,
     Field,
     Index,
@@ -140,7 +140,7 @@ fn digits(s: &[u8], at: usize) -> Number
 }
 
 // The number at a position: 0, or a digit that is not 0 and all digits behind it.
-pub fn number_at(s: &[u8], at: usize) -> Number
+pub(crate) fn number_at(s: &[u8], at: usize) -> Number
     ensures { λ r. ⌜ r ≡ numberAt (now (s .entry)) at ⌝ }
 {
     let c = at8(s, at);
@@ -225,7 +225,7 @@ fn op_of(key: u64) -> Op
 }
 
 // The number of a kind, and 0 for no kind.
-pub fn kind_of(key: u64) -> u8
+pub(crate) fn kind_of(key: u64) -> u8
     ensures { λ r. ⌜ r ≡ kindOf key ⌝ }
 {
     match key {
@@ -514,7 +514,7 @@ fn atom(s: &[u8], at: usize, cat: Cat) -> Parsed
 }
 
 // The part of a category at a position, at most `depth` brackets deep.
-pub fn part(s: &[u8], at: usize, cat: Cat, depth: u32) -> Parsed
+pub(crate) fn part(s: &[u8], at: usize, cat: Cat, depth: u32) -> Parsed
     ensures { λ r. ⌜ r ≡ scan depth cat (now (s .entry)) at ⌝ }
 {
     if !is_open(at8(s, at)) {

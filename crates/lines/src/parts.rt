@@ -8,7 +8,7 @@ use crate::bytes::class_of;
 use crate::bytes::is_space;
 
 // The ends of the parts behind a head, where there are at most four.
-pub enum Operands {
+enum Operands {
     Zero,
     One(usize),
     Two(usize, usize),

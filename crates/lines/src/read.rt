@@ -11,7 +11,6 @@ use crate::bytes::is_open;
 use crate::bytes::is_space;
 use crate::keys;
 use crate::parse::Cat;
-use crate::parse::EACH_NAME;
 use crate::parse::NAMES;
 use crate::parse::Number;
 use crate::parse::Parsed;
@@ -19,14 +18,14 @@ use crate::parse::number_at;
 use crate::parse::part;
 use crate::parse::word_at;
 
-pub const TEXT: usize = 32768;
+pub(crate) const TEXT: usize = 32768;
 
-pub const MODULES: u32 = 32;
+pub(crate) const MODULES: u32 = 32;
 
-pub const DEPTH: u32 = 32;
+pub(crate) const DEPTH: u32 = 32;
 
 // What a line is: its lowest fault, or what it adds, with the place of its line feed.
-pub enum Step {
+pub(crate) enum Step {
     Fault(u32),
     Module(usize),
     Kind(usize, usize),
@@ -129,7 +128,7 @@ fn module_step(n: Number, modules: u32, feed: usize) -> Step
     }
 }
 
-fn kind_step(n: Number, seen: &[u8; EACH_NAME], feed: usize) -> Step
+fn kind_step(n: Number, seen: &[u8], feed: usize) -> Step
     ensures { λ r. ⌜ r ≡ kindStep n (now (seen .entry)) feed ⌝ }
 {
     match n {
@@ -139,7 +138,7 @@ fn kind_step(n: Number, seen: &[u8; EACH_NAME], feed: usize) -> Step
                 return Step::Fault(5);
             }
             let name = value as usize;
-            if seen[name] != 0 {
+            if at8(seen, name) != 0 {
                 return Step::Fault(7);
             }
             Step::Kind(feed, name)
@@ -148,14 +147,7 @@ fn kind_step(n: Number, seen: &[u8; EACH_NAME], feed: usize) -> Step
 }
 
 // A line that is well written and in range, by its head.
-fn head_step(
-    s: &[u8],
-    at: usize,
-    feed: usize,
-    modules: u32,
-    items: bool,
-    seen: &[u8; EACH_NAME],
-) -> Step
+fn head_step(s: &[u8], at: usize, feed: usize, modules: u32, items: bool, seen: &[u8]) -> Step
     ensures { λ r. ⌜ r ≡ headStep (now (s .entry)) at feed modules items (now (seen .entry)) ⌝ }
 {
     let w = word_at(s, at);
@@ -182,7 +174,7 @@ fn head_step(
 }
 
 // The line that starts at a position.
-pub fn line_step(s: &[u8], at: usize, modules: u32, items: bool, seen: &[u8; EACH_NAME]) -> Step
+pub(crate) fn line_step(s: &[u8], at: usize, modules: u32, items: bool, seen: &[u8]) -> Step
     ensures { λ r. ⌜ r ≡ lineStep (now (s .entry)) at modules items (now (seen .entry)) ⌝ }
 {
     if !is_open(at8(s, at)) {

@@ -3,7 +3,9 @@ ghost use mathlib.Core.Path.{_≡_};
 ghost use Prim.Native.Nat.{_+_, _*_, _<_};
 ghost use lib.ListN.{length, replicate};
 ghost use Rattle.lines.specs.Tables.{secondBehind, secondKey, flagOf, entries, marked};
-ghost use Rattle.lines.specs.Pass.{at-first-line, at-fault, behind-module, behind-line, Standing, step-at, behind, kinds-behind, mods-behind, answer-of};
+ghost use Rattle.lines.specs.Pass.{at-first-line, at-fault, behind-module, behind-line, Standing, step-at, behind, seen-behind, kinds-behind, mods-behind, answer-of, fault-row};
+ghost use Rattle.lines.specs.Read.{step-number};
+ghost use Rattle.lines.specs.Verdict.{number-of, line-of};
 use crate::bytes::at8;
 use crate::bytes::is_open;
 use crate::bytes::is_space;
@@ -75,14 +77,13 @@ fn mark(mods: &mut [u32], m: usize, first: u32, end: u32)
 }
 
 // Where the reading stands: where the next line begins and which row it is, how many modules there are, whether the last of them
-// has an item, where its items begin so far, which names have a kind in it, and the fault that ended the reading, or 0.
-pub struct Progress {
+// has an item, where its items begin so far, and the fault that ended the reading, or 0.
+pub(crate) struct Progress {
     pub next: usize,
     pub row: u32,
     pub modules: u32,
     pub items: bool,
     pub first: u32,
-    pub seen: [u8; EACH_NAME],
     pub fault: u32,
 }
 
@@ -95,7 +96,6 @@ pub(crate) fn start() -> Progress
         modules: 0,
         items: false,
         first: 0,
-        seen: [0u8; EACH_NAME],
         fault: 0,
     }
 }
@@ -104,19 +104,17 @@ pub(crate) fn start() -> Progress
 fn stopped(p: Progress, end: usize, fault: u32) -> Progress
     ensures { λ r. ⌜ r ≡ at-fault p end fault ⌝ }
 {
-    let seen = p.seen;
     Progress {
         next: end,
         row: p.row,
         modules: p.modules,
         items: p.items,
         first: p.first,
-        seen,
         fault,
     }
 }
 
-// A module has no item and no kinds yet.
+// A module has no item yet.
 fn behind_module(p: Progress, next: usize, first: u32) -> Progress
     requires { ⌜ p .row < 32769 ⌝ }
     requires { ⌜ p .modules < 32 ⌝ }
@@ -128,15 +126,14 @@ fn behind_module(p: Progress, next: usize, first: u32) -> Progress
         modules: p.modules + 1,
         items: false,
         first,
-        seen: [0u8; EACH_NAME],
         fault: 0,
     }
 }
 
 // Another line of the last module.
-fn behind_line(p: Progress, next: usize, items: bool, first: u32, seen: [u8; EACH_NAME]) -> Progress
+fn behind_line(p: Progress, next: usize, items: bool, first: u32) -> Progress
     requires { ⌜ p .row < 32769 ⌝ }
-    ensures { λ r. ⌜ r ≡ behind-line p next items first seen ⌝ }
+    ensures { λ r. ⌜ r ≡ behind-line p next items first ⌝ }
 {
     Progress {
         next,
@@ -144,31 +141,33 @@ fn behind_line(p: Progress, next: usize, items: bool, first: u32, seen: [u8; EAC
         modules: p.modules,
         items,
         first,
-        seen,
         fault: 0,
     }
 }
 
-// The line at a position: what it adds is entered into the tables.
+// The line at a position: what it adds is entered into the tables. `seen` has the names with a kind in the last module.
 pub(crate) fn enter_line(
     text: &[u8],
     at: usize,
     p: Progress,
+    seen: &mut [u8],
     kinds: &mut [u8],
     mods: &mut [u32],
 ) -> Progress
-    requires { ⌜ Standing (now text) at p (now kinds) (now mods) ⌝ }
-    ensures { λ r. ⌜ (r ≡ behind (step-at (now (text .entry)) at p) (now (text .entry)) p)
-        × ((now (kinds .exit) ≡ kinds-behind (step-at (now (text .entry)) at p) (now (text .entry)) at p (now (kinds .entry)))
-        × (now (mods .exit) ≡ mods-behind (step-at (now (text .entry)) at p) (now (text .entry)) at p (now (mods .entry)))) ⌝ }
+    requires { ⌜ Standing (now text) at p (now seen) (now kinds) (now mods) ⌝ }
+    ensures { λ r. ⌜ (r ≡ behind (step-at (now (text .entry)) at p (now (seen .entry))) (now (text .entry)) p)
+        × ((now (seen .exit) ≡ seen-behind (step-at (now (text .entry)) at p (now (seen .entry))) (now (seen .entry)))
+        × ((now (kinds .exit) ≡ kinds-behind (step-at (now (text .entry)) at p (now (seen .entry))) (now (text .entry)) at p (now (kinds .entry)))
+        × ((now (mods .exit) ≡ mods-behind (step-at (now (text .entry)) at p (now (seen .entry))) (now (text .entry)) at p (now (mods .entry)))
+        × (r .fault ≡ step-number (step-at (now (text .entry)) at p (now (seen .entry))))))) ⌝ }
 {
-    let seen = p.seen;
-    match line_step(text, at, p.modules, p.items, &seen) {
+    match line_step(text, at, p.modules, p.items, seen) {
         Step::Fault(k) => stopped(p, text.len(), k),
         Step::Module(feed) => {
             let flag = flag_of(second_key(text, at));
             let first = (feed + 1) as u32;
             enter(mods, p.modules as usize, flag, first);
+            clear_bytes(seen);
             behind_module(p, feed + 1, first)
         }
         Step::Kind(feed, name) => {
@@ -177,25 +176,24 @@ pub(crate) fn enter_line(
             let first = (feed + 1) as u32;
             kinds[m * EACH_NAME + name] = k;
             mark(mods, m, first, first);
-            let mut names = seen;
-            names[name] = 1;
-            behind_line(p, feed + 1, p.items, first, names)
+            seen[name] = 1;
+            behind_line(p, feed + 1, p.items, first)
         }
         Step::Val(feed) => {
             let first = (feed + 1) as u32;
             mark(mods, (p.modules - 1) as usize, first, first);
-            behind_line(p, feed + 1, p.items, first, seen)
+            behind_line(p, feed + 1, p.items, first)
         }
         Step::Item(feed) => {
             mark(mods, (p.modules - 1) as usize, p.first, (feed + 1) as u32);
-            behind_line(p, feed + 1, true, p.first, seen)
+            behind_line(p, feed + 1, true, p.first)
         }
     }
 }
 
 // What was found once nothing is left to read.
 pub(crate) fn answer(p: Progress) -> Verdict
-    ensures { λ r. ⌜ r ≡ answer-of p ⌝ }
+    ensures { λ r. ⌜ (r ≡ answer-of p) × ((number-of r ≡ p .fault) × (line-of r ≡ fault-row p)) ⌝ }
 {
     if p.fault == 0 {
         return Verdict::Formed(p.modules);
@@ -203,7 +201,7 @@ pub(crate) fn answer(p: Progress) -> Verdict
     Verdict::Refused(p.fault, p.row)
 }
 
-pub(crate) fn clear_kinds(s: &mut [u8])
+pub(crate) fn clear_bytes(s: &mut [u8])
     ensures { λ r. ⌜ now (s .exit) ≡ replicate (length (now (s .entry))) 0 ⌝ }
 {
     let mut i = 0;

@@ -45,7 +45,7 @@ pub enum Node {
 }
 
 // How many digits a number has.
-pub fn count_number(n: u32) -> usize
+fn count_number(n: u32) -> usize
     ensures { λ r. ⌜ (r ≡ length (show-number n)) × (r ≤ 10) ⌝ }
 {
     let mut k: usize = 1;

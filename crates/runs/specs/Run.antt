@@ -1,6 +1,6 @@
 -- Runs of items as bytes: the items of a module, or those inside a `repeat`, `then` or `else`. A run begins with the byte before its
 -- first item; one byte stands between two items and one behind the last: the line feeds of the lines of a module, or the spaces and
--- the last bracket of a form. 01: The line.
+-- the last bracket of a form. 01: The line; Refused because of the text.
 -- To a reader: definitions that contracts of this and other crates cite; each such contract is proved; check_drivers' own promise cites none of them.
 use mathlib.Core.Path.{_≡_}
 use mathlib.Core.Bool.{true, false}

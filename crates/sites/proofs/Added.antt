@@ -135,7 +135,7 @@ pub added-by : {r r′ : Stored} {l l′ : List ℕ} → r ≡ r′ → l ≡ l�
 added-by p q = λ i. added (p i) (own-of (q i))
 
 -- the numbers of an extent and of a misuse mean it
-extent-read : (e : Extent) → extent-from (getD (extent-numbers e) 0 0) (getD (extent-numbers e) 1 0) (getD (extent-numbers e) 2 0) ≡ extent-of e
+pub extent-read : (e : Extent) → extent-from (getD (extent-numbers e) 0 0) (getD (extent-numbers e) 1 0) (getD (extent-numbers e) 2 0) ≡ extent-of e
 unfolding extent-from
 extent-read extent.Whole = refl
 extent-read (extent.Range l h) = refl

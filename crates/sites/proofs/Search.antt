@@ -8,13 +8,12 @@ use native.Mathlib.Omega.{arith}
 use native.Mathlib.Numerals.{add-one}
 use lib.ListN.{length, getD, set}
 use Rattle.spec.specs.Site.{Site, Extent, meets, meets-any, first-conflict}
-use Rattle.sites.specs.declared.Extent as declared-extent
-use Rattle.sites.specs.declared.Extent.the-variants as extent
 use Rattle.sites.specs.declared.Site as declared
-use Rattle.sites.specs.Own.{run, extent-from, extent-of, site-of}
+use Rattle.sites.specs.Own.{run, site-of, extent-numbers}
+use Rattle.sites.proofs.Added.{extent-read}
 use Rattle.sites.proofs.Rows.{run-step, run-end, run-all}
 use Rattle.sites.specs.declared.records.Record.{Record}
-use Rattle.sites.specs.Run.{site-in, sites-in, coded, record-of}
+use Rattle.sites.specs.Run.{site-in, sites-in, record-of}
 
 -- a record that is in no run
 abbrev pub blank : Record
@@ -24,16 +23,14 @@ blank = record { name = 0; code = 0; low = 0; high = 0; start = 0 }
 abbrev pub site-at : List Record → ℕ → Site
 site-at rs i = site-in (getD rs i blank)
 
--- the record of a site stands for the site
-coded-stands : (n start : ℕ) (e : declared-extent.Extent) → _≡_ {A = Site} (site-in (coded n start e)) (record { name = n; extent = extent-of e; start = start })
-unfolding extent-from
-coded-stands n start extent.Whole = refl
-coded-stands n start (extent.Range l h) = refl
-coded-stands n start extent.Dynamic = refl
-coded-stands n start extent.Unknown = refl
+-- the record of a site, by the three numbers of its extent
+pub record-made : (s : declared.Site) {code low high : ℕ} → code ∷ low ∷ high ∷ [] ≡ extent-numbers (s .extent)
+    → _≡_ {A = Record} (record { name = s .name; code = code; low = low; high = high; start = s .start }) (record-of s)
+record-made s q = λ i. record { name = s .name; code = getD (q i) 0 0; low = getD (q i) 1 0; high = getD (q i) 2 0; start = s .start }
 
+-- it stands for the site
 pub stands : (s : declared.Site) → site-in (record-of s) ≡ site-of s
-stands s = coded-stands (s .name) (s .start) (s .extent)
+stands s = λ i. record { name = s .name; extent = extent-read (s .extent) i; start = s .start }
 
 -- a record is stored: its site stands there, and every other stays
 pub sites-set : (rs : List Record) (i : ℕ) (r : Record) → sites-in (set rs i r) ≡ set (sites-in rs) i (site-in r)

@@ -224,7 +224,7 @@ own-of own =
       conflicts = items conflict-from conflict-table own;
     }
 
--- 01, Refused because of the state, 20: a working limit is passed; 0 where there is room
+-- 01, Refused because of the state: 20 where a working limit is passed; 0 where there is room
 abbrev pub number-of : Stored → ℕ
 number-of stored.Done = 0
 number-of stored.Full = 20
@@ -291,7 +291,7 @@ add-mem x o = record { sites = o .sites; pairs = o .pairs; outputs = o .outputs;
 unfoldable pub add-misuse : Misused → Own → Own
 add-misuse x o = record { sites = o .sites; pairs = o .pairs; outputs = o .outputs; regs = o .regs; mems = o .mems; misuses = first-kept (λ p. p .name) x (o .misuses); conflicts = o .conflicts }
 
--- 01, The site: an extent as three numbers, as extent-from reads them
+-- 01, The site: an extent as three numbers, code, low and high, as extent-from reads them
 abbrev pub extent-numbers : Extent → List ℕ
 extent-numbers extent.Whole = 0 ∷ 0 ∷ 0 ∷ []
 extent-numbers (extent.Range l h) = 1 ∷ l ∷ h ∷ []

@@ -4,13 +4,11 @@ use mathlib.Core.Path.{_≡_}
 use mathlib.Core.Bool.{Bool, true, false}
 use mathlib.Core.List.{List, [], _∷_}
 use Prim.Native.Nat.{ℕ, _≤_}
-use lib.ListN.{length}
+use lib.ListN.{length, getD}
 use Rattle.spec.specs.Site as site
-use Rattle.sites.specs.Own.{extent-from, found-of, own-of, places, rows-in, site-table}
+use Rattle.sites.specs.Own.{extent-from, extent-numbers, found-of, own-of, places, rows-in, site-table}
 use Rattle.sites.specs.declared.Found.{Found}
 use Rattle.sites.specs.declared.Found.the-variants as found
-use Rattle.sites.specs.declared.Extent.{Extent}
-use Rattle.sites.specs.declared.Extent.the-variants as extent
 use Rattle.sites.specs.declared.Site.{Site}
 use Rattle.sites.specs.declared.Stored.{Stored}
 use Rattle.sites.specs.declared.Stored.the-variants as stored
@@ -29,20 +27,10 @@ unfoldable pub sites-in : List Record → List site.Site
 sites-in [] = []
 sites-in (r ∷ rs) = site-in r ∷ sites-in rs
 
--- 01, The site: a record by its name and START, and its extent in three numbers.
-abbrev pub record-by : ℕ → ℕ → ℕ → ℕ → ℕ → Record
-record-by n s code low high = record { name = n; code = code; low = low; high = high; start = s }
-
--- 01, The site: Whole, Range, Dynamic or Unknown, in numbers.
-abbrev pub coded : ℕ → ℕ → Extent → Record
-coded n s extent.Whole = record-by n s 0 0 0
-coded n s (extent.Range l h) = record-by n s 1 l h
-coded n s extent.Dynamic = record-by n s 2 0 0
-coded n s extent.Unknown = record-by n s 3 0 0
-
--- 01, The site: the record of a site.
+-- 01, The site: the record of a site, its extent in the same three numbers as in a row of the tables.
 abbrev pub record-of : Site → Record
-record-of s = coded (s .name) (s .start) (s .extent)
+record-of s =
+    let e = extent-numbers (s .extent) in record { name = s .name; code = getD e 0 0; low = getD e 1 0; high = getD e 2 0; start = s .start }
 
 -- 01, The site: a site is stored where there is room.
 abbrev pub stored-by : Bool → Stored

@@ -18,11 +18,11 @@ ghost use Rattle.spec.specs.Block.{has-pair, block-count};
 ghost use Rattle.sites.specs.Own.{extent-of, site-of, misuse-of, extent-from, misuse-from, pair-from, row, rows-in, pair-table, site-table, site-from, found-of, value-of, blocks-by, cover-by, range-test, unmarked-from, within, Marked, conflict-of, conflict-row, conflict-rows, conflict-table, conflict-step, with-conflicts, poisoned-names, misuse-poison, row-names, skip-at, site-row, NextSite, Front, table, Shape, pushed, push-answer, first-row, places, run, own-of, added, row-added, pair-row-added, first-added, site-numbers, extent-numbers, misuse-number, add-site, add-pair, add-output, add-reg, add-mem, add-misuse, names, reg-table, mem-table, port-table, misuse-table, storage-of, storage-from, port-of, port-from, misused-of, misused-from};
 
 // How many names there are at most.
-pub const NAMES: usize = 256;
+const NAMES: usize = 256;
 
-pub const SITE_LIMIT: usize = 1024;
+const SITE_LIMIT: usize = 1024;
 
-pub const PAIR_LIMIT: usize = 512;
+const PAIR_LIMIT: usize = 512;
 
 const SITES: usize = 8;
 
@@ -343,7 +343,7 @@ fn site_at(own: &[u32], i: usize) -> Site
 }
 
 // Whether two extents have a bit in common, as far as that is known.
-pub fn meets(a: Extent, b: Extent) -> bool
+fn meets(a: Extent, b: Extent) -> bool
     ensures { λ r. ⌜ r ≡ site.meets (extent-of a) (extent-of b) ⌝ }
 {
     match a {

@@ -14,47 +14,25 @@ use crate::Site;
 use crate::Stored;
 
 // A site in numbers. The code is 0 for Whole, 1 for Range, 2 for Dynamic; every other is Unknown.
-pub struct Record {
-    pub name: u32,
-    pub code: u32,
-    pub low: u32,
-    pub high: u32,
-    pub start: u32,
+pub(crate) struct Record {
+    name: u32,
+    code: u32,
+    low: u32,
+    high: u32,
+    start: u32,
 }
 
 fn record_of(s: Site) -> Record
     ensures { λ r. ⌜ r ≡ record-of s ⌝ }
 {
     let e = s.extent;
-    match e {
-        Extent::Whole => Record {
-            name: s.name,
-            code: 0,
-            low: 0,
-            high: 0,
-            start: s.start,
-        },
-        Extent::Range { low, high } => Record {
-            name: s.name,
-            code: 1,
-            low,
-            high,
-            start: s.start,
-        },
-        Extent::Dynamic => Record {
-            name: s.name,
-            code: 2,
-            low: 0,
-            high: 0,
-            start: s.start,
-        },
-        Extent::Unknown => Record {
-            name: s.name,
-            code: 3,
-            low: 0,
-            high: 0,
-            start: s.start,
-        },
+    let x = crate::extent_code(e);
+    Record {
+        name: s.name,
+        code: x.code,
+        low: x.low,
+        high: x.high,
+        start: s.start,
     }
 }
 
@@ -98,7 +76,7 @@ fn clash(earlier: Record, later: Site) -> bool
 }
 
 // The record of the site stands at i afterwards, and every other stays. Past the end there is no room, and all stay.
-pub fn store_site(records: &mut [Record], i: usize, s: Site) -> Stored
+pub(crate) fn store_site(records: &mut [Record], i: usize, s: Site) -> Stored
     ensures { λ r. ⌜ (now (records .exit) ≡ set (now (records .entry)) i (record-of s))
         × (sites-in (now (records .exit)) ≡ set (sites-in (now (records .entry))) i (site-of s))
         × (r ≡ stored-by (ltb i (length (now (records .entry))))) ⌝ }
@@ -112,7 +90,7 @@ pub fn store_site(records: &mut [Record], i: usize, s: Site) -> Stored
 }
 
 // The START of the first later record that meets an earlier one, in a run of one name's sites.
-pub fn first_conflict(records: &[Record]) -> Found
+pub(crate) fn first_conflict(records: &[Record]) -> Found
     ensures { λ r. ⌜ found-of r ≡ site.first-conflict [] (sites-in (now (records .entry))) ⌝ }
 {
     let mut found = Found::Nothing;
@@ -134,7 +112,7 @@ pub fn first_conflict(records: &[Record]) -> Found
 
 // The START of the first later site of a name that meets an earlier one, in a table of at most 1,024 sites, which every table is: the name's
 // sites are stored in a run of records, in order, and the search goes over those. Of a table of another length it finds nothing.
-pub fn conflict_of_name(own: &[u32], name: u32) -> Found
+pub(crate) fn conflict_of_name(own: &[u32], name: u32) -> Found
     ensures { λ r. ⌜ NameConflict 1024 name (now (own .entry)) r ⌝ }
 {
     let mut records = [Record {
@@ -156,7 +134,7 @@ pub fn conflict_of_name(own: &[u32], name: u32) -> Found
 }
 
 // The same in a table of at most 64 sites; no later row is looked at. Fewer records are sooner cleared.
-pub fn conflict_of_few(own: &[u32], name: u32) -> Found
+pub(crate) fn conflict_of_few(own: &[u32], name: u32) -> Found
     ensures { λ r. ⌜ NameConflict 64 name (now (own .entry)) r ⌝ }
 {
     let mut records = [Record {

@@ -1,6 +1,6 @@
 -- A working slice of which every place is 0, and what holds by a step's number. 01: Refused because of the state; Worthless checks; Forms for specific
 -- places.
--- To a reader: definitions to believe; contracts of consteval, graph, edges, items, collect and drivers cite them.
+-- To a reader: definitions to believe; contracts of consteval, graph, items, collect and drivers cite them.
 use mathlib.Core.Path.{_≡_}
 use mathlib.Core.Bool.{Bool, true, false}
 use mathlib.Core.List.{List}

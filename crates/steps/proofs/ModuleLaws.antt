@@ -18,13 +18,12 @@ use Rattle.spec.specs.Value.{Value, known, missing, outside, Names, value, Tabl
 use Rattle.spec.proofs.Nodes.{and-parts}
 use Rattle.spec.proofs.Numbers.{Digits, number-digits}
 use Rattle.spec.proofs.Shown.{AllIn, decode-show-line, show-line-set}
-use Rattle.consteval.specs.Worth.{pairs, names-of}
+use Rattle.consteval.specs.Worth.{pairs, names-of, refused-if}
 use Rattle.consteval.specs.Fill.{Filling, filling, fill-of, headers-of, items-of, module-of, all-in-range, Right}
 use Rattle.consteval.specs.declared.fill.Filled.{Filled}
 use Rattle.consteval.specs.declared.fill.Filled.the-variants as filled
 use Rattle.consteval.proofs.TableLaws.{fills}
 use Rattle.runs.specs.Text.{header-in-range, ModuleAt, items-run}
-use Rattle.steps.specs.Steps.{refused-if}
 use Rattle.steps.specs.Modules.{name-places, header-part, items-part, to-named, module-fill, named-by, table-by, NamesAre}
 use Rattle.steps.specs.declared.modules.Named.{Named}
 
@@ -230,7 +229,7 @@ module _ {text : Bytes} {mods : List ℕ} {m : ℕ} {k : Module} (at : ModuleAt 
   pub module-right : (names : List ℕ) → Right (module-fill text mods m names .answer) (module-fill text mods m names .table) (name-table (own-vals k) k)
   module-right names =
       subst (λ (j : Module). Right (module-fill text mods m names .answer) (module-fill text mods m names .table) (name-table (own-vals j) j)) module-is
-      (fills .right (k .bound) header items names (ap all-in-range header-lines-are ∙ header-all (k .header) (at .header-ranged)) (ap all-in-range item-lines-are ∙ items-all (k .items) (at .ranged)))
+      (fills header items names (k .bound) (ap all-in-range header-lines-are ∙ header-all (k .header) (at .header-ranged)) (ap all-in-range item-lines-are ∙ items-all (k .items) (at .ranged)))
 
 -- ---- one law for each way of the code
 

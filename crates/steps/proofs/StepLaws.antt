@@ -5,7 +5,7 @@ use mathlib.Core.Path.{_≡_, refl, sym, _∙_, ap, subst}
 use mathlib.Core.Bool.{Bool, true, false, _||_}
 use Prim.Native.Nat.{ℕ, zero, suc, _+_, _-_, _≤_, _<_, min}
 use native.Mathlib.Omega.{arith}
-use lib.Dec.{eqb, ltb}
+use lib.Dec.{eqb, ltb, leb}
 use lib.IntN.{ℤ, pos, negsuc, negℤ, _+ℤ_, _-ℤ_}
 use lib.ListN.{length}
 use borrow.Author.Tests.{lt-ltb, le-ltb, ltb-true, ltb-false, le-leb, lt-leb, eq-eqb, ne-eqb}
@@ -17,14 +17,14 @@ use Rattle.spec.proofs.Numbers.{number-show}
 use Rattle.spec.proofs.Shown.{expr-shown}
 use Rattle.lines.specs.Parts.{part-end, piece, next-end}
 use Rattle.lines.proofs.PartLaws.{part-end-le, piece-over, piece-rest, piece-in}
-use Rattle.consteval.specs.Worth.{signed, worth, biased}
+use Rattle.consteval.specs.Worth.{signed, worth, biased, refused-if}
 use Rattle.consteval.specs.declared.Value.{Value as Answer}
 use Rattle.consteval.specs.declared.Value.the-variants.{Known, Missing, Outside}
 use Rattle.consteval.proofs.ArithLaws.{signed-low, signed-high, zero-test}
 use Rattle.runs.specs.Run.{head-end, first-end, second-end, third-end, ShowsItem}
 use Rattle.runs.proofs.Inside.{in-repeat, in-const-if}
 use Rattle.walk.specs.Walk.{takes-then}
-use Rattle.steps.specs.Steps.{refused-if, end-within, body-at, Way, never, once, rounds, way-by, way, times-way, times-by, value-between, times-of, RoundsFit, TimesAre, run-behind, chosen-by, branch-of, chosen-number, BranchIs, ChosenIs}
+use Rattle.steps.specs.Steps.{end-within, body-at, Way, never, once, rounds, way-by, way, times-way, times-by, times-number, value-between, low-value, high-value, bounds-number, times-of, RoundsFit, TimesAre, run-behind, chosen-by, condition-value, condition-number, branch-of, chosen-number, BranchIs, ChosenIs}
 use Rattle.steps.specs.declared.Times.{Times}
 use Rattle.steps.specs.declared.Times.the-variants as times
 use Rattle.steps.specs.declared.Chosen.{Chosen}
@@ -105,11 +105,29 @@ biased-signed l = go (ltb l 2147483648) refl
     go true p = let u = ltb-true l 2147483648 p in let z : 2147483648 - suc (2147483648 - suc l) ≡ l = omega arith in rw (signed-low l u) z
     go false p = let u = ltb-false l 2147483648 p in let z : l - 2147483648 + 2147483648 ≡ l = omega arith in rw (signed-high l u) z
 
+-- the number of the answer: 20 where a bound is outside INT
+times-refused : (left n : ℕ) (low high : Value) → times-number (times-by left n low high) ≡ refused-if (is-outside low || is-outside high)
+unfolding times-by
+times-refused left n low high = go (is-outside low || is-outside high) (way left low high)
+  where
+    pick : (t : Bool) (v count : ℕ) → times-number (elim t as (λ _. Times) [ true ↦ times.Once | false ↦ times.Rounds n v count ]) ≡ 0
+    pick true v count = refl
+    pick false v count = refl
+
+    go : (o : Bool) (w : Way) → times-number (elim o as (λ _. Times) [ true ↦ times.Outside | false ↦ times-way n w ]) ≡ refused-if o
+    go true w = refl
+    go false never = refl
+    go false once = refl
+    go false (rounds z count) = pick (ltb 4294967295 n) (biased z) count
+
 -- ---- one law for each way of `way_of`
 
 module _ (n left : ℕ) (a b : Answer) where
   abbrev Answers : Times → Type 0
-  Answers r = (r ≡ times-by left n (worth a) (worth b)) × RoundsFit r (worth a)
+  Answers r = (r ≡ times-by left n (worth a) (worth b)) × (RoundsFit r (worth a) × (times-number r ≡ refused-if (is-outside (worth a) || is-outside (worth b))))
+
+  answers : (r : Times) → r ≡ times-by left n (worth a) (worth b) → RoundsFit r (worth a) → Answers r
+  answers r p f = (p, (f, ap times-number p ∙ times-refused left n (worth a) (worth b)))
 
   -- neither bound is outside INT
   by-way : is-outside (worth a) || is-outside (worth b) ≡ false → (w : Way) → way left (worth a) (worth b) ≡ w → times-way n w ≡ times-by left n (worth a) (worth b)
@@ -119,7 +137,7 @@ module _ (n left : ℕ) (a b : Answer) where
 
   pub low-outside : a ≡ Outside → Answers times.Outside
   unfolding times-by
-  low-outside e = (rw (e, times-by), tt)
+  low-outside e = answers times.Outside (rw (e, times-by)) tt
 
   module _ {l : ℕ} (e : a ≡ Known l) where
     module _ {h : ℕ} (f : b ≡ Known h) where
@@ -134,7 +152,7 @@ module _ (n left : ℕ) (a b : Answer) where
           ap (way-by left (signed l)) (minus-high l h m ∙ ap pos (let z : h - l ≡ 0 = omega arith in z))
 
       pub way-never : h ≤ l → Answers times.Never
-      way-never k = (by-way (rw (e, f)) never (by-difference never (not-above (ltb h l) refl k)), tt)
+      way-never k = answers times.Never (by-way (rw (e, f)) never (by-difference never (not-above (ltb h l) refl k))) tt
 
       above : (d : ℕ) → 0 < d → (c : Bool) → ltb left d ≡ c → way-by left (signed l) (pos d) ≡ elim c as (λ _. Way) [ true ↦ once | false ↦ rounds (signed l) d ]
       above zero k c q = absurd (omega arith)
@@ -144,7 +162,7 @@ module _ (n left : ℕ) (a b : Answer) where
       high-way k c q = by-difference _ (ap (way-by left (signed l)) (minus-high l h (omega arith)) ∙ above (h - l) (omega arith) c q)
 
       pub way-once : l < h → left < h - l → Answers times.Once
-      way-once k m = (by-way (rw (e, f)) once (high-way k true (lt-ltb left (h - l) m)), tt)
+      way-once k m = answers times.Once (by-way (rw (e, f)) once (high-way k true (lt-ltb left (h - l) m))) tt
 
       -- in rounds, if the variable is a word
       in-rounds : l < h → h - l ≤ left → (t : Bool) → ltb 4294967295 n ≡ t
@@ -154,28 +172,28 @@ module _ (n left : ℕ) (a b : Answer) where
           ∙ by-way (rw (e, f)) (rounds (signed l) (h - l)) (high-way k false (le-ltb left (h - l) m))
 
       pub way-nameless : l < h → h - l ≤ left → 4294967295 < n → Answers times.Once
-      way-nameless k m o = (in-rounds k m true (lt-ltb 4294967295 n o), tt)
+      way-nameless k m o = answers times.Once (in-rounds k m true (lt-ltb 4294967295 n o)) tt
 
       pub way-rounds : l < h → h - l ≤ left → n ≤ 4294967295 → h < 4294967296 → Answers (times.Rounds n l (h - l))
       way-rounds k m o p =
-          (ap (λ (v : ℕ). times.Rounds n v (h - l)) (sym (biased-signed l)) ∙ in-rounds k m false (le-ltb 4294967295 n o), (rw e, omega arith))
+          answers (times.Rounds n l (h - l)) (ap (λ (v : ℕ). times.Rounds n v (h - l)) (sym (biased-signed l)) ∙ in-rounds k m false (le-ltb 4294967295 n o)) (rw e, omega arith)
 
     pub high-missing : b ≡ Missing → Answers times.Once
     unfolding way
-    high-missing f = (by-way (rw (e, f)) once (rw (e, f)), tt)
+    high-missing f = answers times.Once (by-way (rw (e, f)) once (rw (e, f))) tt
 
     pub high-outside : b ≡ Outside → Answers times.Outside
     unfolding times-by
-    high-outside f = (rw (e, f, times-by), tt)
+    high-outside f = answers times.Outside (rw (e, f, times-by)) tt
 
   module _ (e : a ≡ Missing) where
     pub low-missing : (is-outside (worth b) ≡ false) → Answers times.Once
     unfolding way
-    low-missing f = (by-way (rw (e, f)) once (rw e), tt)
+    low-missing f = answers times.Once (by-way (rw (e, f)) once (rw e)) tt
 
     pub both-outside : b ≡ Outside → Answers times.Outside
     unfolding times-by
-    both-outside f = (rw (e, f, times-by), tt)
+    both-outside f = answers times.Outside (rw (e, f, times-by)) tt
 
 -- ---- the parts of any bytes
 
@@ -245,6 +263,22 @@ module _ (x : Bytes) where
 value-is : (d : ℕ) (names : Names) {e : ℕ} {s t : Bytes} → e ≡ d - 1 → s ≡ t → value names (decode-expr e s) ≡ value names (decode-expr (d - 1) t)
 value-is d names {s = s} p q = ap (λ (n : ℕ). value names (decode-expr n s)) p ∙ ap (λ (y : Bytes). value names (decode-expr (d - 1) y)) q
 
+-- the number of the answer: 20 where the condition is outside INT
+run-number : (x : Bytes) (e : ℕ) → chosen-number (run-behind x e) ≡ 0
+run-number x e = go (leb (e + 5) (end-within x e))
+  where
+    go : (t : Bool) → chosen-number (elim t as (λ _. Chosen) [ true ↦ chosen.Run (e + 5) (end-within x e) | false ↦ chosen.Run (end-within x e) (end-within x e) ]) ≡ 0
+    go true = refl
+    go false = refl
+
+chosen-refused : (v : Value) (first second : Chosen) → chosen-number first ≡ 0 → chosen-number second ≡ 0 → chosen-number (chosen-by v first second) ≡ refused-if (is-outside v)
+chosen-refused v first second p q = go (is-outside v) (takes-then v)
+  where
+    go : (o t : Bool) → chosen-number (elim o as (λ _. Chosen) [ true ↦ chosen.Outside | false ↦ elim t as (λ _. Chosen) [ true ↦ first | false ↦ second ] ]) ≡ refused-if o
+    go true t = refl
+    go false true = p
+    go false false = q
+
 -- a variable that is no word is as good as the first number above the words
 variable-same : (left n : ℕ) (low high : Value) → times-by left (min n 4294967296) low high ≡ times-by left n low high
 unfolding times-by
@@ -284,50 +318,55 @@ module _ (x : Bytes) {h a b : ℕ} (qh : h ≡ end-within x 0) (qa : a ≡ end-w
       {t : Bytes} (qt : t ≡ piece x a b) (low : Answer) (ql : worth low ≡ value names (decode-expr e t))
       {u : Bytes} (qu : u ≡ piece x b c) (high : Answer) (qg : worth high ≡ value names (decode-expr e u)) where
     pub times-found : (r : Times) → r ≡ times-by left v (worth low) (worth high) → RoundsFit r (worth low)
-        → (r ≡ times-of x d names left) × RoundsFit r (value-between x (first-end x) (second-end x) d names)
+        → (r ≡ times-of x d names left) × (RoundsFit r (low-value x d names) × (times-number r ≡ bounds-number x d names))
     unfolding times-of
     times-found r p f =
-        let zl : worth low ≡ value-between x (first-end x) (second-end x) d names =
-        ql ∙ value-is d names qe (qt ∙ piece-same x (first-end x) (second-end x) first-found second-found) in
-        let zg : worth high ≡ value-between x (second-end x) (third-end x) d names =
-        qg ∙ value-is d names qe (qu ∙ piece-same x (second-end x) (third-end x) second-found (body-found qc)) in
-        let zs : number s ≡ number (piece x (head-end x) (first-end x)) = ap number (qs ∙ piece-same x (head-end x) (first-end x) qh first-found) in (
-          p ∙ ap (λ (n : ℕ). times-by left n (worth low) (worth high)) (qv ∙ ap (λ (n : ℕ). min n 4294967296) zs)
-              ∙ variable-same left (number (piece x (head-end x) (first-end x))) (worth low) (worth high)
-              ∙ ap (λ (y : Value). times-by left (number (piece x (head-end x) (first-end x))) y (worth high)) zl
-              ∙ ap (λ (y : Value). times-by left (number (piece x (head-end x) (first-end x))) (value-between x (first-end x) (second-end x) d names) y) zg,
-          subst (λ (y : Value). RoundsFit r y) zl f,
+        let zl : worth low ≡ low-value x d names = ql ∙ value-is d names qe (qt ∙ piece-same x (first-end x) (second-end x) first-found second-found) in
+        let zg : worth high ≡ high-value x d names = qg ∙ value-is d names qe (qu ∙ piece-same x (second-end x) (third-end x) second-found (body-found qc)) in
+        let zs : number s ≡ number (piece x (head-end x) (first-end x)) = ap number (qs ∙ piece-same x (head-end x) (first-end x) qh first-found) in
+        let q : r ≡ times-of x d names left =
+        p ∙ ap (λ (n : ℕ). times-by left n (worth low) (worth high)) (qv ∙ ap (λ (n : ℕ). min n 4294967296) zs)
+        ∙ variable-same left (number (piece x (head-end x) (first-end x))) (worth low) (worth high)
+        ∙ ap (λ (y : Value). times-by left (number (piece x (head-end x) (first-end x))) y (worth high)) zl
+        ∙ ap (λ (y : Value). times-by left (number (piece x (head-end x) (first-end x))) (low-value x d names) y) zg in (
+          q,
+          (subst (λ (y : Value). RoundsFit r y) zl f, ap times-number q ∙ times-refused left (number (piece x (head-end x) (first-end x))) (low-value x d names) (high-value x d names)),
         )
 
   -- ---- one law for each way of `branch_of`
   module _ (d : ℕ) (names : Names) {e : ℕ} (qe : e ≡ d - 1) {s : Bytes} (qs : s ≡ piece x h a) (v : Answer) (qv : worth v ≡ value names (decode-expr e s)) where
-    by-value : (r : Chosen) → r ≡ chosen-by (worth v) (run-behind x (first-end x)) (run-behind x (second-end x)) → r ≡ branch-of x d names
+    abbrev Branched : Chosen → Type 0
+    Branched r = (r ≡ branch-of x d names) × (chosen-number r ≡ condition-number x d names)
+
+    by-value : (r : Chosen) → r ≡ chosen-by (worth v) (run-behind x (first-end x)) (run-behind x (second-end x)) → Branched r
     unfolding branch-of
     by-value r p =
+        let q : r ≡ branch-of x d names =
         p
         ∙ ap (λ (y : Value). chosen-by y (run-behind x (first-end x)) (run-behind x (second-end x)))
-        (qv ∙ value-is d names qe (qs ∙ piece-same x (head-end x) (first-end x) qh first-found))
+        (qv ∙ value-is d names qe (qs ∙ piece-same x (head-end x) (first-end x) qh first-found)) in
+        (q, ap chosen-number q ∙ chosen-refused (condition-value x d names) _ _ (run-number x (first-end x)) (run-number x (second-end x)))
 
     -- `then` is taken where the value is not 0
     not-zero : {y : ℕ} {t : Bool} → v ≡ Known y → eqb y 2147483648 ≡ t → takes-then (worth v) ≡ elim t as (λ _. Bool) [ true ↦ false | false ↦ true ]
     not-zero {y} f e = ap (λ (z : Answer). takes-then (worth z)) f ∙ ap (λ (z : Bool). elim z as (λ _. Bool) [ true ↦ false | false ↦ true ]) (zero-test y ∙ e)
 
-    then-taken : (r : Chosen) → r ≡ run-behind x a → is-outside (worth v) ≡ false → takes-then (worth v) ≡ true → r ≡ branch-of x d names
+    then-taken : (r : Chosen) → r ≡ run-behind x a → is-outside (worth v) ≡ false → takes-then (worth v) ≡ true → Branched r
     then-taken r q f g = by-value r (q ∙ run-same x (first-end x) first-found ∙ rw (f, g, chosen-by))
 
-    else-taken : (r : Chosen) → r ≡ run-behind x b → is-outside (worth v) ≡ false → takes-then (worth v) ≡ false → r ≡ branch-of x d names
+    else-taken : (r : Chosen) → r ≡ run-behind x b → is-outside (worth v) ≡ false → takes-then (worth v) ≡ false → Branched r
     else-taken r q f g = by-value r (q ∙ run-same x (second-end x) second-found ∙ rw (f, g, chosen-by))
 
-    pub zero-else : {y : ℕ} {r : Chosen} → v ≡ Known y → y ≡ 2147483648 → r ≡ run-behind x b → r ≡ branch-of x d names
+    pub zero-else : {y : ℕ} {r : Chosen} → v ≡ Known y → y ≡ 2147483648 → r ≡ run-behind x b → Branched r
     zero-else {y} {r} f z q = else-taken r q (rw f) (not-zero f (eq-eqb y 2147483648 z))
 
-    pub other-then : {y : ℕ} {r : Chosen} → v ≡ Known y → (y ≡ 2147483648 → ⊥) → r ≡ run-behind x a → r ≡ branch-of x d names
+    pub other-then : {y : ℕ} {r : Chosen} → v ≡ Known y → (y ≡ 2147483648 → ⊥) → r ≡ run-behind x a → Branched r
     other-then {y} {r} f z q = then-taken r q (rw f) (not-zero f (ne-eqb y 2147483648 z))
 
-    pub missing-else : {r : Chosen} → v ≡ Missing → r ≡ run-behind x b → r ≡ branch-of x d names
+    pub missing-else : {r : Chosen} → v ≡ Missing → r ≡ run-behind x b → Branched r
     missing-else {r} f q = else-taken r q (rw f) (rw f)
 
-    pub condition-outside : v ≡ Outside → chosen.Outside ≡ branch-of x d names
+    pub condition-outside : v ≡ Outside → Branched chosen.Outside
     condition-outside f = by-value chosen.Outside (rw f)
 
 -- ---- what the answers mean: a `repeat`

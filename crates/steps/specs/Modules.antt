@@ -7,11 +7,10 @@ use Prim.Native.Nat.{ℕ, _+_, _-_, _*_, _/_, _≤_}
 use lib.ListN.{length, getD, take, drop}
 use Rattle.spec.specs.Bytes.{Bytes}
 use Rattle.spec.specs.Value.{Table}
-use Rattle.consteval.specs.Worth.{names-of}
+use Rattle.consteval.specs.Worth.{names-of, refused-if}
 use Rattle.consteval.specs.Fill.{Filling, fill-of}
 use Rattle.consteval.specs.declared.fill.Filled.{Filled}
 use Rattle.consteval.specs.declared.fill.Filled.the-variants as filled
-use Rattle.steps.specs.Steps.{refused-if}
 use Rattle.steps.specs.declared.modules.Named.{Named}
 use Rattle.steps.specs.declared.modules.Named.the-variants.{Used, Outside}
 

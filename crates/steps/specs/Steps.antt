@@ -1,5 +1,5 @@
 -- What the walk over items needs to know of an item: what it is, how often a `repeat` runs, which branch a `constif` takes, and where
--- their bodies stand. 01: The collected item; The edge; Refused because of the state.
+-- their bodies stand. 01: The line; The value; The collected item; The edge; Refused because of the state.
 -- To a reader: definitions that contracts of this and other crates cite; each such contract is proved; check_drivers' own promise cites none of them.
 use mathlib.Core.Path.{_≡_}
 use mathlib.Core.Bool.{Bool, true, false, _||_}
@@ -12,7 +12,7 @@ use Rattle.spec.specs.Syntax.{Expr, Inst, Item, Items, port, wire, reg, mem, co
 use Rattle.spec.specs.Decode.{decode-expr}
 use Rattle.spec.specs.Value.{Value, known, missing, outside, Names, value, is-outside}
 use Rattle.lines.specs.Parts.{piece, next-end}
-use Rattle.consteval.specs.Worth.{signed, biased}
+use Rattle.consteval.specs.Worth.{signed, biased, refused-if}
 use Rattle.runs.specs.Run.{head-end, first-end, second-end, third-end, RunOf}
 use Rattle.walk.specs.Walk.{takes-then}
 use Rattle.steps.specs.declared.Head as H
@@ -21,11 +21,6 @@ use Rattle.steps.specs.declared.Times as T
 use Rattle.steps.specs.declared.Times.the-variants as times
 use Rattle.steps.specs.declared.Chosen as C
 use Rattle.steps.specs.declared.Chosen.the-variants as chosen
-
--- 01, Refused because of the state: 20 where this is so, and 0 where it is not
-abbrev pub refused-if : Bool → ℕ
-refused-if true = 20
-refused-if false = 0
 
 -- ---- 01, The collected item; The edge: what an item is
 
@@ -108,12 +103,18 @@ times-by left n low high = elim (is-outside low || is-outside high) [ true ↦ t
 abbrev pub value-between : Bytes → (before end depth : ℕ) → Names → Value
 value-between x before end depth names = value names (decode-expr (depth - 1) (piece x before end))
 
--- 01, The collected item; Refused because of the state: what the code answers for any bytes, as for a `repeat`: its variable is the first part
--- behind the head word, its bounds are the second and the third
+-- 01, The line; The value: the value of the low bound of any bytes, as of a `repeat`: of the second part behind the head word
+abbrev pub low-value : Bytes → (depth : ℕ) → Names → Value
+low-value x depth names = value-between x (first-end x) (second-end x) depth names
+
+-- 01, The line; The value: the value of their high bound: of the third part
+abbrev pub high-value : Bytes → (depth : ℕ) → Names → Value
+high-value x depth names = value-between x (second-end x) (third-end x) depth names
+
+-- 01, The collected item; Refused because of the state: what the code answers for any bytes, as for a `repeat`, whose variable is the first part
+-- behind the head word
 unfoldable pub times-of : Bytes → (depth : ℕ) → Names → (left : ℕ) → T.Times
-times-of x depth names left =
-    times-by left (number (piece x (head-end x) (first-end x)))
-    (value-between x (first-end x) (second-end x) depth names) (value-between x (second-end x) (third-end x) depth names)
+times-of x depth names left = times-by left (number (piece x (head-end x) (first-end x))) (low-value x depth names) (high-value x depth names)
 
 -- 01, The collected item: of rounds: v is the word that holds low, and v + count is a word
 abbrev pub RoundsFit : T.Times → (low : Value) → Type 0
@@ -122,7 +123,11 @@ RoundsFit times.Never low = Unit {0}
 RoundsFit times.Once low = Unit {0}
 RoundsFit (times.Rounds n v count) low = (low ≡ known (signed v)) × (v + count ≤ 4294967295)
 
--- 01, Refused because of the state: 20 where a bound of a `repeat` is outside INT
+-- 01, Refused because of the state: 20 where one of both bounds is outside INT, else 0
+abbrev pub bounds-number : Bytes → (depth : ℕ) → Names → ℕ
+bounds-number x depth names = refused-if (is-outside (low-value x depth names) || is-outside (high-value x depth names))
+
+-- 01, Refused because of the state: 20 where a bound of a `repeat` is outside INT, else 0
 abbrev pub times-number : T.Times → ℕ
 times-number times.Outside = 20
 times-number times.Never = 0
@@ -151,16 +156,24 @@ run-behind x e = elim (leb (e + 5) (end-within x e)) [ true ↦ chosen.Run (e + 
 abbrev pub chosen-by : Value → (first second : C.Chosen) → C.Chosen
 chosen-by v first second = elim (is-outside v) [ true ↦ chosen.Outside | false ↦ elim (takes-then v) [ true ↦ first | false ↦ second ] ]
 
--- 01, The collected item; Refused because of the state: what the code answers for any bytes, as for a `constif`: its condition is the first part
--- behind the head word, its branches are the second and the third
+-- 01, The line; The value: the value of the condition of any bytes, as of a `constif`: of the first part behind the head word
+abbrev pub condition-value : Bytes → (depth : ℕ) → Names → Value
+condition-value x depth names = value-between x (head-end x) (first-end x) depth names
+
+-- 01, The collected item; Refused because of the state: what the code answers for any bytes, as for a `constif`, whose branches are the second part
+-- behind the head word and the third
 unfoldable pub branch-of : Bytes → (depth : ℕ) → Names → C.Chosen
-branch-of x depth names = chosen-by (value-between x (head-end x) (first-end x) depth names) (run-behind x (first-end x)) (run-behind x (second-end x))
+branch-of x depth names = chosen-by (condition-value x depth names) (run-behind x (first-end x)) (run-behind x (second-end x))
+
+-- 01, Refused because of the state: 20 where the condition is outside INT, else 0
+abbrev pub condition-number : Bytes → (depth : ℕ) → Names → ℕ
+condition-number x depth names = refused-if (is-outside (condition-value x depth names))
 
 -- 01, The collected item: the branch that a `constif` takes, by the value of its condition
 abbrev pub taken : Value → Items → Items → Items
 taken v is js = elim (takes-then v) [ true ↦ is | false ↦ js ]
 
--- 01, Refused because of the state: 20 where the condition of a `constif` is outside INT
+-- 01, Refused because of the state: 20 where the condition of a `constif` is outside INT, else 0
 abbrev pub chosen-number : C.Chosen → ℕ
 chosen-number chosen.Outside = 20
 chosen-number (chosen.Run from to) = 0

@@ -4,9 +4,10 @@ use lines::numbers;
 use lines::parts;
 ghost use mathlib.Core.Path.{_≡_};
 ghost use Prim.Native.Nat.{_-_};
-ghost use Rattle.consteval.specs.Worth.{worth, names-of};
-ghost use Rattle.runs.specs.Run.{first-end, second-end};
-ghost use Rattle.steps.specs.Steps.{head-of, end-within, times-by, times-of, RoundsFit, value-between, body-at, run-behind, branch-of};
+ghost use mathlib.Core.Bool.{_||_};
+ghost use Rattle.spec.specs.Value.{is-outside};
+ghost use Rattle.consteval.specs.Worth.{worth, refused-if, names-of};
+ghost use Rattle.steps.specs.Steps.{head-of, end-within, times-by, times-of, times-number, RoundsFit, low-value, bounds-number, body-at, run-behind, branch-of, chosen-number, condition-number};
 
 pub mod modules;
 
@@ -74,6 +75,7 @@ pub enum Times {
 fn way_of(n: u64, low: Value, high: Value, left: u32) -> Times
     ensures { λ r. ⌜ r ≡ times-by left n (worth low) (worth high) ⌝ }
     ensures { λ r. ⌜ RoundsFit r (worth low) ⌝ }
+    ensures { λ r. ⌜ times-number r ≡ refused-if (is-outside (worth low) || is-outside (worth high)) ⌝ }
 {
     match low {
         Value::Known(l) => match high {
@@ -104,7 +106,8 @@ fn way_of(n: u64, low: Value, high: Value, left: u32) -> Times
 // How the `repeat` x runs with `left` rounds left; both bounds are evaluated.
 pub fn times_of(x: &[u8], depth: u32, names: &[u32], used: usize, left: u32) -> Times
     ensures { λ r. ⌜ r ≡ times-of (now (x .entry)) depth (names-of (now (names .entry)) used) left ⌝ }
-    ensures { λ r. ⌜ RoundsFit r (value-between (now (x .entry)) (first-end (now (x .entry))) (second-end (now (x .entry))) depth (names-of (now (names .entry)) used)) ⌝ }
+    ensures { λ r. ⌜ RoundsFit r (low-value (now (x .entry)) depth (names-of (now (names .entry)) used)) ⌝ }
+    ensures { λ r. ⌜ times-number r ≡ bounds-number (now (x .entry)) depth (names-of (now (names .entry)) used) ⌝ }
 {
     let h = next_end(x, 0);
     let a = next_end(x, h);
@@ -151,6 +154,7 @@ fn branch_at(x: &[u8], e: usize) -> Chosen
 // Which branch the `constif` x takes: `else` where its condition has no value.
 pub fn branch_of(x: &[u8], depth: u32, names: &[u32], used: usize) -> Chosen
     ensures { λ r. ⌜ r ≡ branch-of (now (x .entry)) depth (names-of (now (names .entry)) used) ⌝ }
+    ensures { λ r. ⌜ chosen-number r ≡ condition-number (now (x .entry)) depth (names-of (now (names .entry)) used) ⌝ }
 {
     let h = next_end(x, 0);
     let a = next_end(x, h);

@@ -2,3 +2,4 @@ pub mod Table
 pub mod Pairs
 pub mod Ports
 pub mod Making
+pub mod Leaving

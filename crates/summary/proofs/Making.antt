@@ -28,9 +28,9 @@ use Rattle.walk.proofs.Alike.{finds-alike, reach-by, Finds}
 use Rattle.summary.specs.declared.Port as P
 use Rattle.summary.specs.declared.Port.the-variants as ports
 use Rattle.summary.specs.Keeps.{total-of, Keeps, recorded, Made}
-use Rattle.summary.specs.Pairs.{Grown, Added, Reaching, OutputAdded, PortIs, IsName}
+use Rattle.summary.specs.Pairs.{Grown, pairs-written, OutputLeaves, Added, Reaching, OutputAdded, PortIs}
 use Rattle.summary.proofs.Table.{name-first, name-other}
-use Rattle.summary.proofs.Pairs.{grown-none, keeps-one}
+use Rattle.summary.proofs.Pairs.{below-length, grown-none, keeps-one}
 
 -- ---- the inputs that an output reaches
 
@@ -60,6 +60,17 @@ output-added kinds g w w′ n o r reach k k′ push header heads h st c k₀ ps 
       reaching = record { once = i .once; found = λ j m. i .names j .0 m; all = λ j m. i .names j .1 m };
       added = push k₀ ps gr;
     }
+
+-- `add_output`, whatever the words are
+pub output-leaves : (kinds g w w′ : List ℕ) (n o : ℕ)
+    → ((header : List Header) (heads : List Head) → Stands g heads → KindsAre kinds header → Clean w → Inputs header heads o w′ n)
+    → {r : Bool} (k : List ℕ) {k′ : List ℕ} → n ≤ 512 → pairs-written (paired o (found w′ n)) k ≡ (r, k′) → OutputLeaves r kinds g w w′ k o k′
+output-leaves kinds g w w′ n o reach k l e = (
+  found w′ n,
+  omega (arith, l, below-length w′ 1026 n),
+  λ header heads h st c. let i = reach header heads st (kinds-inputs kinds header h) c in (record { once = i .once; found = λ j m. i .names j .0 m; all = λ j m. i .names j .1 m }, i .clean),
+  e,
+)
 
 -- ---- what is found for each output, with one output more
 
@@ -155,10 +166,6 @@ form-le k (c ∷ t) = go (eqb c 40) (eqb c 41) k (λ j. form-le j t)
 pub end-after : (s : Bytes) (from : ℕ) {end : ℕ} → from + 1 < length s → end ≡ from + 1 + form-length 0 (drop (from + 1) s) → (from < end) × (end ≤ length s)
 end-after s from l e = let h = form-le 0 (drop (from + 1) s) in let n = length-drop (from + 1) s in (omega arith, omega arith)
 
--- the name of an output
-pub out-name : (r : P.Port) {o : ℕ} → r ≡ ports.Out o → IsName r → o < 256
-out-name r e h = rw e at h
-
 pub record Going (d : ℕ) (s : Bytes) (from : ℕ) (M : Module) (heads : List Head) (k₀ k seen w : List ℕ) : Type 0 where
   pub rest : Items
   pub run : RunOf d (drop from s) rest
@@ -172,6 +179,10 @@ pub record Going (d : ℕ) (s : Bytes) (from : ℕ) (M : Module) (heads : List H
   pub grown : Grown k₀ k (reach-by f done)
   pub whole : first-lines [] (top-outputs (M .items)) ≡ done ++ first-lines names (top-outputs rest)
 
+-- no node is marked before the first search
+pub clean-start : {w : List ℕ} → w ≡ replicate 1538 0 → Clean w
+clean-start q = rw q (record { sized = omega (arith, length-replicate {A = ℕ} 1538 0); unmarked = λ t l. getD-replicate {A = ℕ} 1538 (2 + t) 0 0 (omega arith) })
+
 -- before the first item
 pub going-start : (d : ℕ) (s : Bytes) (M : Module) (heads : List Head) (k : List ℕ) (m : ℕ) (kept : Kept) (busy : List ℕ) {seen w : List ℕ} → seen ≡ replicate 256 0 → w ≡ replicate 1538 0
     → RunOf d s (M .items) → Keeps k kept (m ∷ busy) → Going d s 0 M heads k k seen w
@@ -180,7 +191,7 @@ going-start d s M heads k m kept busy {seen} {w} qs qw r h =
     record {
       rest = M .items;
       run = r;
-      clean = rw qw (record { sized = omega (arith, length-replicate {A = ℕ} 1538 0); unmarked = λ t l. getD-replicate {A = ℕ} 1538 (2 + t) 0 0 (omega arith) });
+      clean = clean-start qw;
       names = [];
       marked = λ n l. rw (qs, getD-replicate {A = ℕ} 256 n 0 0 l);
       done = [];
@@ -192,7 +203,7 @@ going-start d s M heads k m kept busy {seen} {w} qs qw r h =
     }
 
 -- a mark more
-mark : (seen names : List ℕ) (o : ℕ) → length seen ≡ 256 → o < 256 → {seen′ : List ℕ} → seen′ ≡ set seen o 1
+pub mark : (seen names : List ℕ) (o : ℕ) → length seen ≡ 256 → o < 256 → {seen′ : List ℕ} → seen′ ≡ set seen o 1
     → ((n : ℕ) → n < 256 → has-name n names ≡ ltb 0 (getD seen n 0)) → (n : ℕ) → n < 256 → has-name n (o ∷ names) ≡ ltb 0 (getD seen′ n 0)
 mark seen names o z l q h n b = rw q (go (eqb n o) refl)
   where

@@ -1,16 +1,17 @@
 -- Pairs behind those of a table: one more, all of an output, and the whole summary, which is then kept.
 -- Assumes nothing.
 use mathlib.Core.Path.{_≡_, refl, sym, _∙_, ap}
-use mathlib.Core.Bool.{Bool, true, false}
+use mathlib.Core.Bool.{Bool, true, false, true≢false}
 use mathlib.Core.Logic.{_⊎_, inl, inr}
 use mathlib.Core.List.{List, [], _∷_, _++_, append-nil, append-assoc}
 use mathlib.Core.Option.{some}
-use Prim.Native.Nat.{ℕ, zero, suc, _+_, _-_, _*_, _≤_, _<_}
+use Prim.Native.Nat.{ℕ, zero, suc, _+_, _-_, _*_, _≤_, _<_, max}
 use native.Mathlib.Omega.{arith}
 use lib.ListN.{length, getD, set, length-set, length-append}
 use lib.Seq.{getD-set-same, set-out}
 use lib.Dec.{eqb, ltb}
-use borrow.Author.Tests.{eqb-true, eqb-false, eq-eqb, ne-eqb, ltb-true, ltb-false}
+use borrow.Author.Tests.{eqb-true, eqb-false, eq-eqb, ne-eqb, lt-ltb, le-ltb, ltb-true, ltb-false}
+use Rattle.spec.specs.Bytes.{Bytes}
 use Rattle.spec.specs.Refusal.{has-name}
 use Rattle.spec.specs.Edge.{Summary}
 use Rattle.spec.specs.Summary.{Kept, kept-summary, triples, triple-limit, paired}
@@ -20,7 +21,7 @@ use Rattle.walk.specs.Alike.{Alike}
 use Rattle.spec.specs.Cleared.{Cleared}
 use Rattle.spec.proofs.Cleared.{cleared-of}
 use Rattle.summary.specs.Keeps.{state-word, start-of, count-of, total-of, kept-places, pairs-of, StateIs, Keeps, recorded}
-use Rattle.summary.specs.Pairs.{Grown, Written, Leaves, Added}
+use Rattle.summary.specs.Pairs.{Grown, with-pair, pairs-written, Leaves, Added}
 use Rattle.summary.proofs.Table.{miss, pairs-same, Same, carried, name-other}
 
 -- pairs that stand one behind the other
@@ -34,7 +35,14 @@ pub grown-none : (k : List ℕ) → kept-places ≤ length k → total-of k ≤ 
 unfolding summary-at
 grown-none k z l = record { sized = z; same = λ i a b. refl; total = omega arith; few = l; pairs = refl }
 
--- whatever the words stand for: no pair is written, or some and then others
+-- what writing pairs leaves of any words: pairs are written behind those that k counts, to 1,024 at most, and counted; every other word is as it was
+pub record Written (k k′ : List ℕ) : Type 0 where
+  pub size : length k′ ≡ length k
+  pub more : total-of k ≤ total-of k′
+  pub few : total-of k′ ≤ max (total-of k) triple-limit
+  pub others : (i : ℕ) → ¬ (i ≡ 96) → (i < 97 + 2 * total-of k) ⊎ (97 + 2 * total-of k′ ≤ i) → getD k′ i 0 ≡ getD k i 0
+
+-- no pair is written, or some and then others
 pub written-none : (k : List ℕ) → Written k k
 written-none k = record { size = refl; more = omega arith; few = omega arith; others = λ i a h. refl }
 
@@ -57,15 +65,64 @@ written-then {k} {k₁} {k₂} h g =
     before i (inl x) = inl x
     before i (inr x) = inr (omega (arith, g .more))
 
+-- ---- pairs written one after the other
+
+step-room : (p : ℕ × ℕ) (ps : Summary) (k : List ℕ) → ltb (total-of k) triple-limit ≡ true → pairs-written (p ∷ ps) k ≡ pairs-written ps (with-pair k p)
+unfolding pairs-written
+step-room p ps k e = rw (e, pairs-written)
+
+step-none : (p : ℕ × ℕ) (ps : Summary) (k : List ℕ) → ltb (total-of k) triple-limit ≡ false → pairs-written (p ∷ ps) k ≡ (false, k)
+unfolding pairs-written
+step-none p ps k e = rw (e, pairs-written)
+
+written-nil : (k : List ℕ) → pairs-written [] k ≡ (true, k)
+unfolding pairs-written
+written-nil k = refl
+
+module _ (qs : Summary) where
+  -- all of ps are written, and then qs
+  pub all-then : (ps : Summary) (k : List ℕ) {r : Bool} {k′ : List ℕ} → pairs-written ps k ≡ (r, k′) → r ≡ true → pairs-written (ps ++ qs) k ≡ pairs-written qs k′
+  all-then [] k e v = ap (λ (z : Bool × List ℕ). pairs-written qs (z .1)) (sym (written-nil k) ∙ e)
+  all-then (p ∷ ps) k {r} {k′} e v = go (ltb (total-of k) triple-limit) refl (λ h. all-then ps (with-pair k p) h v)
+    where
+      go : (b : Bool) → ltb (total-of k) triple-limit ≡ b → (pairs-written ps (with-pair k p) ≡ (r, k′) → pairs-written (ps ++ qs) (with-pair k p) ≡ pairs-written qs k′)
+          → pairs-written (p ∷ (ps ++ qs)) k ≡ pairs-written qs k′
+      go true q f = step-room p (ps ++ qs) k q ∙ f (sym (step-room p ps k q) ∙ e)
+      go false q f = absurd (true≢false (sym v ∙ ap (λ (z : Bool × List ℕ). z .0) (sym e ∙ step-none p ps k q)))
+
+  -- not all of ps are written
+  pub full-then : (ps : Summary) (k : List ℕ) {r : Bool} {k′ : List ℕ} → pairs-written ps k ≡ (r, k′) → r ≡ false → pairs-written (ps ++ qs) k ≡ (false, k′)
+  full-then [] k e v = absurd (true≢false (ap (λ (z : Bool × List ℕ). z .0) (sym (written-nil k) ∙ e) ∙ v))
+  full-then (p ∷ ps) k {r} {k′} e v = go (ltb (total-of k) triple-limit) refl (λ h. full-then ps (with-pair k p) h v)
+    where
+      go : (b : Bool) → ltb (total-of k) triple-limit ≡ b → (pairs-written ps (with-pair k p) ≡ (r, k′) → pairs-written (ps ++ qs) (with-pair k p) ≡ (false, k′))
+          → pairs-written (p ∷ (ps ++ qs)) k ≡ (false, k′)
+      go true q f = step-room p (ps ++ qs) k q ∙ f (sym (step-room p ps k q) ∙ e)
+      go false q f = step-none p (ps ++ qs) k q ∙ ap (λ (z : Bool × List ℕ). (false, z .1)) (sym (step-none p ps k q) ∙ e)
+
 -- ---- one pair
 
 module _ (k : List ℕ) (o i n : ℕ) (q : n ≡ getD k 96 0) where
   pub push-full : 1024 ≤ n → (k₀ : List ℕ) (ps : Summary) → Grown k₀ k ps → Added false k₀ k ps ((o, i) ∷ [])
   push-full l k₀ ps h = omega (arith, h .total, length-append ps ((o, i) ∷ []))
 
+  pub push-none : 1024 ≤ n → pairs-written ((o, i) ∷ []) k ≡ (false, k)
+  push-none l = step-none (o, i) [] k (le-ltb (total-of k) 1024 (omega arith))
+
   module _ {p : ℕ} (qp : p ≡ 97 + 2 * n) {k₁ k₂ k₃ : List ℕ} (e₁ : k₁ ≡ set k p o) (e₂ : k₂ ≡ set k₁ (p + 1) i) (e₃ : k₃ ≡ set k₂ 96 (n + 1)) where
     all-set : k₃ ≡ set (set (set k p o) (p + 1) i) 96 (n + 1)
     all-set = e₃ ∙ rw (e₂, e₁)
+
+    one-set : with-pair k (o, i) ≡ k₃
+    unfolding with-pair
+    one-set =
+        let a : 97 + 2 * total-of k ≡ p = omega arith in
+        let b : 98 + 2 * total-of k ≡ p + 1 = omega arith in
+        let d : total-of k + 1 ≡ n + 1 = omega arith in
+        rw (a, b, d) (sym all-set)
+
+    pub push-one : n < 1024 → pairs-written ((o, i) ∷ []) k ≡ (true, k₃)
+    push-one l = step-room (o, i) [] k (lt-ltb (total-of k) 1024 (omega arith)) ∙ written-nil (with-pair k (o, i)) ∙ ap (λ (z : List ℕ). (true, z)) one-set
 
     other : (j : ℕ) → ¬ (j ≡ 96) → ¬ (j ≡ p) → ¬ (j ≡ p + 1) → getD k₃ j 0 ≡ getD k j 0
     other j a b c = rw all-set (miss (set (set k p o) (p + 1) i) 96 j (n + 1) a ∙ miss (set k p o) (p + 1) j i c ∙ miss k p j o b)
@@ -117,6 +174,22 @@ module _ (k : List ℕ) (o i n : ℕ) (q : n ≡ getD k 96 0) where
             let t : k₃ ≡ k = all-set ∙ set-out (set (set k p o) (p + 1) i) 96 (n + 1) (simp length-set z) ∙ set-out (set k p o) (p + 1) i (simp length-set (omega arith)) ∙ set-out k p o (omega arith) in
             rw t (written-none k)
 
+-- pairs leave only words of pairs written
+written-by : (ps : Summary) (k : List ℕ) → Written k (pairs-written ps k .1)
+written-by [] k = rw (written-nil k) (written-none k)
+written-by (p ∷ ps) k = go (ltb (total-of k) triple-limit) refl (written-by ps (with-pair k p))
+  where
+    go : (b : Bool) → ltb (total-of k) triple-limit ≡ b → Written (with-pair k p) (pairs-written ps (with-pair k p) .1) → Written k (pairs-written (p ∷ ps) k .1)
+    go true q w =
+        let l = ltb-true (total-of k) 1024 q in
+        let e = one-set k (p .0) (p .1) (total-of k) refl refl refl refl refl in
+        let one : Written k (with-pair k p) = rw e (push-written k (p .0) (p .1) (total-of k) refl refl refl refl refl l) in
+        rw (step-room p ps k q) (written-then one w)
+    go false q w = rw (step-none p ps k q) (written-none k)
+
+pub written-of : (ps : Summary) {k k′ : List ℕ} {r : Bool} → pairs-written ps k ≡ (r, k′) → Written k k′
+written-of ps {k} e = rw (ap (λ (z : Bool × List ℕ). z .1) e) at (written-by ps k)
+
 -- ---- the pairs of an output
 
 -- i names are still to come
@@ -149,14 +222,33 @@ module _ (o : ℕ) (w : List ℕ) (n : ℕ) where
       let t : ps ++ paired o (found w n) ≡ h .so-far = h .all ∙ ap (λ (y : ℕ). h .so-far ++ paired o (found w y)) e ∙ append-nil (h .so-far) in
       rw t (h .grown)
 
+-- the equation of `push_found`: what is left to write gives what the whole gives
+module _ (o : ℕ) (w : List ℕ) {all : Bool × List ℕ} (k : List ℕ) (i : ℕ) (h : all ≡ pairs-written (paired o (found w i)) k) where
+  module _ {j : ℕ} (s : i ≡ suc j) {x : ℕ} (e : x ≡ getD w (1026 + j) 0) where
+    name-here : paired o (found w i) ≡ (o, x) ∷ paired o (found w j)
+    unfolding words-below paired
+    name-here = rw (s, e)
+
+    pub found-more : {v : Bool} {k′ : List ℕ} → v ≡ true → pairs-written ((o, x) ∷ []) k ≡ (v, k′) → all ≡ pairs-written (paired o (found w j)) k′
+    found-more v p = h ∙ ap (λ (z : Summary). pairs-written z k) name-here ∙ all-then (paired o (found w j)) ((o, x) ∷ []) k p v
+
+    pub found-full : {v : Bool} {k′ : List ℕ} → v ≡ false → pairs-written ((o, x) ∷ []) k ≡ (v, k′) → all ≡ (false, k′)
+    found-full v p = h ∙ ap (λ (z : Summary). pairs-written z k) name-here ∙ full-then (paired o (found w j)) ((o, x) ∷ []) k p v
+
+  pub found-all : i ≡ 0 → all ≡ (true, k)
+  unfolding words-below paired
+  found-all e = h ∙ ap (λ (n : ℕ). pairs-written (paired o (found w n)) k) e ∙ written-nil k
+
+-- how many names are found
+pub below-length : (w : List ℕ) (b n : ℕ) → length (words-below w b n) ≡ n
+unfolding words-below
+below-length w b zero = refl
+below-length w b (suc n) = ap suc (below-length w b n)
+
 -- ---- the summary is kept
 
--- whatever the words stand for: it is kept with the pairs that were written
-pub leaves-kept : {k w : List ℕ} → Written k w → (m : ℕ) {start end : ℕ} → start ≡ total-of k → end ≡ total-of w → {k′ : List ℕ} → k′ ≡ recorded w m start (end - start) → Leaves true k m k′
-leaves-kept {k} {w} h m a b q = (w, h, q ∙ rw (a, b))
-
-pub leaves-zero : (r : Bool) (k : List ℕ) (m : ℕ) (k′ : List ℕ) → r ≡ false → Leaves r k m k′ → Cleared k′
-leaves-zero r k m k′ e h = cleared-of (length k) k′ (rw e at h)
+pub leaves-zero : (r : Bool) (s : Bytes) (kinds g k : List ℕ) (m : ℕ) (k′ : List ℕ) → r ≡ false → Leaves r s kinds g k m k′ → Cleared k′
+leaves-zero r s kinds g k m k′ e h = let t : Leaves false s kinds g k m k′ = rw e at h in cleared-of (length k) k′ (t .4)
 
 -- `keep`
 pub kept-one : (k : List ℕ) (m start count : ℕ) {k₁ k₂ k₃ : List ℕ} → k₁ ≡ set k (32 + m) start → k₂ ≡ set k₁ (64 + m) count → k₃ ≡ set k₂ m 2 → k₃ ≡ recorded k m start count

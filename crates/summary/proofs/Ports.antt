@@ -6,21 +6,22 @@ use mathlib.Core.List.{[], _∷_, _++_}
 use Prim.Native.Nat.{ℕ, _<_, min}
 use native.Mathlib.Omega.{arith}
 use lib.ListN.{drop, getD}
-use lib.Dec.{ltb}
-use borrow.Author.Tests.{ltb-true}
+use lib.Dec.{eqb, ltb}
+use borrow.Author.Tests.{eq-eqb, ne-eqb, lt-ltb, le-ltb, ltb-true, ltb-false}
 use Rattle.spec.specs.Bytes.{Bytes, number, show-number, show-rest, show-form}
 use Rattle.spec.specs.Syntax.{number-bound, Width, Item, port, wire, reg, mem, const, drive, on, inst, repeat, const-if, input, output}
 use Rattle.spec.specs.Show.{show-width, show-item}
 use Rattle.spec.specs.Refusal.{item-in-range, width-in-range}
 use Rattle.spec.specs.Site.{line-outputs}
-use Rattle.spec.proofs.Numbers.{number-show}
+use Rattle.spec.proofs.Numbers.{number-show, if-case}
 use Rattle.spec.proofs.Nodes.{and-parts}
 use Rattle.spec.proofs.Parts.{number-part}
 use Rattle.lines.specs.Parts.{part-end, piece, next-end}
 use Rattle.runs.specs.Run.{ShowsItem}
 use Rattle.runs.proofs.Inside.{placed}
+use Rattle.summary.specs.declared.Port as P
 use Rattle.summary.specs.declared.Port.the-variants as ports
-use Rattle.summary.specs.Pairs.{PortIs}
+use Rattle.summary.specs.Pairs.{PortIs, port-of}
 
 -- the number behind the words is the name
 name-here : (x : Bytes) (d n : ℕ) (w : Width) (start : ℕ) → ShowsItem x d (port output n w start)
@@ -84,3 +85,45 @@ module _ (x : Bytes) where
         go (inst i) p h = absurd (omega (arith, h 1))
         go (repeat n l u is) p h = absurd (omega (arith, h 1))
         go (const-if c is js) p h = absurd (omega (arith, h 1))
+
+-- ---- the item in any bytes
+
+-- a name is at most 255
+abbrev IsName : P.Port → Type 0
+IsName (ports.Out n) = n < 256
+IsName ports.Other = Unit {0}
+
+module _ (x : Bytes) where
+  is-name : IsName (port-of x)
+  unfolding port-of
+  is-name =
+      if-case IsName (eqb (getD x 1 0) 112) _ _
+      (λ _. if-case IsName (eqb (getD x 6 0) 111) _ _ (λ _. if-case IsName (ltb 255 (number (piece x 9 (next-end x 9)))) _ _ (λ _. tt) (λ e. omega (arith, ltb-false 255 (number (piece x 9 (next-end x 9))) e))) (λ _. tt))
+      (λ _. tt)
+
+  pub out-name : (r : P.Port) {o : ℕ} → r ≡ ports.Out o → r ≡ port-of x → o < 256
+  out-name r {o} e q = let h : IsName (ports.Out o) = rw (sym q ∙ e) at is-name in h
+
+  pub other-word : (getD x 1 0 ≡ 112 → ⊥) → ports.Other ≡ port-of x
+  unfolding port-of
+  other-word f = rw (ne-eqb (getD x 1 0) 112 f, port-of)
+
+  module _ (b₁ : getD x 1 0 ≡ 112) where
+    pub other-direction : (getD x 6 0 ≡ 111 → ⊥) → ports.Other ≡ port-of x
+    unfolding port-of
+    other-direction f = rw (eq-eqb (getD x 1 0) 112 b₁, ne-eqb (getD x 6 0) 111 f, port-of)
+
+    module _ (b₆ : getD x 6 0 ≡ 111) {a : ℕ} (qa : a ≡ part-end x 10) {t : Bytes} (qt : t ≡ piece x 9 a) {v : ℕ} (qv : v ≡ min (number t) 4294967296) where
+      here : number t ≡ number (piece x 9 (next-end x 9))
+      unfolding next-end
+      here = ap number (qt ∙ ap (piece x 9) qa)
+
+      pub other-number : 255 < v → ports.Other ≡ port-of x
+      unfolding port-of
+      other-number l = rw (eq-eqb (getD x 1 0) 112 b₁, eq-eqb (getD x 6 0) 111 b₆, lt-ltb 255 (number (piece x 9 (next-end x 9))) (omega (arith, here)), port-of)
+
+      pub out-number : v < 256 → ports.Out v ≡ port-of x
+      unfolding port-of
+      out-number l =
+          let n : v ≡ number (piece x 9 (next-end x 9)) = omega (arith, here) in
+          rw (eq-eqb (getD x 1 0) 112 b₁, eq-eqb (getD x 6 0) 111 b₆, le-ltb 255 (number (piece x 9 (next-end x 9))) (omega arith), port-of) (ap ports.Out n)

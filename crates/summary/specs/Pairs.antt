@@ -3,17 +3,23 @@
 -- To a reader: definitions that the contracts of this crate cite; each such contract is proved; check_drivers' own promise cites none of them.
 use mathlib.Core.Path.{_≡_}
 use mathlib.Core.Bool.{Bool, true, false}
-use mathlib.Core.Logic.{_⊎_}
-use mathlib.Core.List.{List, [], _++_}
-use Prim.Native.Nat.{ℕ, _+_, _-_, _*_, _≤_, _<_, max}
-use lib.ListN.{length, getD, replicate}
+use mathlib.Core.List.{List, [], _∷_, _++_}
+use Prim.Native.Nat.{ℕ, zero, suc, _+_, _-_, _*_, _≤_, _<_}
+use lib.ListN.{length, drop, getD, set, replicate}
+use lib.Dec.{eqb, ltb}
+use Rattle.spec.specs.Bytes.{Bytes, number}
 use Rattle.spec.specs.Syntax.{Width, Item, port, output, Header}
+use Rattle.spec.specs.Refusal.{has-name}
 use Rattle.spec.specs.Graph.{_∈_, Once}
 use Rattle.spec.specs.Site.{line-outputs}
 use Rattle.spec.specs.Edge.{Head, Summary}
 use Rattle.spec.specs.Summary.{triple-limit, inputs-reached, paired}
+use Rattle.lines.specs.Parts.{piece, next-end}
+use Rattle.runs.specs.Run.{form-length}
+use Rattle.graph.specs.Stands.{Stands}
 use Rattle.graph.specs.Reach.{Clean}
 use Rattle.edges.specs.Lines.{summary-at}
+use Rattle.edges.specs.Reads.{KindsOf}
 use Rattle.summary.specs.Keeps.{total-of, kept-places, recorded}
 use Rattle.summary.specs.declared.Port as P
 use Rattle.summary.specs.declared.Port.the-variants as ports
@@ -26,30 +32,95 @@ pub record Grown (k₀ k : List ℕ) (ps : Summary) : Type 0 where
   pub few : total-of k ≤ triple-limit
   pub pairs : summary-at k (97 + 2 * total-of k₀) (length ps) ≡ ps
 
--- 01, Worthless checks; Refused because of the state: what every lent byte becomes, whatever the words k stand for: pairs are written behind those
--- that k counts, to 1,024 at most, and counted; every other word is as it was
-pub record Written (k k′ : List ℕ) : Type 0 where
-  pub size : length k′ ≡ length k
-  pub more : total-of k ≤ total-of k′
-  pub few : total-of k′ ≤ max (total-of k) triple-limit
-  pub others : (i : ℕ) → ¬ (i ≡ 96) → (i < 97 + 2 * total-of k) ⊎ (97 + 2 * total-of k′ ≤ i) → getD k′ i 0 ≡ getD k i 0
+-- 01, The edge; Worthless checks: the words with one pair more: it stands behind those that k counts, and is counted; nothing is stored past the end
+unfoldable pub with-pair : List ℕ → ℕ × ℕ → List ℕ
+with-pair k p = set (set (set k (97 + 2 * total-of k) (p .0)) (98 + 2 * total-of k) (p .1)) 96 (total-of k + 1)
 
--- 01, Worthless checks; Refused because of the state: what making the summary of module m leaves, whatever the words k stand for: pairs are written,
--- and then module m is kept with just these; or there are too many, and every place is 0
-abbrev pub Leaves : Bool → List ℕ → ℕ → List ℕ → Type 0
-Leaves true k m k′ = (w : List ℕ) × Written k w × (k′ ≡ recorded w m (total-of k) (total-of w - total-of k))
-Leaves false k m k′ = k′ ≡ replicate (length k) 0
-
--- 01, The edge; Refused because of the state: the pairs qs are added behind ps, or there are too many
-abbrev pub Added : Bool → List ℕ → List ℕ → Summary → Summary → Type 0
-Added true k₀ k ps qs = Grown k₀ k (ps ++ qs)
-Added false k₀ k ps qs = triple-limit < total-of k₀ + length (ps ++ qs)
+-- 01, Refused because of the state; Worthless checks: pairs written into any words, one after the other, as long as they count fewer than 1,024: whether
+-- all were written, and the words then
+unfoldable pub pairs-written : Summary → List ℕ → Bool × List ℕ
+pairs-written [] k = (true, k)
+pairs-written (p ∷ ps) k = elim (ltb (total-of k) triple-limit) [ true ↦ pairs-written ps (with-pair k p) | false ↦ (false, k) ]
 
 -- 01, The edge: the in-kind names that o reaches, each once, in some order
 pub record Reaching (header : List Header) (heads : List Head) (o : ℕ) (is : List ℕ) : Type 0 where
   pub once : Once is
   pub found : (i : ℕ) → i ∈ is → i ∈ inputs-reached header heads o
   pub all : (i : ℕ) → i ∈ inputs-reached header heads o → i ∈ is
+
+-- 01, The edge; Worthless checks: what adding the output o to any words k gives and leaves: its pairs with at most 512 names are written. The names are
+-- those of the inputs that o reaches, in some order, and no node is marked in the work slice w′ then. Which names these are is free only where the
+-- kinds or the graph stand for nothing, or the work slice w is too short or has a mark
+abbrev pub OutputLeaves : Bool → (kinds g w w′ k : List ℕ) → ℕ → List ℕ → Type 0
+OutputLeaves r kinds g w w′ k o k′ =
+    (is : List ℕ) × (length is ≤ 512)
+    × ((header : List Header) (heads : List Head) → KindsOf kinds header → Stands g heads → Clean w → Reaching header heads o is × Clean w′)
+    × (pairs-written (paired o is) k ≡ (r, k′))
+
+-- 01, The edge; Worthless checks: ps are the pairs of these outputs, in their order, each with at most 512 names: those of the inputs that it reaches,
+-- in some order. Which names these are is free only where the kinds or the graph stand for nothing
+abbrev pub PairsOf : (kinds g : List ℕ) → List ℕ → Summary → Type 0
+PairsOf kinds g [] ps = ps ≡ []
+PairsOf kinds g (o ∷ os) ps =
+    (is : List ℕ) × (rest : Summary) × (length is ≤ 512)
+    × ((header : List Header) (heads : List Head) → KindsOf kinds header → Stands g heads → Reaching header heads o is)
+    × PairsOf kinds g os rest × (ps ≡ paired o is ++ rest)
+
+-- 01, The line: an item in any bytes by its word, its direction and its name: byte 1 is p, byte 6 is o, and the number behind byte 9 is at most 255
+unfoldable pub port-of : Bytes → P.Port
+port-of x =
+    elim (eqb (getD x 1 0) 112) [
+      | true ↦ elim (eqb (getD x 6 0) 111) [
+        | true ↦ elim (ltb 255 (number (piece x 9 (next-end x 9)))) [ true ↦ ports.Other | false ↦ ports.Out (number (piece x 9 (next-end x 9))) ]
+        | false ↦ ports.Other
+      ]
+      | false ↦ ports.Other
+    ]
+
+-- 01, The line: the forms in any bytes read as a run from the byte at `from` on, one behind the other, at most so many
+unfoldable pub forms-from : ℕ → Bytes → ℕ → List Bytes
+forms-from zero s from = []
+forms-from (suc n) s from =
+    elim (ltb (from + 1) (length s)) [
+      | true ↦ piece s from (from + 1 + form-length 0 (drop (from + 1) s)) ∷ forms-from n s (from + 1 + form-length 0 (drop (from + 1) s))
+      | false ↦ []
+    ]
+
+-- 01, The edge: the name of a `port out` line before others
+abbrev pub name-before : P.Port → List ℕ → List ℕ
+name-before (ports.Out n) l = n ∷ l
+name-before ports.Other l = l
+
+-- 01, The edge: the names of the `port out` lines among forms
+unfoldable pub port-names : List Bytes → List ℕ
+port-names [] = []
+port-names (x ∷ xs) = name-before (port-of x) (port-names xs)
+
+-- 01, The edge: names, each by the first time that it stands there, `seen` having those before
+unfoldable pub first-names : List ℕ → List ℕ → List ℕ
+first-names seen [] = []
+first-names seen (n ∷ l) = elim (has-name n seen) [ true ↦ first-names seen l | false ↦ n ∷ first-names (n ∷ seen) l ]
+
+-- 01, The edge: the outputs of a run in any bytes, each once, in the order of its first line
+unfoldable pub outputs-of : Bytes → List ℕ
+outputs-of s = first-names [] (port-names (forms-from (length s) s 0))
+
+-- 01, Worthless checks; Refused because of the state: what making the summary of module m leaves, whatever the run s and the words k stand for: the
+-- pairs of the run's outputs are written, and module m is kept with just these; or the pairs of the first of them, some or all, find 1,024 or more
+-- counted, and then every place is 0. So with no output the answer is true. Which names these are is free only where the kinds or the graph stand for
+-- nothing, at most 512 for each output then too.
+abbrev pub Leaves : Bool → Bytes → (kinds g k : List ℕ) → ℕ → List ℕ → Type 0
+Leaves true s kinds g k m k′ =
+    (ps : Summary) × (w : List ℕ) × PairsOf kinds g (outputs-of s) ps × (pairs-written ps k ≡ (true, w))
+    × (k′ ≡ recorded w m (total-of k) (total-of w - total-of k))
+Leaves false s kinds g k m k′ =
+    (ps : Summary) × (w : List ℕ) × ((os later : List ℕ) × (outputs-of s ≡ os ++ later) × PairsOf kinds g os ps) × (pairs-written ps k ≡ (false, w))
+    × (k′ ≡ replicate (length k) 0)
+
+-- 01, The edge; Refused because of the state: the pairs qs are added behind ps, or there are too many
+abbrev pub Added : Bool → List ℕ → List ℕ → Summary → Summary → Type 0
+Added true k₀ k ps qs = Grown k₀ k (ps ++ qs)
+Added false k₀ k ps qs = triple-limit < total-of k₀ + length (ps ++ qs)
 
 -- 01, The edge; Refused because of the state: the pairs of the output o are added behind ps, or there are too many; no node is marked in the
 -- work slice w
@@ -63,8 +134,3 @@ pub record OutputAdded (r : Bool) (w k₀ k : List ℕ) (ps : Summary) (header :
 abbrev pub PortIs : P.Port → Item → Type 0
 PortIs (ports.Out n) i = (w : Width) × (start : ℕ) × (i ≡ port output n w start)
 PortIs ports.Other i = line-outputs i ≡ []
-
--- 01, The line: NAME 0 to 255: the name is one
-abbrev pub IsName : P.Port → Type 0
-IsName (ports.Out n) = n < 256
-IsName ports.Other = Unit {0}

@@ -16,7 +16,7 @@ ghost use Rattle.graph.specs.Stands.{Stands};
 ghost use Rattle.graph.specs.Reach.{Clean, found};
 ghost use Rattle.edges.specs.Reads.{KindsOf};
 ghost use Rattle.summary.specs.Keeps.{state-of, first-of, count-of, Keeps, recorded, Made, Reset};
-ghost use Rattle.summary.specs.Pairs.{Grown, Written, Leaves, Added, OutputAdded, PortIs, IsName};
+ghost use Rattle.summary.specs.Pairs.{Grown, Added, OutputAdded, PortIs, pairs-written, OutputLeaves, port-of, Leaves};
 
 // A module that no line asked for yet, one that is being summarised, one whose summary is kept.
 pub enum State {
@@ -119,7 +119,7 @@ enum Port {
 // The item that the bytes x show, by the first of them.
 fn port_of(x: &[u8]) -> Port
     ensures { λ r. ⌜ ((i : Item) (d : ℕ) → ShowsItem (now (x .entry)) d i → PortIs r i) ⌝ }
-    ensures { λ r. ⌜ IsName r ⌝ }
+    ensures { λ r. ⌜ r ≡ port-of (now (x .entry)) ⌝ }
 {
     if parts::byte(x, 1) != b'p' {
         return Port::Other;
@@ -138,7 +138,7 @@ fn port_of(x: &[u8]) -> Port
 // One pair more, if there is room for it.
 fn push(k: &mut [u32], o: u32, i: u32) -> bool
     ensures { λ r. ⌜ ((k₀ : List ℕ) (ps : Summary) → Grown k₀ (now (k .entry)) ps → Added r k₀ (now (k .exit)) ps ((o, i) ∷ [])) ⌝ }
-    ensures { λ _. ⌜ Written (now (k .entry)) (now (k .exit)) ⌝ }
+    ensures { λ r. ⌜ pairs-written ((o, i) ∷ []) (now (k .entry)) ≡ (r, now (k .exit)) ⌝ }
 {
     let n = at(k, TOTAL);
     if TRIPLES <= n {
@@ -154,7 +154,7 @@ fn push(k: &mut [u32], o: u32, i: u32) -> bool
 // A pair of the output o with each of the n names that the last search found.
 fn push_found(k: &mut [u32], w: &[u32], n: u32, o: u32) -> bool
     ensures { λ r. ⌜ ((k₀ : List ℕ) (ps : Summary) → Grown k₀ (now (k .entry)) ps → Added r k₀ (now (k .exit)) ps (paired o (found (now (w .entry)) n))) ⌝ }
-    ensures { λ _. ⌜ Written (now (k .entry)) (now (k .exit)) ⌝ }
+    ensures { λ r. ⌜ pairs-written (paired o (found (now (w .entry)) n)) (now (k .entry)) ≡ (r, now (k .exit)) ⌝ }
 {
     let mut i = n;
     while 0 < i {
@@ -170,7 +170,7 @@ fn push_found(k: &mut [u32], w: &[u32], n: u32, o: u32) -> bool
 fn add_output(kinds: &[u8], g: &[u32], w: &mut [u32], k: &mut [u32], o: u32) -> bool
     ensures { λ r. ⌜ ((header : List Header) (heads : List Head) → KindsOf (now (kinds .entry)) header → Stands (now (g .entry)) heads → Clean (now (w .entry))
         → (k₀ : List ℕ) (ps : Summary) → Grown k₀ (now (k .entry)) ps → OutputAdded r (now (w .exit)) k₀ (now (k .exit)) ps header heads o) ⌝ }
-    ensures { λ _. ⌜ Written (now (k .entry)) (now (k .exit)) ⌝ }
+    ensures { λ r. ⌜ OutputLeaves r (now (kinds .entry)) (now (g .entry)) (now (w .entry)) (now (w .exit)) (now (k .entry)) o (now (k .exit)) ⌝ }
 {
     let n = graph::reach(g, kinds, w, o);
     push_found(k, w, n, o)
@@ -191,7 +191,7 @@ pub fn summarise(s: &[u8], kinds: &[u8], g: &[u32], k: &mut [u32], m: u32) -> bo
     ensures { λ r. ⌜ ((d : ℕ) (M : Module) (heads : List Head) (kept : Kept) (busy : List ℕ)
         → RunOf d (now (s .entry)) (M .items) → KindsOf (now (kinds .entry)) (M .header) → Stands (now (g .entry)) heads → Keeps (now (k .entry)) kept (m ∷ busy) → m < 32
         → has-name m busy ≡ false → Made r (now (k .exit)) m M heads kept busy) ⌝ }
-    ensures { λ r. ⌜ Leaves r (now (k .entry)) m (now (k .exit)) ⌝ }
+    ensures { λ r. ⌜ Leaves r (now (s .entry)) (now (kinds .entry)) (now (g .entry)) (now (k .entry)) m (now (k .exit)) ⌝ }
 {
     let start = at(k, TOTAL);
     let mut seen = [0u8; NAMES];

@@ -11,7 +11,11 @@ use Rattle.consteval.specs.Worth.{names-of}
 use Rattle.lines.proofs.Laws.{byte-is, byte-not}
 use Rattle.lines.proofs.PartLaws.{follows-in}
 use Rattle.edges.specs.Shows.{PartsRead}
-use Rattle.spec.proofs.Cleared.{false-cleared}
+use Rattle.edges.proofs.FieldLaws.{field-says}
+use Rattle.edges.specs.Total.{parts-behind, reads-in-order, expr-read}
+use Rattle.edges.specs.Leaves.{ReadsOrCleared}
+use Rattle.edges.proofs.TotalLaws.{reads-output, reads-indexed, reads-inner, reads-atom, reads-name, reads-shut, reads-field, reads-parts}
+use Rattle.edges.proofs.LeaveLaws.{reads-as, reads-none, all-none, all-stop, all-more}
 use Rattle.edges.proofs.PartLaws.{field-output, field-indexed, field-inner, expr-atom, expr-name, expr-shut, expr-field, expr-parts, parts-none, parts-stop, parts-more}
 use Prim.Native.Nat.{ℕ, _<_}
 use borrow.Fn.Kinds.{In}
@@ -91,7 +95,7 @@ expr-reads-is-open-requires : (t : ℕ) → expr-reads-lts.Need-is-open-requires
 expr-reads-is-open-requires t c κs = search needs
 
 expr-reads-returns : (t : ℕ) → expr-reads-lts.Need-returns (expr-reads-claims t) (expr-reads-at t) expr-reads.Post
-expr-reads-returns t c = (expr-atom (c .before .before .before .before .before .before .before .args .e .now) (c .before .before .before .before .before .before .before .args .depth) (c .before .before .before .before .before .before .before .args .kinds .now) (names-of (c .before .before .before .before .before .before .before .args .names .now) (c .before .before .before .before .before .before .before .args .used)) (c .before .before .before .before .before .before .before .args .g .now) (c .before .before .before .before .before .before .before .args .from) (byte-not _ _ _ 40 (c .before .is-open .ensures) (c .before .before .byte .ensures) (not-true _ (c .if1 .taken))), tt)
+expr-reads-returns t c = (expr-atom (c .before .before .before .before .before .before .before .args .e .now) (c .before .before .before .before .before .before .before .args .depth) (c .before .before .before .before .before .before .before .args .kinds .now) (names-of (c .before .before .before .before .before .before .before .args .names .now) (c .before .before .before .before .before .before .before .args .used)) (c .before .before .before .before .before .before .before .args .g .now) (c .before .before .before .before .before .before .before .args .from) (byte-not _ _ _ 40 (c .before .is-open .ensures) (c .before .before .byte .ensures) (not-true _ (c .if1 .taken))), reads-none (c .before .before .before .before .before .before .before .args .from) (c .before .before .before .before .before .before .before .args .g .now) (reads-atom (c .before .before .before .before .before .before .before .args .e .now) (c .before .before .before .before .before .before .before .args .kinds .now) (names-of (c .before .before .before .before .before .before .before .args .names .now) (c .before .before .before .before .before .before .before .args .used)) (c .before .before .before .before .before .before .before .args .depth) (byte-not _ _ _ 40 (c .before .is-open .ensures) (c .before .before .byte .ensures) (not-true _ (c .if1 .taken)))))
 
 expr-reads-name-of-requires : (t : ℕ) → expr-reads-lts.Need-name-of-requires (expr-reads-claims t) (expr-reads-at t) expr-reads.Post
 expr-reads-name-of-requires t c κs = search needs
@@ -106,7 +110,7 @@ expr-reads-enum-told : (t : ℕ) → expr-reads-lts.Need-enum-told (expr-reads-c
 expr-reads-enum-told t c = search needs
 
 expr-reads-returns-2 : (t : ℕ) → expr-reads-lts.Need-returns-2 (expr-reads-claims t) (expr-reads-at t) expr-reads.Post
-expr-reads-returns-2 t c = (expr-shut (c .before .before .before .before .before .before .before .before .before .before .before .args .e .now) (c .before .before .before .before .before .before .before .before .before .before .before .args .depth) (c .before .before .before .before .before .before .before .before .before .before .before .args .kinds .now) (names-of (c .before .before .before .before .before .before .before .before .before .before .before .args .names .now) (c .before .before .before .before .before .before .before .before .before .before .before .args .used)) (c .before .before .before .before .before .before .before .before .before .before .before .args .g .now) (c .before .before .before .before .before .before .before .before .before .before .before .args .from) (c .before .before .before .name-of .result) (c .before .before .before .name-of .ensures) (byte-is _ _ _ 40 (c .before .before .before .before .before .is-open .ensures) (c .before .before .before .before .before .before .byte .ensures) (not-false _ (c .before .before .before .before .if1 .left))) (c .before .enum-told .given .1) (c .if2 .taken), tt)
+expr-reads-returns-2 t c = (expr-shut (c .before .before .before .before .before .before .before .before .before .before .before .args .e .now) (c .before .before .before .before .before .before .before .before .before .before .before .args .depth) (c .before .before .before .before .before .before .before .before .before .before .before .args .kinds .now) (names-of (c .before .before .before .before .before .before .before .before .before .before .before .args .names .now) (c .before .before .before .before .before .before .before .before .before .before .before .args .used)) (c .before .before .before .before .before .before .before .before .before .before .before .args .g .now) (c .before .before .before .before .before .before .before .before .before .before .before .args .from) (c .before .before .before .name-of .result) (c .before .before .before .name-of .ensures) (byte-is _ _ _ 40 (c .before .before .before .before .before .is-open .ensures) (c .before .before .before .before .before .before .byte .ensures) (not-false _ (c .before .before .before .before .if1 .left))) (c .before .enum-told .given .1) (c .if2 .taken), reads-none (c .before .before .before .before .before .before .before .before .before .before .before .args .from) (c .before .before .before .before .before .before .before .before .before .before .before .args .g .now) (reads-shut (c .before .before .before .before .before .before .before .before .before .before .before .args .e .now) (c .before .before .before .before .before .before .before .before .before .before .before .args .kinds .now) (names-of (c .before .before .before .before .before .before .before .before .before .before .before .args .names .now) (c .before .before .before .before .before .before .before .before .before .before .before .args .used)) (byte-is _ _ _ 40 (c .before .before .before .before .before .is-open .ensures) (c .before .before .before .before .before .before .byte .ensures) (not-false _ (c .before .before .before .before .if1 .left))) (c .before .before .before .name-of .result) (c .before .before .before .name-of .ensures) (c .before .enum-told .given .1) (c .before .before .before .before .before .before .before .before .before .before .before .args .depth) (c .if2 .taken)))
 
 expr-reads-byte-requires-2 : (t : ℕ) → expr-reads-lts.Need-byte-requires-2 (expr-reads-claims t) (expr-reads-at t) expr-reads.Post
 expr-reads-byte-requires-2 t c κs = search needs
@@ -121,7 +125,7 @@ expr-reads-same-length : (t : ℕ) → expr-reads-lts.Need-same-length (expr-rea
 expr-reads-same-length t c = search needs
 
 expr-reads-returns-3 : (t : ℕ) → expr-reads-lts.Need-returns-3 (expr-reads-claims t) (expr-reads-at t) expr-reads.Post
-expr-reads-returns-3 t c = (expr-field (c .before .before .before .before .before .before .before .before .before .before .before .before .before .before .before .before .before .args .e .now) (c .before .before .before .before .before .before .before .before .before .before .before .before .before .before .before .before .before .args .depth) (c .before .before .before .before .before .before .before .before .before .before .before .before .before .before .before .before .before .args .kinds .now) (names-of (c .before .before .before .before .before .before .before .before .before .before .before .before .before .before .before .before .before .args .names .now) (c .before .before .before .before .before .before .before .before .before .before .before .before .before .before .before .before .before .args .used)) (c .before .before .before .before .before .before .before .before .before .before .before .before .before .before .before .before .before .args .g .now) (c .before .before .before .before .before .before .before .before .before .before .before .before .before .before .before .before .before .args .from) (c .before .before .before .before .before .before .before .before .before .name-of .result) (c .before .before .before .before .before .before .before .before .before .name-of .ensures) (byte-is _ _ _ 40 (c .before .before .before .before .before .before .before .before .before .before .before .is-open .ensures) (c .before .before .before .before .before .before .before .before .before .before .before .before .byte .ensures) (not-false _ (c .before .before .before .before .before .before .before .before .before .before .if1 .left))) (c .before .before .before .before .before .before .before .enum-told .given .1) (sym (c .before .before .before .before .before .byte2 .ensures) ∙ c .before .before .before .before .if3 .taken) (c .before .before .field-reads .result) _ (c .before .before .field-reads .ensures .0), c .before .before .field-reads .ensures .1)
+expr-reads-returns-3 t c = (expr-field (c .before .before .before .before .before .before .before .before .before .before .before .before .before .before .before .before .before .args .e .now) (c .before .before .before .before .before .before .before .before .before .before .before .before .before .before .before .before .before .args .depth) (c .before .before .before .before .before .before .before .before .before .before .before .before .before .before .before .before .before .args .kinds .now) (names-of (c .before .before .before .before .before .before .before .before .before .before .before .before .before .before .before .before .before .args .names .now) (c .before .before .before .before .before .before .before .before .before .before .before .before .before .before .before .before .before .args .used)) (c .before .before .before .before .before .before .before .before .before .before .before .before .before .before .before .before .before .args .g .now) (c .before .before .before .before .before .before .before .before .before .before .before .before .before .before .before .before .before .args .from) (c .before .before .before .before .before .before .before .before .before .name-of .result) (c .before .before .before .before .before .before .before .before .before .name-of .ensures) (byte-is _ _ _ 40 (c .before .before .before .before .before .before .before .before .before .before .before .is-open .ensures) (c .before .before .before .before .before .before .before .before .before .before .before .before .byte .ensures) (not-false _ (c .before .before .before .before .before .before .before .before .before .before .if1 .left))) (c .before .before .before .before .before .before .before .enum-told .given .1) (sym (c .before .before .before .before .before .byte2 .ensures) ∙ c .before .before .before .before .if3 .taken) (c .before .before .field-reads .result) _ (c .before .before .field-reads .ensures .0), reads-as (c .before .before .before .before .before .before .before .before .before .before .before .before .before .before .before .before .before .args .from) (c .before .before .before .before .before .before .before .before .before .before .before .before .before .before .before .before .before .args .g .now) (reads-field (c .before .before .before .before .before .before .before .before .before .before .before .before .before .before .before .before .before .args .e .now) (c .before .before .before .before .before .before .before .before .before .before .before .before .before .before .before .before .before .args .kinds .now) (names-of (c .before .before .before .before .before .before .before .before .before .before .before .before .before .before .before .before .before .args .names .now) (c .before .before .before .before .before .before .before .before .before .before .before .before .before .before .before .before .before .args .used)) (byte-is _ _ _ 40 (c .before .before .before .before .before .before .before .before .before .before .before .is-open .ensures) (c .before .before .before .before .before .before .before .before .before .before .before .before .byte .ensures) (not-false _ (c .before .before .before .before .before .before .before .before .before .before .if1 .left))) (c .before .before .before .before .before .before .before .before .before .name-of .result) (c .before .before .before .before .before .before .before .before .before .name-of .ensures) (c .before .before .before .before .before .before .before .enum-told .given .1) (c .before .before .before .before .before .before .before .before .before .before .before .before .before .before .before .before .before .args .depth) (c .before .before .before .before .before .before .if2 .left) (sym (c .before .before .before .before .before .byte2 .ensures) ∙ c .before .before .before .before .if3 .taken)) (c .before .before .field-reads .result) _ (c .before .before .field-reads .ensures .1))
 
 expr-reads-part-end-requires : (t : ℕ) → expr-reads-lts.Need-part-end-requires (expr-reads-claims t) (expr-reads-at t) expr-reads.Post
 expr-reads-part-end-requires t c κs = search needs
@@ -136,13 +140,13 @@ expr-reads-same-length-2 : (t : ℕ) → expr-reads-lts.Need-same-length-2 (expr
 expr-reads-same-length-2 t c = search needs
 
 expr-reads-returns-4 : (t : ℕ) → expr-reads-lts.Need-returns-4 (expr-reads-claims t) (expr-reads-at t) expr-reads.Post
-expr-reads-returns-4 t c = (expr-name (c .before .before .before .before .before .before .before .before .before .before .before .before .before .before .before .args .e .now) (c .before .before .before .before .before .before .before .before .before .before .before .before .before .before .before .args .depth) (c .before .before .before .before .before .before .before .before .before .before .before .before .before .before .before .args .kinds .now) (names-of (c .before .before .before .before .before .before .before .before .before .before .before .before .before .before .before .args .names .now) (c .before .before .before .before .before .before .before .before .before .before .before .before .before .before .before .args .used)) (c .before .before .before .before .before .before .before .before .before .before .before .before .before .before .before .args .g .now) (c .before .before .before .before .before .before .before .before .before .before .before .before .before .before .before .args .from) (c .before .before .before .before .before .before .before .name-of .result) (c .before .before .before .before .before .before .before .name-of .ensures) (c .before .before .before .before .before .n .given .1) (c .before .before .name-read .result) _ (c .before .before .name-read .ensures .0), c .before .before .name-read .ensures .1)
+expr-reads-returns-4 t c = (expr-name (c .before .before .before .before .before .before .before .before .before .before .before .before .before .before .before .args .e .now) (c .before .before .before .before .before .before .before .before .before .before .before .before .before .before .before .args .depth) (c .before .before .before .before .before .before .before .before .before .before .before .before .before .before .before .args .kinds .now) (names-of (c .before .before .before .before .before .before .before .before .before .before .before .before .before .before .before .args .names .now) (c .before .before .before .before .before .before .before .before .before .before .before .before .before .before .before .args .used)) (c .before .before .before .before .before .before .before .before .before .before .before .before .before .before .before .args .g .now) (c .before .before .before .before .before .before .before .before .before .before .before .before .before .before .before .args .from) (c .before .before .before .before .before .before .before .name-of .result) (c .before .before .before .before .before .before .before .name-of .ensures) (c .before .before .before .before .before .n .given .1) (c .before .before .name-read .result) _ (c .before .before .name-read .ensures .0), reads-as (c .before .before .before .before .before .before .before .before .before .before .before .before .before .before .before .args .from) (c .before .before .before .before .before .before .before .before .before .before .before .before .before .before .before .args .g .now) (reads-name (c .before .before .before .before .before .before .before .before .before .before .before .before .before .before .before .args .e .now) (c .before .before .before .before .before .before .before .before .before .before .before .before .before .before .before .args .kinds .now) (names-of (c .before .before .before .before .before .before .before .before .before .before .before .before .before .before .before .args .names .now) (c .before .before .before .before .before .before .before .before .before .before .before .before .before .before .before .args .used)) (byte-is _ _ _ 40 (c .before .before .before .before .before .before .before .before .before .is-open .ensures) (c .before .before .before .before .before .before .before .before .before .before .byte .ensures) (not-false _ (c .before .before .before .before .before .before .before .before .if1 .left))) (c .before .before .before .before .before .before .before .name-of .result) (c .before .before .before .before .before .before .before .name-of .ensures) (c .before .before .before .before .before .before .before .before .before .before .before .before .before .before .before .args .depth) (c .before .before .before .before .before .n .given .1)) (c .before .before .name-read .result) _ (c .before .before .name-read .ensures .1))
 
 expr-reads-same-length-3 : (t : ℕ) → expr-reads-lts.Need-same-length-3 (expr-reads-claims t) (expr-reads-at t) expr-reads.Post
 expr-reads-same-length-3 t c = search needs
 
 expr-reads-returns-5 : (t : ℕ) → expr-reads-lts.Need-returns-5 (expr-reads-claims t) (expr-reads-at t) expr-reads.Post
-expr-reads-returns-5 t c = (expr-parts (c .before .before .before .before .before .before .before .before .before .before .before .before .before .before .before .before .before .before .args .e .now) (c .before .before .before .before .before .before .before .before .before .before .before .before .before .before .before .before .before .before .args .depth) (c .before .before .before .before .before .before .before .before .before .before .before .before .before .before .before .before .before .before .args .kinds .now) (names-of (c .before .before .before .before .before .before .before .before .before .before .before .before .before .before .before .before .before .before .args .names .now) (c .before .before .before .before .before .before .before .before .before .before .before .before .before .before .before .before .before .before .args .used)) (c .before .before .before .before .before .before .before .before .before .before .before .before .before .before .before .before .before .before .args .g .now) (c .before .before .before .before .before .before .before .before .before .before .before .before .before .before .before .before .before .before .args .from) (c .before .before .before .before .before .before .before .before .before .before .name-of .result) (c .before .before .before .before .before .before .before .before .before .before .name-of .ensures) (byte-is _ _ _ 40 (c .before .before .before .before .before .before .before .before .before .before .before .before .is-open .ensures) (c .before .before .before .before .before .before .before .before .before .before .before .before .before .byte .ensures) (not-false _ (c .before .before .before .before .before .before .before .before .before .before .before .if1 .left))) (c .before .before .before .before .before .before .before .before .enum-told .given .1) (λ e. c .before .before .before .before .before .if3 .left (c .before .before .before .before .before .before .byte2 .ensures ∙ e)) (c .before .before .before .before .part-end .ensures) (c .before .before .parts-read .result) _ (c .before .before .parts-read .ensures .0), c .before .before .parts-read .ensures .1)
+expr-reads-returns-5 t c = (expr-parts (c .before .before .before .before .before .before .before .before .before .before .before .before .before .before .before .before .before .before .args .e .now) (c .before .before .before .before .before .before .before .before .before .before .before .before .before .before .before .before .before .before .args .depth) (c .before .before .before .before .before .before .before .before .before .before .before .before .before .before .before .before .before .before .args .kinds .now) (names-of (c .before .before .before .before .before .before .before .before .before .before .before .before .before .before .before .before .before .before .args .names .now) (c .before .before .before .before .before .before .before .before .before .before .before .before .before .before .before .before .before .before .args .used)) (c .before .before .before .before .before .before .before .before .before .before .before .before .before .before .before .before .before .before .args .g .now) (c .before .before .before .before .before .before .before .before .before .before .before .before .before .before .before .before .before .before .args .from) (c .before .before .before .before .before .before .before .before .before .before .name-of .result) (c .before .before .before .before .before .before .before .before .before .before .name-of .ensures) (byte-is _ _ _ 40 (c .before .before .before .before .before .before .before .before .before .before .before .before .is-open .ensures) (c .before .before .before .before .before .before .before .before .before .before .before .before .before .byte .ensures) (not-false _ (c .before .before .before .before .before .before .before .before .before .before .before .if1 .left))) (c .before .before .before .before .before .before .before .before .enum-told .given .1) (λ e. c .before .before .before .before .before .if3 .left (c .before .before .before .before .before .before .byte2 .ensures ∙ e)) (c .before .before .before .before .part-end .ensures) (c .before .before .parts-read .result) _ (c .before .before .parts-read .ensures .0), reads-as (c .before .before .before .before .before .before .before .before .before .before .before .before .before .before .before .before .before .before .args .from) (c .before .before .before .before .before .before .before .before .before .before .before .before .before .before .before .before .before .before .args .g .now) (reads-parts (c .before .before .before .before .before .before .before .before .before .before .before .before .before .before .before .before .before .before .args .e .now) (c .before .before .before .before .before .before .before .before .before .before .before .before .before .before .before .before .before .before .args .kinds .now) (names-of (c .before .before .before .before .before .before .before .before .before .before .before .before .before .before .before .before .before .before .args .names .now) (c .before .before .before .before .before .before .before .before .before .before .before .before .before .before .before .before .before .before .args .used)) (byte-is _ _ _ 40 (c .before .before .before .before .before .before .before .before .before .before .before .before .is-open .ensures) (c .before .before .before .before .before .before .before .before .before .before .before .before .before .byte .ensures) (not-false _ (c .before .before .before .before .before .before .before .before .before .before .before .if1 .left))) (c .before .before .before .before .before .before .before .before .before .before .name-of .result) (c .before .before .before .before .before .before .before .before .before .before .name-of .ensures) (c .before .before .before .before .before .before .before .before .enum-told .given .1) (c .before .before .before .before .before .before .before .before .before .before .before .before .before .before .before .before .before .before .args .depth) (c .before .before .before .before .before .before .before .if2 .left) (λ e. c .before .before .before .before .before .if3 .left (c .before .before .before .before .before .before .byte2 .ensures ∙ e)) (c .before .before .before .before .part-end .ensures)) (c .before .before .parts-read .result) _ (c .before .before .parts-read .ensures .1))
 
 field-reads-next-end-requires : (t : ℕ) → field-reads-lts.Need-next-end-requires (field-reads-claims t) (field-reads-at t) field-reads.Post
 field-reads-next-end-requires t c κs = search needs
@@ -193,28 +197,28 @@ field-reads-same-length : (t : ℕ) → field-reads-lts.Need-same-length (field-
 field-reads-same-length t c = search needs
 
 field-reads-returns : (t : ℕ) → field-reads-lts.Need-returns (field-reads-claims t) (field-reads-at t) field-reads.Post
-field-reads-returns t c = (field-output (c .before .before .before .before .before .before .before .before .before .before .before .before .before .before .before .before .args .e .now) (c .before .before .before .before .before .before .before .before .before .before .before .before .before .before .before .before .args .depth) (c .before .before .before .before .before .before .before .before .before .before .before .before .before .before .before .before .args .kinds .now) (names-of (c .before .before .before .before .before .before .before .before .before .before .before .before .before .before .before .before .args .names .now) (c .before .before .before .before .before .before .before .before .before .before .before .before .before .before .before .before .args .used)) (c .before .before .before .before .before .before .before .before .before .before .before .before .before .before .before .before .args .g .now) (c .before .before .before .before .before .before .before .before .before .before .before .before .before .before .before .before .args .from) (c .before .before .before .before .before .before .before .before .before .before .before .next-end .ensures) (c .before .before .before .before .before .before .before .before .before .before .between .ensures) (c .before .before .before .before .before .before .before .before .before .next-end2 .ensures) (c .before .before .before .before .before .before .before .before .number-at .ensures) (c .before .before .before .before .before .before .before .field-of .result) (c .before .before .before .before .before .before .before .field-of .ensures) (c .before .before .before .before .before .i .given .1) (c .before .before .output-read .result) _ (c .before .before .output-read .ensures .0), c .before .before .output-read .ensures .1)
+field-reads-returns t c = (field-output (c .before .before .before .before .before .before .before .before .before .before .before .before .before .before .before .before .args .e .now) (c .before .before .before .before .before .before .before .before .before .before .before .before .before .before .before .before .args .depth) (c .before .before .before .before .before .before .before .before .before .before .before .before .before .before .before .before .args .kinds .now) (names-of (c .before .before .before .before .before .before .before .before .before .before .before .before .before .before .before .before .args .names .now) (c .before .before .before .before .before .before .before .before .before .before .before .before .before .before .before .before .args .used)) (c .before .before .before .before .before .before .before .before .before .before .before .before .before .before .before .before .args .g .now) (c .before .before .before .before .before .before .before .before .before .before .before .before .before .before .before .before .args .from) (c .before .before .before .before .before .before .before .before .before .before .before .next-end .ensures) (c .before .before .before .before .before .before .before .before .before .before .between .ensures) (c .before .before .before .before .before .before .before .before .before .next-end2 .ensures) (c .before .before .before .before .before .before .before .before .number-at .ensures) (c .before .before .before .before .before .before .before .field-of .result) (field-says (c .before .before .before .before .before .before .before .before .before .before .between .result .now) (c .before .before .before .before .before .before .before .before .before .before .before .before .before .before .before .before .args .kinds .now) (c .before .before .before .before .before .before .before .field-of .ensures)) (c .before .before .before .before .before .i .given .1) (c .before .before .output-read .result) _ (c .before .before .output-read .ensures .0), reads-as (c .before .before .before .before .before .before .before .before .before .before .before .before .before .before .before .before .args .from) (c .before .before .before .before .before .before .before .before .before .before .before .before .before .before .before .before .args .g .now) (reads-output (expr-read (c .before .before .before .before .before .before .before .before .before .before .before .before .before .before .before .before .args .kinds .now) (names-of (c .before .before .before .before .before .before .before .before .before .before .before .before .before .before .before .before .args .names .now) (c .before .before .before .before .before .before .before .before .before .before .before .before .before .before .before .before .args .used)) (c .before .before .before .before .before .before .before .before .before .before .before .before .before .before .before .before .args .depth)) (c .before .before .before .before .before .before .before .before .before .before .before .before .before .before .before .before .args .kinds .now) (names-of (c .before .before .before .before .before .before .before .before .before .before .before .before .before .before .before .before .args .names .now) (c .before .before .before .before .before .before .before .before .before .before .before .before .before .before .before .before .args .used)) (c .before .before .before .before .before .before .before .before .before .before .before .before .before .before .before .before .args .depth) (c .before .before .before .before .before .before .before .before .before .before .before .before .before .before .before .before .args .e .now) (c .before .before .before .before .before .before .before .before .before .before .before .next-end .ensures) (c .before .before .before .before .before .before .before .before .before .before .between .ensures) (c .before .before .before .before .before .before .before .before .before .next-end2 .ensures) (c .before .before .before .before .before .before .before .before .number-at .ensures) (c .before .before .before .before .before .before .before .field-of .result) (c .before .before .before .before .before .before .before .field-of .ensures) (c .before .before .before .before .before .i .given .1)) (c .before .before .output-read .result) _ (c .before .before .output-read .ensures .1))
 
 field-reads-same-length-2 : (t : ℕ) → field-reads-lts.Need-same-length-2 (field-reads-claims t) (field-reads-at t) field-reads.Post
 field-reads-same-length-2 t c = search needs
 
 field-reads-returns-2 : (t : ℕ) → field-reads-lts.Need-returns-2 (field-reads-claims t) (field-reads-at t) field-reads.Post
-field-reads-returns-2 t c = (field-indexed (c .before .before .before .before .before .before .before .before .before .before .before .before .before .before .before .before .before .before .before .before .args .e .now) (c .before .before .before .before .before .before .before .before .before .before .before .before .before .before .before .before .before .before .before .before .args .depth) (c .before .before .before .before .before .before .before .before .before .before .before .before .before .before .before .before .before .before .before .before .args .kinds .now) (names-of (c .before .before .before .before .before .before .before .before .before .before .before .before .before .before .before .before .before .before .before .before .args .names .now) (c .before .before .before .before .before .before .before .before .before .before .before .before .before .before .before .before .before .before .before .before .args .used)) (c .before .before .before .before .before .before .before .before .before .before .before .before .before .before .before .before .before .before .before .before .args .g .now) (c .before .before .before .before .before .before .before .before .before .before .before .before .before .before .before .before .before .before .before .before .args .from) (c .before .before .before .before .before .before .before .before .before .before .before .before .before .before .before .next-end .ensures) (c .before .before .before .before .before .before .before .before .before .before .before .before .before .before .between .ensures) (c .before .before .before .before .before .before .before .before .before .before .before .before .before .next-end2 .ensures) (c .before .before .before .before .before .before .before .before .before .before .before .before .number-at .ensures) (c .before .before .before .before .before .before .before .before .before .before .before .field-of .result) (c .before .before .before .before .before .before .before .before .before .before .before .field-of .ensures) (c .before .before .before .before .before .before .before .before .before .i2 .given .1) (c .before .before .before .before .before .before .before .part-end .ensures) (c .before .before .before .before .before .before .next-end3 .ensures) (c .before .before .before .before .before .between2 .ensures) (c .before .before .before .before .under .ensures) (c .before .before .index-read .result) _ (c .before .before .index-read .ensures .0), c .before .before .index-read .ensures .1)
+field-reads-returns-2 t c = (field-indexed (c .before .before .before .before .before .before .before .before .before .before .before .before .before .before .before .before .before .before .before .before .args .e .now) (c .before .before .before .before .before .before .before .before .before .before .before .before .before .before .before .before .before .before .before .before .args .depth) (c .before .before .before .before .before .before .before .before .before .before .before .before .before .before .before .before .before .before .before .before .args .kinds .now) (names-of (c .before .before .before .before .before .before .before .before .before .before .before .before .before .before .before .before .before .before .before .before .args .names .now) (c .before .before .before .before .before .before .before .before .before .before .before .before .before .before .before .before .before .before .before .before .args .used)) (c .before .before .before .before .before .before .before .before .before .before .before .before .before .before .before .before .before .before .before .before .args .g .now) (c .before .before .before .before .before .before .before .before .before .before .before .before .before .before .before .before .before .before .before .before .args .from) (c .before .before .before .before .before .before .before .before .before .before .before .before .before .before .before .next-end .ensures) (c .before .before .before .before .before .before .before .before .before .before .before .before .before .before .between .ensures) (c .before .before .before .before .before .before .before .before .before .before .before .before .before .next-end2 .ensures) (c .before .before .before .before .before .before .before .before .before .before .before .before .number-at .ensures) (c .before .before .before .before .before .before .before .before .before .before .before .field-of .result) (field-says (c .before .before .before .before .before .before .before .before .before .before .before .before .before .before .between .result .now) (c .before .before .before .before .before .before .before .before .before .before .before .before .before .before .before .before .before .before .before .before .args .kinds .now) (c .before .before .before .before .before .before .before .before .before .before .before .field-of .ensures)) (c .before .before .before .before .before .before .before .before .before .i2 .given .1) (c .before .before .before .before .before .before .before .part-end .ensures) (c .before .before .before .before .before .before .next-end3 .ensures) (c .before .before .before .before .before .between2 .ensures) (c .before .before .before .before .under .ensures) (c .before .before .index-read .result) _ (c .before .before .index-read .ensures .0), reads-as (c .before .before .before .before .before .before .before .before .before .before .before .before .before .before .before .before .before .before .before .before .args .from) (c .before .before .before .before .before .before .before .before .before .before .before .before .before .before .before .before .before .before .before .before .args .g .now) (reads-indexed (expr-read (c .before .before .before .before .before .before .before .before .before .before .before .before .before .before .before .before .before .before .before .before .args .kinds .now) (names-of (c .before .before .before .before .before .before .before .before .before .before .before .before .before .before .before .before .before .before .before .before .args .names .now) (c .before .before .before .before .before .before .before .before .before .before .before .before .before .before .before .before .before .before .before .before .args .used)) (c .before .before .before .before .before .before .before .before .before .before .before .before .before .before .before .before .before .before .before .before .args .depth)) (c .before .before .before .before .before .before .before .before .before .before .before .before .before .before .before .before .before .before .before .before .args .kinds .now) (names-of (c .before .before .before .before .before .before .before .before .before .before .before .before .before .before .before .before .before .before .before .before .args .names .now) (c .before .before .before .before .before .before .before .before .before .before .before .before .before .before .before .before .before .before .before .before .args .used)) (c .before .before .before .before .before .before .before .before .before .before .before .before .before .before .before .before .before .before .before .before .args .depth) (c .before .before .before .before .before .before .before .before .before .before .before .before .before .before .before .before .before .before .before .before .args .e .now) (c .before .before .before .before .before .before .before .before .before .before .before .before .before .before .before .next-end .ensures) (c .before .before .before .before .before .before .before .before .before .before .before .before .before .before .between .ensures) (c .before .before .before .before .before .before .before .before .before .before .before .before .before .next-end2 .ensures) (c .before .before .before .before .before .before .before .before .before .before .before .before .number-at .ensures) (c .before .before .before .before .before .before .before .before .before .before .before .field-of .result) (c .before .before .before .before .before .before .before .before .before .before .before .field-of .ensures) (c .before .before .before .before .before .before .before .before .before .i2 .given .1) (c .before .before .before .before .before .before .before .part-end .ensures) (c .before .before .before .before .before .before .next-end3 .ensures) (c .before .before .before .before .before .between2 .ensures) (c .before .before .before .before .under .ensures)) (c .before .before .index-read .result) _ (c .before .before .index-read .ensures .1))
 
 field-reads-same-length-3 : (t : ℕ) → field-reads-lts.Need-same-length-3 (field-reads-claims t) (field-reads-at t) field-reads.Post
 field-reads-same-length-3 t c = search needs
 
 field-reads-returns-3 : (t : ℕ) → field-reads-lts.Need-returns-3 (field-reads-claims t) (field-reads-at t) field-reads.Post
-field-reads-returns-3 t c = (field-inner (c .before .before .before .before .before .before .before .before .before .before .before .before .before .before .before .args .e .now) (c .before .before .before .before .before .before .before .before .before .before .before .before .before .before .before .args .depth) (c .before .before .before .before .before .before .before .before .before .before .before .before .before .before .before .args .kinds .now) (names-of (c .before .before .before .before .before .before .before .before .before .before .before .before .before .before .before .args .names .now) (c .before .before .before .before .before .before .before .before .before .before .before .before .before .before .before .args .used)) (c .before .before .before .before .before .before .before .before .before .before .before .before .before .before .before .args .g .now) (c .before .before .before .before .before .before .before .before .before .before .before .before .before .before .before .args .from) (c .before .before .before .before .before .before .before .before .before .before .next-end .ensures) (c .before .before .before .before .before .before .before .before .before .between .ensures) (c .before .before .before .before .before .before .before .before .next-end2 .ensures) (c .before .before .before .before .before .before .before .number-at .ensures) (c .before .before .before .before .before .before .field-of .result) (c .before .before .before .before .before .before .field-of .ensures) (c .before .before .before .before .enum-told .given .1) (c .before .before .expr-reads .result) _ (c .before .before .expr-reads .ensures .0), c .before .before .expr-reads .ensures .1)
+field-reads-returns-3 t c = (field-inner (c .before .before .before .before .before .before .before .before .before .before .before .before .before .before .before .args .e .now) (c .before .before .before .before .before .before .before .before .before .before .before .before .before .before .before .args .depth) (c .before .before .before .before .before .before .before .before .before .before .before .before .before .before .before .args .kinds .now) (names-of (c .before .before .before .before .before .before .before .before .before .before .before .before .before .before .before .args .names .now) (c .before .before .before .before .before .before .before .before .before .before .before .before .before .before .before .args .used)) (c .before .before .before .before .before .before .before .before .before .before .before .before .before .before .before .args .g .now) (c .before .before .before .before .before .before .before .before .before .before .before .before .before .before .before .args .from) (c .before .before .before .before .before .before .before .before .before .before .next-end .ensures) (c .before .before .before .before .before .before .before .before .before .between .ensures) (c .before .before .before .before .before .before .before .before .next-end2 .ensures) (c .before .before .before .before .before .before .before .number-at .ensures) (c .before .before .before .before .before .before .field-of .result) (field-says (c .before .before .before .before .before .before .before .before .before .between .result .now) (c .before .before .before .before .before .before .before .before .before .before .before .before .before .before .before .args .kinds .now) (c .before .before .before .before .before .before .field-of .ensures)) (c .before .before .before .before .enum-told .given .1) (c .before .before .expr-reads .result) _ (c .before .before .expr-reads .ensures .0), reads-as (c .before .before .before .before .before .before .before .before .before .before .before .before .before .before .before .args .from) (c .before .before .before .before .before .before .before .before .before .before .before .before .before .before .before .args .g .now) (reads-inner (expr-read (c .before .before .before .before .before .before .before .before .before .before .before .before .before .before .before .args .kinds .now) (names-of (c .before .before .before .before .before .before .before .before .before .before .before .before .before .before .before .args .names .now) (c .before .before .before .before .before .before .before .before .before .before .before .before .before .before .before .args .used)) (c .before .before .before .before .before .before .before .before .before .before .before .before .before .before .before .args .depth)) (c .before .before .before .before .before .before .before .before .before .before .before .before .before .before .before .args .kinds .now) (names-of (c .before .before .before .before .before .before .before .before .before .before .before .before .before .before .before .args .names .now) (c .before .before .before .before .before .before .before .before .before .before .before .before .before .before .before .args .used)) (c .before .before .before .before .before .before .before .before .before .before .before .before .before .before .before .args .depth) (c .before .before .before .before .before .before .before .before .before .before .before .before .before .before .before .args .e .now) (c .before .before .before .before .before .before .before .before .before .before .next-end .ensures) (c .before .before .before .before .before .before .before .before .before .between .ensures) (c .before .before .before .before .before .before .before .before .next-end2 .ensures) (c .before .before .before .before .before .before .before .number-at .ensures) (c .before .before .before .before .before .before .field-of .result) (c .before .before .before .before .before .before .field-of .ensures) (c .before .before .before .before .enum-told .given .1)) (c .before .before .expr-reads .result) _ (c .before .before .expr-reads .ensures .1))
 
 abbrev parts-read-Inv-loop : parts-read-lts.InvT-loop
-parts-read-Inv-loop e end depth kinds names used g₀ from a₀ g a = (length g ≡ length g₀) × ((r : Bool) (g′ : List ℕ) → PartsRead r (drop a e) depth kinds (names-of names used) g g′ from → PartsRead r (drop end e) depth kinds (names-of names used) g₀ g′ from)
+parts-read-Inv-loop e end depth kinds names used g₀ from a₀ g a = ((length g ≡ length g₀) × ((r : Bool) (g′ : List ℕ) → ReadsOrCleared r (reads-in-order (expr-read kinds (names-of names used) depth) (parts-behind e a)) from g g′ → ReadsOrCleared r (reads-in-order (expr-read kinds (names-of names used) depth) (parts-behind e end)) from g₀ g′)) × ((r : Bool) (g′ : List ℕ) → PartsRead r (drop a e) depth kinds (names-of names used) g g′ from → PartsRead r (drop end e) depth kinds (names-of names used) g₀ g′ from)
 
 abbrev parts-read-μ-loop : parts-read-lts.MeasureT-loop
 parts-read-μ-loop e end depth kinds names used g₀ from a₀ g a = length e - a
 
 parts-read-loop-holds : (t : ℕ) → parts-read-lts.Need-loop-holds (parts-read-claims t) (parts-read-at t) parts-read.Post parts-read-Inv-loop parts-read-μ-loop
-parts-read-loop-holds t c = (refl, λ r g′ h. h)
+parts-read-loop-holds t c = ((refl, λ r g′ h. h), λ r g′ h. h)
 
 parts-read-more-requires : (t : ℕ) → parts-read-lts.Need-more-requires (parts-read-claims t) (parts-read-at t) parts-read.Post parts-read-Inv-loop parts-read-μ-loop
 parts-read-more-requires t c κs = search needs
@@ -235,19 +239,19 @@ parts-read-same-length : (t : ℕ) → parts-read-lts.Need-same-length (parts-re
 parts-read-same-length t c = search needs
 
 parts-read-returns : (t : ℕ) → parts-read-lts.Need-returns (parts-read-claims t) (parts-read-at t) parts-read.Post parts-read-Inv-loop parts-read-μ-loop
-parts-read-returns t c = (c .before .before .before .before .before .before .before .before .before .loop .inv .1 false (c .before .before .before .expr-reads .last .1 .1 .1 .1 .1 .0) (parts-stop (c .before .before .before .before .before .before .before .before .before .before .before .before .before .before .args .e .now) (c .before .before .before .before .before .before .before .before .before .loop .a) (c .before .before .before .before .before .before .before .before .before .before .before .before .before .before .args .depth) (c .before .before .before .before .before .before .before .before .before .before .before .before .before .before .args .kinds .now) (names-of (c .before .before .before .before .before .before .before .before .before .before .before .before .before .before .args .names .now) (c .before .before .before .before .before .before .before .before .before .before .before .before .before .before .args .used)) (c .before .before .before .before .before .before .before .before .before .before .before .before .before .before .args .from) (sym (c .before .before .before .before .before .before .before .before .more .ensures) ∙ c .before .before .before .before .before .before .before .if1 .taken) (c .before .before .before .before .before .before .part-end .ensures) (c .before .before .before .before .before .between .ensures) (c .before .before .before .before .before .before .before .before .before .loop .g) (c .before .before .before .expr-reads .last .1 .1 .1 .1 .1 .0) (c .before .before .before .expr-reads .result) (not-true _ (c .if2 .taken)) (c .before .before .before .expr-reads .ensures .0)), false-cleared (c .before .before .before .expr-reads .result) _ (not-true _ (c .if2 .taken)) (c .before .before .before .expr-reads .ensures .1))
+parts-read-returns t c = (c .before .before .before .before .before .before .before .before .before .loop .inv .1 false (c .before .before .before .expr-reads .last .1 .1 .1 .1 .1 .0) (parts-stop (c .before .before .before .before .before .before .before .before .before .before .before .before .before .before .args .e .now) (c .before .before .before .before .before .before .before .before .before .loop .a) (c .before .before .before .before .before .before .before .before .before .before .before .before .before .before .args .depth) (c .before .before .before .before .before .before .before .before .before .before .before .before .before .before .args .kinds .now) (names-of (c .before .before .before .before .before .before .before .before .before .before .before .before .before .before .args .names .now) (c .before .before .before .before .before .before .before .before .before .before .before .before .before .before .args .used)) (c .before .before .before .before .before .before .before .before .before .before .before .before .before .before .args .from) (sym (c .before .before .before .before .before .before .before .before .more .ensures) ∙ c .before .before .before .before .before .before .before .if1 .taken) (c .before .before .before .before .before .before .part-end .ensures) (c .before .before .before .before .before .between .ensures) (c .before .before .before .before .before .before .before .before .before .loop .g) (c .before .before .before .expr-reads .last .1 .1 .1 .1 .1 .0) (c .before .before .before .expr-reads .result) (not-true _ (c .if2 .taken)) (c .before .before .before .expr-reads .ensures .0)), c .before .before .before .before .before .before .before .before .before .loop .inv .0 .1 false (c .before .before .before .expr-reads .last .1 .1 .1 .1 .1 .0) (all-stop (expr-read (c .before .before .before .before .before .before .before .before .before .before .before .before .before .before .args .kinds .now) (names-of (c .before .before .before .before .before .before .before .before .before .before .before .before .before .before .args .names .now) (c .before .before .before .before .before .before .before .before .before .before .before .before .before .before .args .used)) (c .before .before .before .before .before .before .before .before .before .before .before .before .before .before .args .depth)) (c .before .before .before .before .before .before .before .before .before .before .before .before .before .before .args .e .now) (c .before .before .before .before .before .before .before .before .before .loop .a) (c .before .before .before .before .before .before .before .before .before .before .before .before .before .before .args .from) (sym (c .before .before .before .before .before .before .before .before .more .ensures) ∙ c .before .before .before .before .before .before .before .if1 .taken) (c .before .before .before .before .before .before .part-end .ensures) (c .before .before .before .before .before .between .ensures) (c .before .before .before .before .before .before .before .before .before .loop .g) (c .before .before .before .expr-reads .last .1 .1 .1 .1 .1 .0) (c .before .before .before .expr-reads .result) (not-true _ (c .if2 .taken)) (c .before .before .before .expr-reads .ensures .1)))
 
 parts-read-loop-less : (t : ℕ) → parts-read-lts.Need-loop-less (parts-read-claims t) (parts-read-at t) parts-read.Post parts-read-Inv-loop parts-read-μ-loop
 parts-read-loop-less t c = omega (arith, follows-in (c .before .before .before .before .before .before .before .before .before .before .before .before .before .before .args .e .now) (c .before .before .before .before .before .before .before .before .before .loop .a) (sym (c .before .before .before .before .before .before .before .before .more .ensures) ∙ c .before .before .before .before .before .before .before .if1 .taken), c .before .before .before .before .before .before .part-end .ensures)
 
 parts-read-loop-again : (t : ℕ) → parts-read-lts.Need-loop-again (parts-read-claims t) (parts-read-at t) parts-read.Post parts-read-Inv-loop parts-read-μ-loop
-parts-read-loop-again t c = (c .before .before .before .expr-reads .kept .1 .1 .1 .1 .1 .0 ∙ c .before .before .before .before .before .before .before .before .before .loop .inv .0, λ r g′ h. c .before .before .before .before .before .before .before .before .before .loop .inv .1 r g′ (parts-more (c .before .before .before .before .before .before .before .before .before .before .before .before .before .before .args .e .now) (c .before .before .before .before .before .before .before .before .before .loop .a) (c .before .before .before .before .before .before .before .before .before .before .before .before .before .before .args .depth) (c .before .before .before .before .before .before .before .before .before .before .before .before .before .before .args .kinds .now) (names-of (c .before .before .before .before .before .before .before .before .before .before .before .before .before .before .args .names .now) (c .before .before .before .before .before .before .before .before .before .before .before .before .before .before .args .used)) (c .before .before .before .before .before .before .before .before .before .before .before .before .before .before .args .from) (sym (c .before .before .before .before .before .before .before .before .more .ensures) ∙ c .before .before .before .before .before .before .before .if1 .taken) (c .before .before .before .before .before .before .part-end .ensures) (c .before .before .before .before .before .between .ensures) (c .before .before .before .before .before .before .before .before .before .loop .g) (c .before .before .before .expr-reads .last .1 .1 .1 .1 .1 .0) (c .before .before .before .expr-reads .result) (not-false _ (c .if2 .left)) (c .before .before .before .expr-reads .ensures .0) r g′ h))
+parts-read-loop-again t c = ((c .before .before .before .expr-reads .kept .1 .1 .1 .1 .1 .0 ∙ c .before .before .before .before .before .before .before .before .before .loop .inv .0 .0, λ r g′ h. c .before .before .before .before .before .before .before .before .before .loop .inv .0 .1 r g′ (all-more (expr-read (c .before .before .before .before .before .before .before .before .before .before .before .before .before .before .args .kinds .now) (names-of (c .before .before .before .before .before .before .before .before .before .before .before .before .before .before .args .names .now) (c .before .before .before .before .before .before .before .before .before .before .before .before .before .before .args .used)) (c .before .before .before .before .before .before .before .before .before .before .before .before .before .before .args .depth)) (c .before .before .before .before .before .before .before .before .before .before .before .before .before .before .args .e .now) (c .before .before .before .before .before .before .before .before .before .loop .a) (c .before .before .before .before .before .before .before .before .before .before .before .before .before .before .args .from) (sym (c .before .before .before .before .before .before .before .before .more .ensures) ∙ c .before .before .before .before .before .before .before .if1 .taken) (c .before .before .before .before .before .before .part-end .ensures) (c .before .before .before .before .before .between .ensures) (c .before .before .before .before .before .before .before .before .before .loop .g) (c .before .before .before .expr-reads .last .1 .1 .1 .1 .1 .0) (c .before .before .before .expr-reads .kept .1 .1 .1 .1 .1 .0) (c .before .before .before .expr-reads .result) (not-false _ (c .if2 .left)) (c .before .before .before .expr-reads .ensures .1) r g′ h)), λ r g′ h. c .before .before .before .before .before .before .before .before .before .loop .inv .1 r g′ (parts-more (c .before .before .before .before .before .before .before .before .before .before .before .before .before .before .args .e .now) (c .before .before .before .before .before .before .before .before .before .loop .a) (c .before .before .before .before .before .before .before .before .before .before .before .before .before .before .args .depth) (c .before .before .before .before .before .before .before .before .before .before .before .before .before .before .args .kinds .now) (names-of (c .before .before .before .before .before .before .before .before .before .before .before .before .before .before .args .names .now) (c .before .before .before .before .before .before .before .before .before .before .before .before .before .before .args .used)) (c .before .before .before .before .before .before .before .before .before .before .before .before .before .before .args .from) (sym (c .before .before .before .before .before .before .before .before .more .ensures) ∙ c .before .before .before .before .before .before .before .if1 .taken) (c .before .before .before .before .before .before .part-end .ensures) (c .before .before .before .before .before .between .ensures) (c .before .before .before .before .before .before .before .before .before .loop .g) (c .before .before .before .expr-reads .last .1 .1 .1 .1 .1 .0) (c .before .before .before .expr-reads .result) (not-false _ (c .if2 .left)) (c .before .before .before .expr-reads .ensures .0) r g′ h))
 
 parts-read-same-length-2 : (t : ℕ) → parts-read-lts.Need-same-length-2 (parts-read-claims t) (parts-read-at t) parts-read.Post parts-read-Inv-loop parts-read-μ-loop
 parts-read-same-length-2 t c = search needs
 
 parts-read-returns-2 : (t : ℕ) → parts-read-lts.Need-returns-2 (parts-read-claims t) (parts-read-at t) parts-read.Post parts-read-Inv-loop parts-read-μ-loop
-parts-read-returns-2 t c = (c .before .before .loop .inv .1 true (c .before .before .loop .g) (parts-none (c .before .before .before .before .before .before .before .args .e .now) (c .before .before .loop .a) (c .before .before .before .before .before .before .before .args .depth) (c .before .before .before .before .before .before .before .args .kinds .now) (names-of (c .before .before .before .before .before .before .before .args .names .now) (c .before .before .before .before .before .before .before .args .used)) (c .before .before .before .before .before .before .before .args .from) (c .before .before .loop .g) (sym (c .before .more .ensures) ∙ c .if1 .left)), tt)
+parts-read-returns-2 t c = (c .before .before .loop .inv .1 true (c .before .before .loop .g) (parts-none (c .before .before .before .before .before .before .before .args .e .now) (c .before .before .loop .a) (c .before .before .before .before .before .before .before .args .depth) (c .before .before .before .before .before .before .before .args .kinds .now) (names-of (c .before .before .before .before .before .before .before .args .names .now) (c .before .before .before .before .before .before .before .args .used)) (c .before .before .before .before .before .before .before .args .from) (c .before .before .loop .g) (sym (c .before .more .ensures) ∙ c .if1 .left)), c .before .before .loop .inv .0 .1 true (c .before .before .loop .g) (all-none (expr-read (c .before .before .before .before .before .before .before .args .kinds .now) (names-of (c .before .before .before .before .before .before .before .args .names .now) (c .before .before .before .before .before .before .before .args .used)) (c .before .before .before .before .before .before .before .args .depth)) (c .before .before .before .before .before .before .before .args .e .now) (c .before .before .loop .a) (c .before .before .before .before .before .before .before .args .from) (c .before .before .loop .g) (sym (c .before .more .ensures) ∙ c .if1 .left)))
 
 pub +expr-reads+field-reads+parts-read-spec : {M : Type 1} → statement M
 +expr-reads+field-reads+parts-read-spec =

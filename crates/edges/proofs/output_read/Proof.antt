@@ -1,8 +1,10 @@
 -- `output_read` meets its contract, one law for each way. Assumes nothing.
-use Rattle.graph.proofs.Cleared.{full-cleared}
+use Rattle.graph.specs.declared.Node.the-variants as nodes
 use Rattle.edges.proofs.InstLaws.{output-at, output-full}
 use Rattle.spec.specs.Edge.{inst-out}
 use mathlib.Core.Option.{none}
+use mathlib.Core.Path.{refl}
+use Rattle.edges.proofs.LeaveLaws.{read-at, read-full}
 use borrow.Author.Needs.{needs}
 use Rattle.edges.proofs.output_read.Statement.{statement}
 use Rattle.edges.proofs.output_read.Tie as tie
@@ -20,13 +22,13 @@ same-length : tie.Need-same-length
 same-length c = search needs
 
 returns : tie.Need-returns
-returns c = (output-at (c .before .before .before .before .before .before .before .args .g .now) (c .before .before .before .before .before .before .before .args .from) (inst-out (c .before .before .before .before .before .before .before .args .i) none (c .before .before .before .before .before .before .before .args .p)) (c .before .before .before .before .read .result) _ (c .before .before .before .before .read .ensures .0) (c .enum-told .given .1), tt)
+returns c = (output-at (c .before .before .before .before .before .before .before .args .g .now) (c .before .before .before .before .before .before .before .args .from) (inst-out (c .before .before .before .before .before .before .before .args .i) none (c .before .before .before .before .before .before .before .args .p)) (c .before .before .before .before .read .result) _ (c .before .before .before .before .read .ensures .0) (c .enum-told .given .1), read-at (c .before .before .before .before .before .before .before .args .from) (c .before .before .before .before .before .before .before .args .g .now) (nodes.Output (c .before .before .before .before .before .before .before .args .i) (c .before .before .before .before .before .before .before .args .p)) (c .before .before .before .before .read .result) _ (c .before .before .before .before .read .ensures .1 .1 .0) refl (c .enum-told .given .1))
 
 same-length-2 : tie.Need-same-length-2
 same-length-2 c = search needs
 
 returns-2 : tie.Need-returns-2
-returns-2 c = (output-full (c .before .before .before .before .before .before .before .args .g .now) (c .before .before .before .before .before .before .before .args .from) (inst-out (c .before .before .before .before .before .before .before .args .i) none (c .before .before .before .before .before .before .before .args .p)) (c .before .before .before .before .read .result) _ (c .before .before .before .before .read .ensures .0) (c .enum-told2 .given .1), full-cleared (c .before .before .before .before .read .result) _ (c .enum-told2 .given .1) (c .before .before .before .before .read .ensures .1 .0))
+returns-2 c = (output-full (c .before .before .before .before .before .before .before .args .g .now) (c .before .before .before .before .before .before .before .args .from) (inst-out (c .before .before .before .before .before .before .before .args .i) none (c .before .before .before .before .before .before .before .args .p)) (c .before .before .before .before .read .result) _ (c .before .before .before .before .read .ensures .0) (c .enum-told2 .given .1), read-full (c .before .before .before .before .before .before .before .args .from) (c .before .before .before .before .before .before .before .args .g .now) (nodes.Output (c .before .before .before .before .before .before .before .args .i) (c .before .before .before .before .before .before .before .args .p)) (c .before .before .before .before .read .result) _ (c .before .before .before .before .read .ensures .1 .1 .0) refl (c .enum-told2 .given .1))
 
 pub output-read-spec : {M : Type 1} → statement M
 output-read-spec =

@@ -1,5 +1,5 @@
 -- `drive` meets its contract, one law for each way. Assumes nothing.
-use Rattle.items.proofs.Tables.{first-stays}
+use Rattle.items.proofs.AddedLaws.{drive-output, drive-wire, drive-reg, drive-mem, drive-none}
 use Rattle.items.proofs.Places.{named-means}
 use mathlib.Core.Path.{refl}
 use Rattle.consteval.specs.Worth.{names-of}
@@ -30,7 +30,7 @@ same-length : tie.Need-same-length
 same-length c = search needs
 
 returns : tie.Need-returns
-returns c = (line-output (c .before .before .before .before .before .before .before .before .before .before .before .before .before .before .args .x .now) (c .before .before .before .before .before .before .before .before .before .before .before .before .before .before .args .bound) (c .before .before .before .before .before .before .before .before .before .before .before .before .before .before .args .depth) (c .before .before .before .before .before .before .before .before .before .before .before .before .before .before .args .kinds .now) (names-of (c .before .before .before .before .before .before .before .before .before .before .before .before .before .before .args .names .now) (c .before .before .before .before .before .before .before .before .before .before .before .before .before .before .args .used)) (c .before .before .before .before .before .before .before .before .before .before .before .before .before .before .args .own .now) (c .before .before .before .before .before .before .before .before .before .part-end .ensures) (c .before .before .before .before .before .before .before .before .between .ensures) (c .before .before .before .before .before .before .before .named-at .result) (named-means _ _ (c .before .before .before .before .before .before .before .named-at .ensures)) (c .before .before .before .before .before .byte .ensures) (c .before .before .before .before .if1 .taken) (c .before .before .drive-output .result) _ (c .before .before .drive-output .ensures .0), c .before .before .drive-output .ensures .1)
+returns c = (line-output (c .before .before .before .before .before .before .before .before .before .before .before .before .before .before .args .x .now) (c .before .before .before .before .before .before .before .before .before .before .before .before .before .before .args .bound) (c .before .before .before .before .before .before .before .before .before .before .before .before .before .before .args .depth) (c .before .before .before .before .before .before .before .before .before .before .before .before .before .before .args .kinds .now) (names-of (c .before .before .before .before .before .before .before .before .before .before .before .before .before .before .args .names .now) (c .before .before .before .before .before .before .before .before .before .before .before .before .before .before .args .used)) (c .before .before .before .before .before .before .before .before .before .before .before .before .before .before .args .own .now) (c .before .before .before .before .before .before .before .before .before .part-end .ensures) (c .before .before .before .before .before .before .before .before .between .ensures) (c .before .before .before .before .before .before .before .named-at .result) (named-means _ _ (c .before .before .before .before .before .before .before .named-at .ensures)) (c .before .before .before .before .before .byte .ensures) (c .before .before .before .before .if1 .taken) (c .before .before .drive-output .result) _ (c .before .before .drive-output .ensures .0), (c .before .before .drive-output .ensures .1 .0, drive-output (c .before .before .before .before .before .before .before .before .before .before .before .before .before .before .args .x .now) (c .before .before .before .before .before .before .before .before .before .before .before .before .before .before .args .bound) (c .before .before .before .before .before .before .before .before .before .before .before .before .before .before .args .depth) (c .before .before .before .before .before .before .before .before .before .before .before .before .before .before .args .kinds .now) (names-of (c .before .before .before .before .before .before .before .before .before .before .before .before .before .before .args .names .now) (c .before .before .before .before .before .before .before .before .before .before .before .before .before .before .args .used)) (c .before .before .before .before .before .before .before .before .before .before .before .before .before .before .args .own .now) (c .before .before .before .before .before .before .before .before .before .part-end .ensures) (c .before .before .before .before .before .before .before .before .between .ensures) (c .before .before .before .before .before .before .before .named-at .result) (c .before .before .before .before .before .before .before .named-at .ensures) (c .before .before .before .before .before .byte .ensures) (c .before .before .before .before .if1 .taken) (c .before .before .drive-output .result) _ (c .before .before .drive-output .ensures .1 .1)))
 
 add-misuse-requires : tie.Need-add-misuse-requires
 add-misuse-requires c κs = search needs
@@ -39,7 +39,7 @@ same-length-2 : tie.Need-same-length-2
 same-length-2 c = search needs
 
 returns-2 : tie.Need-returns-2
-returns-2 c = (line-wire (c .before .before .before .before .before .before .before .before .before .before .before .before .before .before .before .args .x .now) (c .before .before .before .before .before .before .before .before .before .before .before .before .before .before .before .args .bound) (c .before .before .before .before .before .before .before .before .before .before .before .before .before .before .before .args .depth) (c .before .before .before .before .before .before .before .before .before .before .before .before .before .before .before .args .kinds .now) (names-of (c .before .before .before .before .before .before .before .before .before .before .before .before .before .before .before .args .names .now) (c .before .before .before .before .before .before .before .before .before .before .before .before .before .before .before .args .used)) (c .before .before .before .before .before .before .before .before .before .before .before .before .before .before .before .args .own .now) (c .before .before .before .before .before .before .before .before .before .before .part-end .ensures) (c .before .before .before .before .before .before .before .before .before .between .ensures) (c .before .before .before .before .before .before .before .before .named-at .result) (named-means _ _ (c .before .before .before .before .before .before .before .before .named-at .ensures)) (c .before .before .before .before .before .before .byte .ensures) _ (c .before .before .add-misuse .ensures .1 .1) (c .before .before .before .before .if2 .taken) (c .before .before .add-misuse .ensures .0), (c .before .before .add-misuse .ensures .1 .1, first-stays _ _ _ _ (c .before .before .add-misuse .ensures .1 .0)))
+returns-2 c = (line-wire (c .before .before .before .before .before .before .before .before .before .before .before .before .before .before .before .args .x .now) (c .before .before .before .before .before .before .before .before .before .before .before .before .before .before .before .args .bound) (c .before .before .before .before .before .before .before .before .before .before .before .before .before .before .before .args .depth) (c .before .before .before .before .before .before .before .before .before .before .before .before .before .before .before .args .kinds .now) (names-of (c .before .before .before .before .before .before .before .before .before .before .before .before .before .before .before .args .names .now) (c .before .before .before .before .before .before .before .before .before .before .before .before .before .before .before .args .used)) (c .before .before .before .before .before .before .before .before .before .before .before .before .before .before .before .args .own .now) (c .before .before .before .before .before .before .before .before .before .before .part-end .ensures) (c .before .before .before .before .before .before .before .before .before .between .ensures) (c .before .before .before .before .before .before .before .before .named-at .result) (named-means _ _ (c .before .before .before .before .before .before .before .before .named-at .ensures)) (c .before .before .before .before .before .before .byte .ensures) _ (c .before .before .add-misuse .ensures .1 .1) (c .before .before .before .before .if2 .taken) (c .before .before .add-misuse .ensures .0), (c .before .before .add-misuse .ensures .1 .1, drive-wire (c .before .before .before .before .before .before .before .before .before .before .before .before .before .before .before .args .x .now) (c .before .before .before .before .before .before .before .before .before .before .before .before .before .before .before .args .bound) (c .before .before .before .before .before .before .before .before .before .before .before .before .before .before .before .args .depth) (c .before .before .before .before .before .before .before .before .before .before .before .before .before .before .before .args .kinds .now) (names-of (c .before .before .before .before .before .before .before .before .before .before .before .before .before .before .before .args .names .now) (c .before .before .before .before .before .before .before .before .before .before .before .before .before .before .before .args .used)) (c .before .before .before .before .before .before .before .before .before .before .before .before .before .before .before .args .own .now) (c .before .before .before .before .before .before .before .before .before .before .part-end .ensures) (c .before .before .before .before .before .before .before .before .before .between .ensures) (c .before .before .before .before .before .before .before .before .named-at .result) (c .before .before .before .before .before .before .before .before .named-at .ensures) (c .before .before .before .before .before .before .byte .ensures) (c .before .before .before .before .if2 .taken) (c .before .before .add-misuse .ensures .1 .0)))
 
 add-misuse-requires-2 : tie.Need-add-misuse-requires-2
 add-misuse-requires-2 c κs = search needs
@@ -48,7 +48,7 @@ same-length-3 : tie.Need-same-length-3
 same-length-3 c = search needs
 
 returns-3 : tie.Need-returns-3
-returns-3 c = (line-reg (c .before .before .before .before .before .before .before .before .before .before .before .before .before .before .before .before .args .x .now) (c .before .before .before .before .before .before .before .before .before .before .before .before .before .before .before .before .args .bound) (c .before .before .before .before .before .before .before .before .before .before .before .before .before .before .before .before .args .depth) (c .before .before .before .before .before .before .before .before .before .before .before .before .before .before .before .before .args .kinds .now) (names-of (c .before .before .before .before .before .before .before .before .before .before .before .before .before .before .before .before .args .names .now) (c .before .before .before .before .before .before .before .before .before .before .before .before .before .before .before .before .args .used)) (c .before .before .before .before .before .before .before .before .before .before .before .before .before .before .before .before .args .own .now) (c .before .before .before .before .before .before .before .before .before .before .before .part-end .ensures) (c .before .before .before .before .before .before .before .before .before .before .between .ensures) (c .before .before .before .before .before .before .before .before .before .named-at .result) (named-means _ _ (c .before .before .before .before .before .before .before .before .before .named-at .ensures)) (c .before .before .before .before .before .before .before .byte .ensures) _ (c .before .before .add-misuse2 .ensures .1 .1) (c .before .before .before .before .if3 .taken) (c .before .before .add-misuse2 .ensures .0), (c .before .before .add-misuse2 .ensures .1 .1, first-stays _ _ _ _ (c .before .before .add-misuse2 .ensures .1 .0)))
+returns-3 c = (line-reg (c .before .before .before .before .before .before .before .before .before .before .before .before .before .before .before .before .args .x .now) (c .before .before .before .before .before .before .before .before .before .before .before .before .before .before .before .before .args .bound) (c .before .before .before .before .before .before .before .before .before .before .before .before .before .before .before .before .args .depth) (c .before .before .before .before .before .before .before .before .before .before .before .before .before .before .before .before .args .kinds .now) (names-of (c .before .before .before .before .before .before .before .before .before .before .before .before .before .before .before .before .args .names .now) (c .before .before .before .before .before .before .before .before .before .before .before .before .before .before .before .before .args .used)) (c .before .before .before .before .before .before .before .before .before .before .before .before .before .before .before .before .args .own .now) (c .before .before .before .before .before .before .before .before .before .before .before .part-end .ensures) (c .before .before .before .before .before .before .before .before .before .before .between .ensures) (c .before .before .before .before .before .before .before .before .before .named-at .result) (named-means _ _ (c .before .before .before .before .before .before .before .before .before .named-at .ensures)) (c .before .before .before .before .before .before .before .byte .ensures) _ (c .before .before .add-misuse2 .ensures .1 .1) (c .before .before .before .before .if3 .taken) (c .before .before .add-misuse2 .ensures .0), (c .before .before .add-misuse2 .ensures .1 .1, drive-reg (c .before .before .before .before .before .before .before .before .before .before .before .before .before .before .before .before .args .x .now) (c .before .before .before .before .before .before .before .before .before .before .before .before .before .before .before .before .args .bound) (c .before .before .before .before .before .before .before .before .before .before .before .before .before .before .before .before .args .depth) (c .before .before .before .before .before .before .before .before .before .before .before .before .before .before .before .before .args .kinds .now) (names-of (c .before .before .before .before .before .before .before .before .before .before .before .before .before .before .before .before .args .names .now) (c .before .before .before .before .before .before .before .before .before .before .before .before .before .before .before .before .args .used)) (c .before .before .before .before .before .before .before .before .before .before .before .before .before .before .before .before .args .own .now) (c .before .before .before .before .before .before .before .before .before .before .before .part-end .ensures) (c .before .before .before .before .before .before .before .before .before .before .between .ensures) (c .before .before .before .before .before .before .before .before .before .named-at .result) (c .before .before .before .before .before .before .before .before .before .named-at .ensures) (c .before .before .before .before .before .before .before .byte .ensures) (c .before .before .before .before .if3 .taken) (c .before .before .add-misuse2 .ensures .1 .0)))
 
 add-misuse-requires-3 : tie.Need-add-misuse-requires-3
 add-misuse-requires-3 c κs = search needs
@@ -57,10 +57,10 @@ same-length-4 : tie.Need-same-length-4
 same-length-4 c = search needs
 
 returns-4 : tie.Need-returns-4
-returns-4 c = (line-mem (c .before .before .before .before .before .before .before .before .before .before .before .before .before .before .before .before .before .args .x .now) (c .before .before .before .before .before .before .before .before .before .before .before .before .before .before .before .before .before .args .bound) (c .before .before .before .before .before .before .before .before .before .before .before .before .before .before .before .before .before .args .depth) (c .before .before .before .before .before .before .before .before .before .before .before .before .before .before .before .before .before .args .kinds .now) (names-of (c .before .before .before .before .before .before .before .before .before .before .before .before .before .before .before .before .before .args .names .now) (c .before .before .before .before .before .before .before .before .before .before .before .before .before .before .before .before .before .args .used)) (c .before .before .before .before .before .before .before .before .before .before .before .before .before .before .before .before .before .args .own .now) (c .before .before .before .before .before .before .before .before .before .before .before .before .part-end .ensures) (c .before .before .before .before .before .before .before .before .before .before .before .between .ensures) (c .before .before .before .before .before .before .before .before .before .before .named-at .result) (named-means _ _ (c .before .before .before .before .before .before .before .before .before .before .named-at .ensures)) (c .before .before .before .before .before .before .before .before .byte .ensures) _ (c .before .before .add-misuse3 .ensures .1 .1) (c .before .before .before .before .if4 .taken) (c .before .before .add-misuse3 .ensures .0), (c .before .before .add-misuse3 .ensures .1 .1, first-stays _ _ _ _ (c .before .before .add-misuse3 .ensures .1 .0)))
+returns-4 c = (line-mem (c .before .before .before .before .before .before .before .before .before .before .before .before .before .before .before .before .before .args .x .now) (c .before .before .before .before .before .before .before .before .before .before .before .before .before .before .before .before .before .args .bound) (c .before .before .before .before .before .before .before .before .before .before .before .before .before .before .before .before .before .args .depth) (c .before .before .before .before .before .before .before .before .before .before .before .before .before .before .before .before .before .args .kinds .now) (names-of (c .before .before .before .before .before .before .before .before .before .before .before .before .before .before .before .before .before .args .names .now) (c .before .before .before .before .before .before .before .before .before .before .before .before .before .before .before .before .before .args .used)) (c .before .before .before .before .before .before .before .before .before .before .before .before .before .before .before .before .before .args .own .now) (c .before .before .before .before .before .before .before .before .before .before .before .before .part-end .ensures) (c .before .before .before .before .before .before .before .before .before .before .before .between .ensures) (c .before .before .before .before .before .before .before .before .before .before .named-at .result) (named-means _ _ (c .before .before .before .before .before .before .before .before .before .before .named-at .ensures)) (c .before .before .before .before .before .before .before .before .byte .ensures) _ (c .before .before .add-misuse3 .ensures .1 .1) (c .before .before .before .before .if4 .taken) (c .before .before .add-misuse3 .ensures .0), (c .before .before .add-misuse3 .ensures .1 .1, drive-mem (c .before .before .before .before .before .before .before .before .before .before .before .before .before .before .before .before .before .args .x .now) (c .before .before .before .before .before .before .before .before .before .before .before .before .before .before .before .before .before .args .bound) (c .before .before .before .before .before .before .before .before .before .before .before .before .before .before .before .before .before .args .depth) (c .before .before .before .before .before .before .before .before .before .before .before .before .before .before .before .before .before .args .kinds .now) (names-of (c .before .before .before .before .before .before .before .before .before .before .before .before .before .before .before .before .before .args .names .now) (c .before .before .before .before .before .before .before .before .before .before .before .before .before .before .before .before .before .args .used)) (c .before .before .before .before .before .before .before .before .before .before .before .before .before .before .before .before .before .args .own .now) (c .before .before .before .before .before .before .before .before .before .before .before .before .part-end .ensures) (c .before .before .before .before .before .before .before .before .before .before .before .between .ensures) (c .before .before .before .before .before .before .before .before .before .before .named-at .result) (c .before .before .before .before .before .before .before .before .before .before .named-at .ensures) (c .before .before .before .before .before .before .before .before .byte .ensures) (c .before .before .before .before .if4 .taken) (c .before .before .add-misuse3 .ensures .1 .0)))
 
 returns-5 : tie.Need-returns-5
-returns-5 c = (line-other (c .before .before .before .before .before .before .before .before .before .before .before .before .before .args .x .now) (c .before .before .before .before .before .before .before .before .before .before .before .before .before .args .bound) (c .before .before .before .before .before .before .before .before .before .before .before .before .before .args .depth) (c .before .before .before .before .before .before .before .before .before .before .before .before .before .args .kinds .now) (names-of (c .before .before .before .before .before .before .before .before .before .before .before .before .before .args .names .now) (c .before .before .before .before .before .before .before .before .before .before .before .before .before .args .used)) (c .before .before .before .before .before .before .before .before .before .before .before .before .before .args .own .now) (c .before .before .before .before .before .before .before .before .part-end .ensures) (c .before .before .before .before .before .before .before .between .ensures) (c .before .before .before .before .before .before .named-at .result) (named-means _ _ (c .before .before .before .before .before .before .named-at .ensures)) (c .before .before .before .before .byte .ensures) (other-driving (c .before .before .before .before .byte .result) (c .before .before .before .if1 .left) (c .before .before .if2 .left) (c .before .if3 .left) (c .if4 .left)), (refl, λ n. refl))
+returns-5 c = (line-other (c .before .before .before .before .before .before .before .before .before .before .before .before .before .args .x .now) (c .before .before .before .before .before .before .before .before .before .before .before .before .before .args .bound) (c .before .before .before .before .before .before .before .before .before .before .before .before .before .args .depth) (c .before .before .before .before .before .before .before .before .before .before .before .before .before .args .kinds .now) (names-of (c .before .before .before .before .before .before .before .before .before .before .before .before .before .args .names .now) (c .before .before .before .before .before .before .before .before .before .before .before .before .before .args .used)) (c .before .before .before .before .before .before .before .before .before .before .before .before .before .args .own .now) (c .before .before .before .before .before .before .before .before .part-end .ensures) (c .before .before .before .before .before .before .before .between .ensures) (c .before .before .before .before .before .before .named-at .result) (named-means _ _ (c .before .before .before .before .before .before .named-at .ensures)) (c .before .before .before .before .byte .ensures) (other-driving (c .before .before .before .before .byte .result) (c .before .before .before .if1 .left) (c .before .before .if2 .left) (c .before .if3 .left) (c .if4 .left)), (refl, drive-none (c .before .before .before .before .before .before .before .before .before .before .before .before .before .args .x .now) (c .before .before .before .before .before .before .before .before .before .before .before .before .before .args .bound) (c .before .before .before .before .before .before .before .before .before .before .before .before .before .args .depth) (c .before .before .before .before .before .before .before .before .before .before .before .before .before .args .kinds .now) (names-of (c .before .before .before .before .before .before .before .before .before .before .before .before .before .args .names .now) (c .before .before .before .before .before .before .before .before .before .before .before .before .before .args .used)) (c .before .before .before .before .before .before .before .before .before .before .before .before .before .args .own .now) (c .before .before .before .before .before .before .before .before .part-end .ensures) (c .before .before .before .before .before .before .before .between .ensures) (c .before .before .before .before .before .before .named-at .result) (c .before .before .before .before .before .before .named-at .ensures) (c .before .before .before .before .byte .ensures) (other-driving (c .before .before .before .before .byte .result) (c .before .before .before .if1 .left) (c .before .before .if2 .left) (c .before .if3 .left) (c .if4 .left))))
 
 pub drive-spec : {M : Type 1} → statement M
 drive-spec =

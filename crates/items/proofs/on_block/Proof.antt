@@ -1,4 +1,5 @@
 -- `on_block` meets its contract. Assumes nothing.
+use Rattle.items.proofs.AddedLaws.{on-left}
 use Rattle.items.proofs.Places.{number-means}
 use Rattle.items.proofs.BlockLaws.{on-line}
 use borrow.Author.Needs.{needs}
@@ -18,7 +19,7 @@ same-length : tie.Need-same-length
 same-length c = search needs
 
 returns : tie.Need-returns
-returns c = (on-line (c .before .before .before .before .before .before .before .before .before .args .x .now) (c .before .before .before .before .before .before .before .before .before .args .depth) (c .before .before .before .before .before .before .before .before .before .args .kinds .now) (c .before .before .before .before .before .before .before .before .before .args .own .now) _ (c .before .before .before .before .before .part-end .ensures) (number-means _ _ _ (c .before .before .before .before .number .ensures)) (c .before .before .block-stmts .result) (c .before .before .block-stmts .ensures .0), c .before .before .block-stmts .ensures .1)
+returns c = (on-line (c .before .before .before .before .before .before .before .before .before .args .x .now) (c .before .before .before .before .before .before .before .before .before .args .depth) (c .before .before .before .before .before .before .before .before .before .args .kinds .now) (c .before .before .before .before .before .before .before .before .before .args .own .now) _ (c .before .before .before .before .before .part-end .ensures) (number-means _ _ _ (c .before .before .before .before .number .ensures)) (c .before .before .block-stmts .result) (c .before .before .block-stmts .ensures .0), (c .before .before .block-stmts .ensures .1 .0, on-left (c .before .before .before .before .before .before .before .before .before .args .x .now) (c .before .before .before .before .before .before .before .before .before .args .depth) (c .before .before .before .before .before .before .before .before .before .args .kinds .now) (c .before .before .before .before .before .before .before .before .before .args .own .now) (c .before .before .before .before .before .part-end .ensures) (c .before .before .before .before .number .ensures) (c .before .before .block-stmts .result) _ (c .before .before .block-stmts .ensures .1 .1)))
 
 pub on-block-spec : {M : Type 1} → statement M
 on-block-spec =

@@ -1,5 +1,5 @@
 -- `port_line` meets its contract, one law for each way. Assumes nothing.
-use Rattle.items.proofs.Tables.{first-stays}
+use Rattle.items.proofs.AddedLaws.{no-dir, no-name, no-width, no-start, too-far, port-row-left}
 use Rattle.items.proofs.Places.{number-means}
 use mathlib.Core.Path.{refl, sym, _∙_}
 use native.Mathlib.Omega.{arith}
@@ -14,13 +14,13 @@ byte-requires : tie.Need-byte-requires
 byte-requires c κs = search needs
 
 returns : tie.Need-returns
-returns c = (port-other (c .before .before .before .before .args .x .now) (c .before .before .before .before .args .base) (c .before .before .before .before .args .own .now) (λ e. c .if1 .taken (c .before .byte .ensures ∙ e)), (refl, λ n. refl))
+returns c = (port-other (c .before .before .before .before .args .x .now) (c .before .before .before .before .args .base) (c .before .before .before .before .args .own .now) (λ e. c .if1 .taken (c .before .byte .ensures ∙ e)), (refl, no-dir (c .before .before .before .before .args .x .now) (c .before .before .before .before .args .base) (c .before .before .before .before .args .own .now) (λ e. c .if1 .taken (c .before .byte .ensures ∙ e))))
 
 more-requires : tie.Need-more-requires
 more-requires c κs = search needs
 
 returns-2 : tie.Need-returns-2
-returns-2 c = (port-none (c .before .before .before .before .before .before .args .x .now) (c .before .before .before .before .before .before .args .base) (c .before .before .before .before .before .before .args .own .now) (sym (c .before .before .before .byte .ensures) ∙ c .before .before .if1 .left) (sym (c .before .more .ensures) ∙ not-true _ (c .if2 .taken)), (refl, λ n. refl))
+returns-2 c = (port-none (c .before .before .before .before .before .before .args .x .now) (c .before .before .before .before .before .before .args .base) (c .before .before .before .before .before .before .args .own .now) (sym (c .before .before .before .byte .ensures) ∙ c .before .before .if1 .left) (sym (c .before .more .ensures) ∙ not-true _ (c .if2 .taken)), (refl, no-name (c .before .before .before .before .before .before .args .x .now) (c .before .before .before .before .before .before .args .base) (c .before .before .before .before .before .before .args .own .now) (sym (c .before .more .ensures) ∙ not-true _ (c .if2 .taken))))
 
 part-end-requires : tie.Need-part-end-requires
 part-end-requires c κs = search needs
@@ -29,7 +29,7 @@ more-requires-2 : tie.Need-more-requires-2
 more-requires-2 c κs = search needs
 
 returns-3 : tie.Need-returns-3
-returns-3 c = (port-one (c .before .before .before .before .before .before .before .before .before .args .x .now) (c .before .before .before .before .before .before .before .before .before .args .base) (c .before .before .before .before .before .before .before .before .before .args .own .now) (sym (c .before .before .before .before .before .before .byte .ensures) ∙ c .before .before .before .before .before .if1 .left) (c .before .before .part-end .ensures) (sym (c .before .more2 .ensures) ∙ not-true _ (c .if3 .taken)), (refl, λ n. refl))
+returns-3 c = (port-one (c .before .before .before .before .before .before .before .before .before .args .x .now) (c .before .before .before .before .before .before .before .before .before .args .base) (c .before .before .before .before .before .before .before .before .before .args .own .now) (sym (c .before .before .before .before .before .before .byte .ensures) ∙ c .before .before .before .before .before .if1 .left) (c .before .before .part-end .ensures) (sym (c .before .more2 .ensures) ∙ not-true _ (c .if3 .taken)), (refl, no-width (c .before .before .before .before .before .before .before .before .before .args .x .now) (c .before .before .before .before .before .before .before .before .before .args .base) (c .before .before .before .before .before .before .before .before .before .args .own .now) (c .before .before .part-end .ensures) (sym (c .before .more2 .ensures) ∙ not-true _ (c .if3 .taken))))
 
 add-part-end : tie.Need-add-part-end
 add-part-end c = omega (arith, follows-in (c .before .before .before .before .before .before .before .before .before .args .x .now) (c .before .before .part-end .result) (sym (c .before .more2 .ensures) ∙ not-false _ (c .if3 .left)))
@@ -41,7 +41,7 @@ more-requires-3 : tie.Need-more-requires-3
 more-requires-3 c κs = search needs
 
 returns-4 : tie.Need-returns-4
-returns-4 c = (port-two (c .before .before .before .before .before .before .before .before .before .before .before .before .args .x .now) (c .before .before .before .before .before .before .before .before .before .before .before .before .args .base) (c .before .before .before .before .before .before .before .before .before .before .before .before .args .own .now) (sym (c .before .before .before .before .before .before .before .before .before .byte .ensures) ∙ c .before .before .before .before .before .before .before .before .if1 .left) (c .before .before .before .before .before .part-end .ensures) (c .before .before .part-end2 .ensures) (sym (c .before .more3 .ensures) ∙ not-true _ (c .if4 .taken)), (refl, λ n. refl))
+returns-4 c = (port-two (c .before .before .before .before .before .before .before .before .before .before .before .before .args .x .now) (c .before .before .before .before .before .before .before .before .before .before .before .before .args .base) (c .before .before .before .before .before .before .before .before .before .before .before .before .args .own .now) (sym (c .before .before .before .before .before .before .before .before .before .byte .ensures) ∙ c .before .before .before .before .before .before .before .before .if1 .left) (c .before .before .before .before .before .part-end .ensures) (c .before .before .part-end2 .ensures) (sym (c .before .more3 .ensures) ∙ not-true _ (c .if4 .taken)), (refl, no-start (c .before .before .before .before .before .before .before .before .before .before .before .before .args .x .now) (c .before .before .before .before .before .before .before .before .before .before .before .before .args .base) (c .before .before .before .before .before .before .before .before .before .before .before .before .args .own .now) (c .before .before .before .before .before .part-end .ensures) (c .before .before .part-end2 .ensures) (sym (c .before .more3 .ensures) ∙ not-true _ (c .if4 .taken))))
 
 add-part-end-2 : tie.Need-add-part-end-2
 add-part-end-2 c = omega (arith, follows-in (c .before .before .before .before .before .before .before .before .before .before .before .before .args .x .now) (c .before .before .part-end2 .result) (sym (c .before .more3 .ensures) ∙ not-false _ (c .if4 .left)))
@@ -56,7 +56,7 @@ cast-if5 : tie.Need-cast-if5
 cast-if5 c = search needs
 
 returns-5 : tie.Need-returns-5
-returns-5 c = (port-far (c .before .before .before .before .before .before .before .before .before .before .before .before .before .before .args .x .now) (c .before .before .before .before .before .before .before .before .before .before .before .before .before .before .args .base) (c .before .before .before .before .before .before .before .before .before .before .before .before .before .before .args .own .now) (sym (c .before .before .before .before .before .before .before .before .before .before .before .byte .ensures) ∙ c .before .before .before .before .before .before .before .before .before .before .if1 .left) (c .before .before .before .before .before .before .before .part-end .ensures) (c .before .before .before .before .part-end2 .ensures) (omega (arith, follows-in (c .before .before .before .before .before .before .before .before .before .before .before .before .before .before .args .x .now) (c .before .before .before .before .part-end2 .result) (sym (c .before .before .before .more3 .ensures) ∙ not-false _ (c .before .before .if4 .left)))) (c .if5 .taken), (refl, λ n. refl))
+returns-5 c = (port-far (c .before .before .before .before .before .before .before .before .before .before .before .before .before .before .args .x .now) (c .before .before .before .before .before .before .before .before .before .before .before .before .before .before .args .base) (c .before .before .before .before .before .before .before .before .before .before .before .before .before .before .args .own .now) (sym (c .before .before .before .before .before .before .before .before .before .before .before .byte .ensures) ∙ c .before .before .before .before .before .before .before .before .before .before .if1 .left) (c .before .before .before .before .before .before .before .part-end .ensures) (c .before .before .before .before .part-end2 .ensures) (omega (arith, follows-in (c .before .before .before .before .before .before .before .before .before .before .before .before .before .before .args .x .now) (c .before .before .before .before .part-end2 .result) (sym (c .before .before .before .more3 .ensures) ∙ not-false _ (c .before .before .if4 .left)))) (c .if5 .taken), (refl, too-far (c .before .before .before .before .before .before .before .before .before .before .before .before .before .before .args .x .now) (c .before .before .before .before .before .before .before .before .before .before .before .before .before .before .args .base) (c .before .before .before .before .before .before .before .before .before .before .before .before .before .before .args .own .now) (c .before .before .before .before .before .before .before .part-end .ensures) (c .before .before .before .before .part-end2 .ensures) (c .if5 .taken)))
 
 number-requires : tie.Need-number-requires
 number-requires c κs = search needs
@@ -86,7 +86,7 @@ same-length : tie.Need-same-length
 same-length c = search needs
 
 returns-6 : tie.Need-returns-6
-returns-6 c = (port-out (c .before .before .before .before .before .before .before .before .before .before .before .before .before .before .before .before .before .before .before .before .args .x .now) (c .before .before .before .before .before .before .before .before .before .before .before .before .before .before .before .before .before .before .before .before .args .base) (c .before .before .before .before .before .before .before .before .before .before .before .before .before .before .before .before .before .before .before .before .args .own .now) (sym (c .before .before .before .before .before .before .before .before .before .before .before .before .before .before .before .before .before .byte .ensures) ∙ c .before .before .before .before .before .before .before .before .before .before .before .before .before .before .before .before .if1 .left) (c .before .before .before .before .before .before .before .before .before .before .before .before .before .part-end .ensures) (c .before .before .before .before .before .before .before .before .before .before .part-end2 .ensures) (sym (c .before .before .before .before .before .before .before .before .before .before .before .before .more2 .ensures) ∙ not-false _ (c .before .before .before .before .before .before .before .before .before .before .before .if3 .left)) (omega (arith, follows-in (c .before .before .before .before .before .before .before .before .before .before .before .before .before .before .before .before .before .before .before .before .args .x .now) (c .before .before .before .before .before .before .before .before .before .before .part-end2 .result) (sym (c .before .before .before .before .before .before .before .before .before .more3 .ensures) ∙ not-false _ (c .before .before .before .before .before .before .before .before .if4 .left)))) (c .before .before .before .before .before .before .before .part-end3 .ensures) (number-means _ _ _ (c .before .before .before .before .before .number .ensures)) (number-means _ _ _ (c .before .before .before .before .number2 .ensures)) _ (c .before .before .add-output .ensures .1 .1) (c .before .before .add-output .ensures .0), (c .before .before .add-output .ensures .1 .1, first-stays _ _ _ _ (c .before .before .add-output .ensures .1 .0)))
+returns-6 c = (port-out (c .before .before .before .before .before .before .before .before .before .before .before .before .before .before .before .before .before .before .before .before .args .x .now) (c .before .before .before .before .before .before .before .before .before .before .before .before .before .before .before .before .before .before .before .before .args .base) (c .before .before .before .before .before .before .before .before .before .before .before .before .before .before .before .before .before .before .before .before .args .own .now) (sym (c .before .before .before .before .before .before .before .before .before .before .before .before .before .before .before .before .before .byte .ensures) ∙ c .before .before .before .before .before .before .before .before .before .before .before .before .before .before .before .before .if1 .left) (c .before .before .before .before .before .before .before .before .before .before .before .before .before .part-end .ensures) (c .before .before .before .before .before .before .before .before .before .before .part-end2 .ensures) (sym (c .before .before .before .before .before .before .before .before .before .before .before .before .more2 .ensures) ∙ not-false _ (c .before .before .before .before .before .before .before .before .before .before .before .if3 .left)) (omega (arith, follows-in (c .before .before .before .before .before .before .before .before .before .before .before .before .before .before .before .before .before .before .before .before .args .x .now) (c .before .before .before .before .before .before .before .before .before .before .part-end2 .result) (sym (c .before .before .before .before .before .before .before .before .before .more3 .ensures) ∙ not-false _ (c .before .before .before .before .before .before .before .before .if4 .left)))) (c .before .before .before .before .before .before .before .part-end3 .ensures) (number-means _ _ _ (c .before .before .before .before .before .number .ensures)) (number-means _ _ _ (c .before .before .before .before .number2 .ensures)) _ (c .before .before .add-output .ensures .1 .1) (c .before .before .add-output .ensures .0), (c .before .before .add-output .ensures .1 .1, port-row-left (c .before .before .before .before .before .before .before .before .before .before .before .before .before .before .before .before .before .before .before .before .args .x .now) (c .before .before .before .before .before .before .before .before .before .before .before .before .before .before .before .before .before .before .before .before .args .base) (c .before .before .before .before .before .before .before .before .before .before .before .before .before .before .before .before .before .before .before .before .args .own .now) (c .before .before .before .before .before .before .before .before .before .before .before .before .before .part-end .ensures) (c .before .before .before .before .before .before .before .before .before .before .part-end2 .ensures) (sym (c .before .before .before .before .before .before .before .before .before .before .before .before .before .before .before .before .before .byte .ensures) ∙ c .before .before .before .before .before .before .before .before .before .before .before .before .before .before .before .before .if1 .left) (sym (c .before .before .before .before .before .before .before .before .before .before .before .before .before .before .before .more .ensures) ∙ not-false _ (c .before .before .before .before .before .before .before .before .before .before .before .before .before .before .if2 .left)) (sym (c .before .before .before .before .before .before .before .before .before .before .before .before .more2 .ensures) ∙ not-false _ (c .before .before .before .before .before .before .before .before .before .before .before .if3 .left)) (sym (c .before .before .before .before .before .before .before .before .before .more3 .ensures) ∙ not-false _ (c .before .before .before .before .before .before .before .before .if4 .left)) (c .before .before .before .before .before .before .if5 .left) (c .before .before .before .before .before .before .before .part-end3 .ensures) (c .before .before .before .before .before .number .ensures) (c .before .before .before .before .number2 .ensures) (c .before .before .add-output .ensures .1 .0)))
 
 pub port-line-spec : {M : Type 1} → statement M
 port-line-spec =

@@ -42,7 +42,7 @@ way-of-requires : tie.Need-way-of-requires
 way-of-requires c κs = search needs
 
 returns : tie.Need-returns
-returns c = times-found (c .before .before .before .before .before .before .before .before .before .before .before .before .before .before .args .x .now) (c .before .before .before .before .before .before .before .before .before .before .before .next-end .ensures) (c .before .before .before .before .before .before .before .before .before .before .next-end2 .ensures) (c .before .before .before .before .before .before .before .before .before .next-end3 .ensures) (c .before .before .before .before .before .before .before .before .next-end4 .ensures) (c .before .before .before .before .before .before .before .before .before .before .before .before .before .before .args .depth) (c .before .before .before .before .before .before .before .before .before .before .before .before .before .before .args .left) (names-of (c .before .before .before .before .before .before .before .before .before .before .before .before .before .before .args .names .now) (c .before .before .before .before .before .before .before .before .before .before .before .before .before .before .args .used)) (c .before .before .before .before .before .before .before .inner .ensures) (c .before .before .before .before .before .before .between .ensures) (c .before .before .before .before .before .value .ensures) (c .before .before .before .before .between2 .ensures) (c .before .before .before .eval .result) (c .before .before .before .eval .ensures) (c .before .before .between3 .ensures) (c .before .eval2 .result) (c .before .eval2 .ensures) (c .way-of .result) (c .way-of .ensures .0) (c .way-of .ensures .1)
+returns c = times-found (c .before .before .before .before .before .before .before .before .before .before .before .before .before .before .args .x .now) (c .before .before .before .before .before .before .before .before .before .before .before .next-end .ensures) (c .before .before .before .before .before .before .before .before .before .before .next-end2 .ensures) (c .before .before .before .before .before .before .before .before .before .next-end3 .ensures) (c .before .before .before .before .before .before .before .before .next-end4 .ensures) (c .before .before .before .before .before .before .before .before .before .before .before .before .before .before .args .depth) (c .before .before .before .before .before .before .before .before .before .before .before .before .before .before .args .left) (names-of (c .before .before .before .before .before .before .before .before .before .before .before .before .before .before .args .names .now) (c .before .before .before .before .before .before .before .before .before .before .before .before .before .before .args .used)) (c .before .before .before .before .before .before .before .inner .ensures) (c .before .before .before .before .before .before .between .ensures) (c .before .before .before .before .before .value .ensures) (c .before .before .before .before .between2 .ensures) (c .before .before .before .eval .result) (c .before .before .before .eval .ensures) (c .before .before .between3 .ensures) (c .before .eval2 .result) (c .before .eval2 .ensures) (c .way-of .result) (c .way-of .ensures .0) (c .way-of .ensures .1 .0)
 
 pub times-of-spec : {M : Type 1} → statement M
 times-of-spec =

@@ -12,16 +12,17 @@ use Rattle.graph.specs.Stands.{Stands}
 use Rattle.edges.specs.Reads.{KindsOf}
 use Rattle.walk.proofs.Alike.{reach-by}
 use Rattle.summary.specs.Keeps.{Keeps}
-use Rattle.summary.specs.Pairs.{Written}
-use Rattle.summary.proofs.Pairs.{written-none, written-then, leaves-kept}
-use Rattle.summary.proofs.Making.{Going, end-after, out-name, going-start, going-other, going-seen, going-new, going-full, going-kept}
+use Rattle.summary.proofs.Pairs.{Written, written-none, written-then, written-of}
+use Rattle.summary.proofs.Ports.{out-name}
+use Rattle.summary.proofs.Leaving.{Turning, turning-start, turning-other, turning-seen, turning-new, leaves-kept, leaves-full}
+use Rattle.summary.proofs.Making.{Going, end-after, going-start, going-other, going-seen, going-new, going-full, going-kept}
 use borrow.Author.Needs.{needs}
 use native.Mathlib.Omega.{arith}
 use Rattle.summary.proofs.summarise.Statement.{statement}
 use Rattle.summary.proofs.summarise.Tie as tie
 
 abbrev Inv-loop : tie.InvT-loop
-Inv-loop s kinds g k₀ m start seen₀ w₀ from₀ k seen w from = (from ≤ length s) × Written k₀ k × (length seen ≡ 256) × (length w ≡ 1538) × ((d : ℕ) (M : Module) (heads : List Head) (kept : Kept) (busy : List ℕ) → RunOf d s (M .items) → KindsOf kinds (M .header) → Stands g heads → Keeps k₀ kept (m ∷ busy) → Going d s from M heads k₀ k seen w)
+Inv-loop s kinds g k₀ m start seen₀ w₀ from₀ k seen w from = (from ≤ length s) × Written k₀ k × (length seen ≡ 256) × (length w ≡ 1538) × ((d : ℕ) (M : Module) (heads : List Head) (kept : Kept) (busy : List ℕ) → RunOf d s (M .items) → KindsOf kinds (M .header) → Stands g heads → Keeps k₀ kept (m ∷ busy) → Going d s from M heads k₀ k seen w) × Turning s kinds g from k₀ k seen w
 
 abbrev μ-loop : tie.MeasureT-loop
 μ-loop s kinds g k₀ m start seen₀ w₀ from₀ k seen w from = length s - from
@@ -30,7 +31,7 @@ at-requires : tie.Need-at-requires Inv-loop μ-loop
 at-requires c κs = search needs
 
 loop-holds : tie.Need-loop-holds Inv-loop μ-loop
-loop-holds c = (omega arith, written-none (c .before .before .before .before .before .before .args .k .now), length-replicate {A = ℕ} 256 0, length-replicate {A = ℕ} 1538 0, λ d M heads kept busy r h st ks. going-start d (c .before .before .before .before .before .before .args .s .now) M heads (c .before .before .before .before .before .before .args .k .now) (c .before .before .before .before .before .before .args .m) kept busy refl refl r ks)
+loop-holds c = (omega arith, written-none (c .before .before .before .before .before .before .args .k .now), length-replicate {A = ℕ} 256 0, length-replicate {A = ℕ} 1538 0, λ d M heads kept busy r h st ks. going-start d (c .before .before .before .before .before .before .args .s .now) M heads (c .before .before .before .before .before .before .args .k .now) (c .before .before .before .before .before .before .args .m) kept busy refl refl r ks, turning-start (c .before .before .before .before .before .before .args .s .now) (c .before .before .before .before .before .before .args .kinds .now) (c .before .before .before .before .before .before .args .g .now) (c .before .before .before .before .before .before .args .k .now) refl refl)
 
 add-loop : tie.Need-add-loop Inv-loop μ-loop
 add-loop c = omega (arith, c .loop .inv .0)
@@ -54,7 +55,7 @@ loop-less : tie.Need-loop-less Inv-loop μ-loop
 loop-less c = omega (arith, end-after (c .before .before .before .before .before .before .before .before .before .before .before .before .before .args .s .now) (c .before .before .before .before .before .before .loop .from) (c .before .before .before .before .before .loop-test .taken) (c .before .before .before .before .form-end .ensures) .0, c .before .before .before .before .before .loop-test .taken)
 
 loop-again : tie.Need-loop-again Inv-loop μ-loop
-loop-again c = (end-after (c .before .before .before .before .before .before .before .before .before .before .before .before .before .args .s .now) (c .before .before .before .before .before .before .loop .from) (c .before .before .before .before .before .loop-test .taken) (c .before .before .before .before .form-end .ensures) .1, c .before .before .before .before .before .before .loop .inv .1, c .before .before .before .before .before .before .loop .inv .2, c .before .before .before .before .before .before .loop .inv .3, λ d M heads kept busy r h st ks. going-other (c .before .before .before .before .before .before .loop .inv .4 d M heads kept busy r h st ks) (c .before .before .before .before .before .loop-test .taken) (c .before .before .before .before .form-end .ensures) (c .before .before .before .between .ensures) (c .before .before .port-of .result) (c .before .before .port-of .ensures .0) (c .enum-told .given .1))
+loop-again c = (end-after (c .before .before .before .before .before .before .before .before .before .before .before .before .before .args .s .now) (c .before .before .before .before .before .before .loop .from) (c .before .before .before .before .before .loop-test .taken) (c .before .before .before .before .form-end .ensures) .1, c .before .before .before .before .before .before .loop .inv .1, c .before .before .before .before .before .before .loop .inv .2, c .before .before .before .before .before .before .loop .inv .3, λ d M heads kept busy r h st ks. going-other (c .before .before .before .before .before .before .loop .inv .4 d M heads kept busy r h st ks) (c .before .before .before .before .before .loop-test .taken) (c .before .before .before .before .form-end .ensures) (c .before .before .before .between .ensures) (c .before .before .port-of .result) (c .before .before .port-of .ensures .0) (c .enum-told .given .1), turning-other (c .before .before .before .before .before .before .loop .inv .5) (c .before .before .before .before .before .loop-test .taken) (c .before .before .before .before .form-end .ensures) (c .before .before .before .between .ensures) (c .before .before .port-of .result) (c .before .before .port-of .ensures .1) (c .enum-told .given .1))
 
 enum-known-o : tie.Need-enum-known-o Inv-loop μ-loop
 enum-known-o c = search needs
@@ -63,16 +64,16 @@ cast-i : tie.Need-cast-i Inv-loop μ-loop
 cast-i c = search needs
 
 array-read-if1 : tie.Need-array-read-if1 Inv-loop μ-loop
-array-read-if1 c = omega (arith, out-name (c .before .before .before .port-of .result) (c .before .o .given .1) (c .before .before .before .port-of .ensures .1))
+array-read-if1 c = omega (arith, out-name _ (c .before .before .before .port-of .result) (c .before .o .given .1) (c .before .before .before .port-of .ensures .1))
 
 loop-less-2 : tie.Need-loop-less-2 Inv-loop μ-loop
 loop-less-2 c = omega (arith, end-after (c .before .before .before .before .before .before .before .before .before .before .before .before .before .before .before .args .s .now) (c .before .before .before .before .before .before .before .before .loop .from) (c .before .before .before .before .before .before .before .loop-test .taken) (c .before .before .before .before .before .before .form-end .ensures) .0, c .before .before .before .before .before .before .before .loop-test .taken)
 
 loop-again-2 : tie.Need-loop-again-2 Inv-loop μ-loop
-loop-again-2 c = (end-after (c .before .before .before .before .before .before .before .before .before .before .before .before .before .before .before .args .s .now) (c .before .before .before .before .before .before .before .before .loop .from) (c .before .before .before .before .before .before .before .loop-test .taken) (c .before .before .before .before .before .before .form-end .ensures) .1, c .before .before .before .before .before .before .before .before .loop .inv .1, c .before .before .before .before .before .before .before .before .loop .inv .2, c .before .before .before .before .before .before .before .before .loop .inv .3, λ d M heads kept busy r h st ks. going-seen (c .before .before .before .before .before .before .before .before .loop .inv .4 d M heads kept busy r h st ks) (c .before .before .before .before .before .before .before .loop-test .taken) (c .before .before .before .before .before .before .form-end .ensures) (c .before .before .before .before .before .between .ensures) (c .before .before .before .before .port-of .result) (c .before .before .before .before .port-of .ensures .0) (c .before .before .o .given .1) (out-name (c .before .before .before .before .port-of .result) (c .before .before .o .given .1) (c .before .before .before .before .port-of .ensures .1)) (c .if1 .taken))
+loop-again-2 c = (end-after (c .before .before .before .before .before .before .before .before .before .before .before .before .before .before .before .args .s .now) (c .before .before .before .before .before .before .before .before .loop .from) (c .before .before .before .before .before .before .before .loop-test .taken) (c .before .before .before .before .before .before .form-end .ensures) .1, c .before .before .before .before .before .before .before .before .loop .inv .1, c .before .before .before .before .before .before .before .before .loop .inv .2, c .before .before .before .before .before .before .before .before .loop .inv .3, λ d M heads kept busy r h st ks. going-seen (c .before .before .before .before .before .before .before .before .loop .inv .4 d M heads kept busy r h st ks) (c .before .before .before .before .before .before .before .loop-test .taken) (c .before .before .before .before .before .before .form-end .ensures) (c .before .before .before .before .before .between .ensures) (c .before .before .before .before .port-of .result) (c .before .before .before .before .port-of .ensures .0) (c .before .before .o .given .1) (out-name _ (c .before .before .before .before .port-of .result) (c .before .before .o .given .1) (c .before .before .before .before .port-of .ensures .1)) (c .if1 .taken), turning-seen (c .before .before .before .before .before .before .before .before .loop .inv .5) (c .before .before .before .before .before .before .before .loop-test .taken) (c .before .before .before .before .before .before .form-end .ensures) (c .before .before .before .before .before .between .ensures) (c .before .before .before .before .port-of .result) (c .before .before .before .before .port-of .ensures .1) (c .before .before .o .given .1) (out-name _ (c .before .before .before .before .port-of .result) (c .before .before .o .given .1) (c .before .before .before .before .port-of .ensures .1)) (c .if1 .taken))
 
 array-write-seen : tie.Need-array-write-seen Inv-loop μ-loop
-array-write-seen c = omega (arith, out-name (c .before .before .before .before .port-of .result) (c .before .before .o .given .1) (c .before .before .before .before .port-of .ensures .1))
+array-write-seen c = omega (arith, out-name _ (c .before .before .before .before .port-of .result) (c .before .before .o .given .1) (c .before .before .before .before .port-of .ensures .1))
 
 slice-aggregate-add-output : tie.Need-slice-aggregate-add-output Inv-loop μ-loop
 slice-aggregate-add-output c = search needs
@@ -87,13 +88,13 @@ same-length : tie.Need-same-length Inv-loop μ-loop
 same-length c = c .before .before .clear .kept .0 ∙ c .before .before .before .before .before .before .before .before .add-output .kept .1 .1 .1 .0 ∙ c .before .before .before .before .before .before .before .before .before .before .before .before .before .before .before .before .before .before .before .loop .inv .1 .size
 
 returns : tie.Need-returns Inv-loop μ-loop
-returns c = (λ d M heads kept busy r h st ks small free. let q = c .before .before .before .before .before .before .before .before .before .before .before .before .before .before .before .before .before .before .before .loop .inv .4 d M heads kept busy r h st ks in going-full q (c .before .before .before .before .before .before .before .before .before .before .before .before .before .before .before .before .before .before .loop-test .taken) (c .before .before .before .before .before .before .before .before .before .before .before .before .before .before .before .before .before .form-end .ensures) (c .before .before .before .before .before .before .before .before .before .before .before .before .before .before .before .before .between .ensures) (c .before .before .before .before .before .before .before .before .before .before .before .before .before .before .before .port-of .result) (c .before .before .before .before .before .before .before .before .before .before .before .before .before .before .before .port-of .ensures .0) (c .before .before .before .before .before .before .before .before .before .before .before .before .before .o .given .1) (out-name (c .before .before .before .before .before .before .before .before .before .before .before .before .before .before .before .port-of .result) (c .before .before .before .before .before .before .before .before .before .before .before .before .before .o .given .1) (c .before .before .before .before .before .before .before .before .before .before .before .before .before .before .before .port-of .ensures .1)) (c .before .before .before .before .before .before .before .before .before .before .before .if1 .left) (not-true (c .before .before .before .before .before .before .before .before .add-output .result) (c .before .before .before .before .if2 .taken)) (c .before .before .before .before .before .before .before .before .add-output .ensures .0 (M .header) heads h st (q .clean) (c .before .before .before .before .before .before .before .before .before .before .before .before .before .before .before .before .before .before .before .before .before .before .before .before .before .before .args .k .now) (reach-by (q .f) (q .done)) (q .grown)) (c .before .before .before .before .before .before .before .before .before .before .before .before .before .before .before .before .before .before .before .before .before .before .before .before .before .before .args .m) kept busy ks, c .before .before .clear .ensures ∙ ap (λ (n : ℕ). replicate n 0) (c .before .before .before .before .before .before .before .before .add-output .kept .1 .1 .1 .0 ∙ c .before .before .before .before .before .before .before .before .before .before .before .before .before .before .before .before .before .before .before .loop .inv .1 .size))
+returns c = (λ d M heads kept busy r h st ks small free. let q = c .before .before .before .before .before .before .before .before .before .before .before .before .before .before .before .before .before .before .before .loop .inv .4 d M heads kept busy r h st ks in going-full q (c .before .before .before .before .before .before .before .before .before .before .before .before .before .before .before .before .before .before .loop-test .taken) (c .before .before .before .before .before .before .before .before .before .before .before .before .before .before .before .before .before .form-end .ensures) (c .before .before .before .before .before .before .before .before .before .before .before .before .before .before .before .before .between .ensures) (c .before .before .before .before .before .before .before .before .before .before .before .before .before .before .before .port-of .result) (c .before .before .before .before .before .before .before .before .before .before .before .before .before .before .before .port-of .ensures .0) (c .before .before .before .before .before .before .before .before .before .before .before .before .before .o .given .1) (out-name _ (c .before .before .before .before .before .before .before .before .before .before .before .before .before .before .before .port-of .result) (c .before .before .before .before .before .before .before .before .before .before .before .before .before .o .given .1) (c .before .before .before .before .before .before .before .before .before .before .before .before .before .before .before .port-of .ensures .1)) (c .before .before .before .before .before .before .before .before .before .before .before .if1 .left) (not-true (c .before .before .before .before .before .before .before .before .add-output .result) (c .before .before .before .before .if2 .taken)) (c .before .before .before .before .before .before .before .before .add-output .ensures .0 (M .header) heads h st (q .clean) (c .before .before .before .before .before .before .before .before .before .before .before .before .before .before .before .before .before .before .before .before .before .before .before .before .before .before .args .k .now) (reach-by (q .f) (q .done)) (q .grown)) (c .before .before .before .before .before .before .before .before .before .before .before .before .before .before .before .before .before .before .before .before .before .before .before .before .before .before .args .m) kept busy ks, leaves-full (c .before .before .before .before .before .before .before .before .before .before .before .before .before .before .before .before .before .before .before .loop .inv .5) (c .before .before .before .before .before .before .before .before .before .before .before .before .before .before .before .before .before .before .loop-test .taken) (c .before .before .before .before .before .before .before .before .before .before .before .before .before .before .before .before .before .form-end .ensures) (c .before .before .before .before .before .before .before .before .before .before .before .before .before .before .before .before .between .ensures) (c .before .before .before .before .before .before .before .before .before .before .before .before .before .before .before .port-of .result) (c .before .before .before .before .before .before .before .before .before .before .before .before .before .before .before .port-of .ensures .1) (c .before .before .before .before .before .before .before .before .before .before .before .before .before .o .given .1) (out-name _ (c .before .before .before .before .before .before .before .before .before .before .before .before .before .before .before .port-of .result) (c .before .before .before .before .before .before .before .before .before .before .before .before .before .o .given .1) (c .before .before .before .before .before .before .before .before .before .before .before .before .before .before .before .port-of .ensures .1)) (c .before .before .before .before .before .before .before .before .before .before .before .if1 .left) (c .before .before .before .before .before .before .before .before .before .before .before .before .before .before .before .before .before .before .before .before .before .before .before .before .before .before .args .m) (not-true (c .before .before .before .before .before .before .before .before .add-output .result) (c .before .before .before .before .if2 .taken)) (c .before .before .before .before .before .before .before .before .add-output .ensures .1) (c .before .before .clear .ensures ∙ ap (λ (n : ℕ). replicate n 0) (c .before .before .before .before .before .before .before .before .add-output .kept .1 .1 .1 .0 ∙ c .before .before .before .before .before .before .before .before .before .before .before .before .before .before .before .before .before .before .before .loop .inv .1 .size)))
 
 loop-less-3 : tie.Need-loop-less-3 Inv-loop μ-loop
 loop-less-3 c = omega (arith, end-after (c .before .before .before .before .before .before .before .before .before .before .before .before .before .before .before .before .before .before .before .before .before .before .args .s .now) (c .before .before .before .before .before .before .before .before .before .before .before .before .before .before .before .loop .from) (c .before .before .before .before .before .before .before .before .before .before .before .before .before .before .loop-test .taken) (c .before .before .before .before .before .before .before .before .before .before .before .before .before .form-end .ensures) .0, c .before .before .before .before .before .before .before .before .before .before .before .before .before .before .loop-test .taken)
 
 loop-again-3 : tie.Need-loop-again-3 Inv-loop μ-loop
-loop-again-3 c = (end-after (c .before .before .before .before .before .before .before .before .before .before .before .before .before .before .before .before .before .before .before .before .before .before .args .s .now) (c .before .before .before .before .before .before .before .before .before .before .before .before .before .before .before .loop .from) (c .before .before .before .before .before .before .before .before .before .before .before .before .before .before .loop-test .taken) (c .before .before .before .before .before .before .before .before .before .before .before .before .before .form-end .ensures) .1, written-then (c .before .before .before .before .before .before .before .before .before .before .before .before .before .before .before .loop .inv .1) (c .before .before .before .before .add-output .ensures .1), simp length-set (c .before .before .before .before .before .before .before .before .before .before .before .before .before .before .before .loop .inv .2), c .before .before .before .before .add-output .kept .1 .1 .0 ∙ c .before .before .before .before .before .before .before .before .before .before .before .before .before .before .before .loop .inv .3, λ d M heads kept busy r h st ks. let q = c .before .before .before .before .before .before .before .before .before .before .before .before .before .before .before .loop .inv .4 d M heads kept busy r h st ks in going-new q (c .before .before .before .before .before .before .before .before .before .before .before .before .before .before .loop-test .taken) (c .before .before .before .before .before .before .before .before .before .before .before .before .before .form-end .ensures) (c .before .before .before .before .before .before .before .before .before .before .before .before .between .ensures) (c .before .before .before .before .before .before .before .before .before .before .before .port-of .result) (c .before .before .before .before .before .before .before .before .before .before .before .port-of .ensures .0) (c .before .before .before .before .before .before .before .before .before .o .given .1) (out-name (c .before .before .before .before .before .before .before .before .before .before .before .port-of .result) (c .before .before .before .before .before .before .before .before .before .o .given .1) (c .before .before .before .before .before .before .before .before .before .before .before .port-of .ensures .1)) (c .before .before .before .before .before .before .before .if1 .left) (c .before .before .before .before .before .before .before .before .before .before .before .before .before .before .before .loop .inv .2) refl (not-false (c .before .before .before .before .add-output .result) (c .if2 .left)) (c .before .before .before .before .add-output .ensures .0 (M .header) heads h st (q .clean) (c .before .before .before .before .before .before .before .before .before .before .before .before .before .before .before .before .before .before .before .before .before .before .args .k .now) (reach-by (q .f) (q .done)) (q .grown)))
+loop-again-3 c = (end-after (c .before .before .before .before .before .before .before .before .before .before .before .before .before .before .before .before .before .before .before .before .before .before .args .s .now) (c .before .before .before .before .before .before .before .before .before .before .before .before .before .before .before .loop .from) (c .before .before .before .before .before .before .before .before .before .before .before .before .before .before .loop-test .taken) (c .before .before .before .before .before .before .before .before .before .before .before .before .before .form-end .ensures) .1, written-then (c .before .before .before .before .before .before .before .before .before .before .before .before .before .before .before .loop .inv .1) (written-of _ (c .before .before .before .before .add-output .ensures .1 .3)), simp length-set (c .before .before .before .before .before .before .before .before .before .before .before .before .before .before .before .loop .inv .2), c .before .before .before .before .add-output .kept .1 .1 .0 ∙ c .before .before .before .before .before .before .before .before .before .before .before .before .before .before .before .loop .inv .3, λ d M heads kept busy r h st ks. let q = c .before .before .before .before .before .before .before .before .before .before .before .before .before .before .before .loop .inv .4 d M heads kept busy r h st ks in going-new q (c .before .before .before .before .before .before .before .before .before .before .before .before .before .before .loop-test .taken) (c .before .before .before .before .before .before .before .before .before .before .before .before .before .form-end .ensures) (c .before .before .before .before .before .before .before .before .before .before .before .before .between .ensures) (c .before .before .before .before .before .before .before .before .before .before .before .port-of .result) (c .before .before .before .before .before .before .before .before .before .before .before .port-of .ensures .0) (c .before .before .before .before .before .before .before .before .before .o .given .1) (out-name _ (c .before .before .before .before .before .before .before .before .before .before .before .port-of .result) (c .before .before .before .before .before .before .before .before .before .o .given .1) (c .before .before .before .before .before .before .before .before .before .before .before .port-of .ensures .1)) (c .before .before .before .before .before .before .before .if1 .left) (c .before .before .before .before .before .before .before .before .before .before .before .before .before .before .before .loop .inv .2) refl (not-false (c .before .before .before .before .add-output .result) (c .if2 .left)) (c .before .before .before .before .add-output .ensures .0 (M .header) heads h st (q .clean) (c .before .before .before .before .before .before .before .before .before .before .before .before .before .before .before .before .before .before .before .before .before .before .args .k .now) (reach-by (q .f) (q .done)) (q .grown)), turning-new (c .before .before .before .before .before .before .before .before .before .before .before .before .before .before .before .loop .inv .5) (c .before .before .before .before .before .before .before .before .before .before .before .before .before .before .loop-test .taken) (c .before .before .before .before .before .before .before .before .before .before .before .before .before .form-end .ensures) (c .before .before .before .before .before .before .before .before .before .before .before .before .between .ensures) (c .before .before .before .before .before .before .before .before .before .before .before .port-of .result) (c .before .before .before .before .before .before .before .before .before .before .before .port-of .ensures .1) (c .before .before .before .before .before .before .before .before .before .o .given .1) (out-name _ (c .before .before .before .before .before .before .before .before .before .before .before .port-of .result) (c .before .before .before .before .before .before .before .before .before .o .given .1) (c .before .before .before .before .before .before .before .before .before .before .before .port-of .ensures .1)) (c .before .before .before .before .before .before .before .if1 .left) (c .before .before .before .before .before .before .before .before .before .before .before .before .before .before .before .loop .inv .2) refl (not-false (c .before .before .before .before .add-output .result) (c .if2 .left)) (c .before .before .before .before .add-output .ensures .1))
 
 at-requires-2 : tie.Need-at-requires-2 Inv-loop μ-loop
 at-requires-2 c κs = search needs
@@ -108,7 +109,7 @@ same-length-2 : tie.Need-same-length-2 Inv-loop μ-loop
 same-length-2 c = c .before .before .keep .kept .0 ∙ c .before .before .before .before .before .before .before .loop .inv .1 .size
 
 returns-2 : tie.Need-returns-2 Inv-loop μ-loop
-returns-2 c = (λ d M heads kept busy r h st ks small free. going-kept (c .before .before .before .before .before .before .before .loop .inv .4 d M heads kept busy r h st ks) (c .before .before .before .before .before .before .loop-test .left) (c .before .before .before .before .before .before .before .before .before .before .before .before .before .before .args .m) small kept busy ks free (c .before .before .before .before .before .before .before .before .at .ensures) (c .before .before .before .before .at2 .ensures) (c .before .before .keep .ensures), leaves-kept (c .before .before .before .before .before .before .before .loop .inv .1) (c .before .before .before .before .before .before .before .before .before .before .before .before .before .before .args .m) (c .before .before .before .before .before .before .before .before .at .ensures) (c .before .before .before .before .at2 .ensures) (c .before .before .keep .ensures))
+returns-2 c = (λ d M heads kept busy r h st ks small free. going-kept (c .before .before .before .before .before .before .before .loop .inv .4 d M heads kept busy r h st ks) (c .before .before .before .before .before .before .loop-test .left) (c .before .before .before .before .before .before .before .before .before .before .before .before .before .before .args .m) small kept busy ks free (c .before .before .before .before .before .before .before .before .at .ensures) (c .before .before .before .before .at2 .ensures) (c .before .before .keep .ensures), leaves-kept (c .before .before .before .before .before .before .before .loop .inv .5) (c .before .before .before .before .before .before .loop-test .left) (c .before .before .before .before .before .before .before .before .before .before .before .before .before .before .args .m) (c .before .before .before .before .before .before .before .before .at .ensures) (c .before .before .before .before .at2 .ensures) (c .before .before .keep .ensures))
 
 pub summarise-spec : {M : Type 1} → statement M
 summarise-spec =

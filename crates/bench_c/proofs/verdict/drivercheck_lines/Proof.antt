@@ -28,10 +28,10 @@ enum-told : tie.Need-enum-told
 enum-told c = search needs
 
 returns : tie.Need-returns
-returns c = refused-code (c .before .number .given .0 .0) (c .before .number .given .0 .1 .0) _ (refusal (c .before .before .before .before .before .args .text .now)) (sym (c .before .number .given .1) ∙ c .before .before .before .read .ensures)
+returns c = refused-code (c .before .number .given .0 .0) (c .before .number .given .0 .1 .0) _ (refusal (c .before .before .before .before .before .args .text .now)) (sym (c .before .number .given .1) ∙ c .before .before .before .read .ensures .0)
 
 returns-2 : tie.Need-returns-2
-returns-2 c = formed-code _ _ (refusal (c .before .before .before .before .args .text .now)) (sym (c .enum-told .given .1) ∙ c .before .before .read .ensures)
+returns-2 c = formed-code _ _ (refusal (c .before .before .before .before .args .text .now)) (sym (c .enum-told .given .1) ∙ c .before .before .read .ensures .0)
 
 pub drivercheck-lines-spec : {M : Type 1} → statement M
 drivercheck-lines-spec =

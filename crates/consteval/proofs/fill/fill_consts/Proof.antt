@@ -47,7 +47,7 @@ loop-less : tie.Need-loop-less Inv-loop μ-loop
 loop-less c = omega (arith, c .before .before .before .before .before .end-of .ensures, line-end-le (c .before .before .before .before .before .before .before .before .before .before .args .s .now) (c .before .before .before .before .before .before .before .loop .at) (omega arith))
 
 loop-again : tie.Need-loop-again Inv-loop μ-loop
-loop-again c = (c .before .before .before .before .before .before .before .loop .inv .0, c .before .before .before .before .before .before .before .loop .inv .1 ∙ consts-skip (c .before .before .before .before .before .before .before .before .before .before .args .s .now) (c .before .before .before .before .before .before .before .loop .at) (c .before .before .before .before .before .before .before .loop .names) (c .before .before .before .before .before .before .before .loop .used) (c .before .before .before .before .before .before .loop-test .taken) (c .before .before .before .before .before .end-of .ensures) (c .before .before .const-entry .ensures) (c .enum-told .given .1))
+loop-again c = (c .before .before .before .before .before .before .before .loop .inv .0, c .before .before .before .before .before .before .before .loop .inv .1 ∙ consts-skip (c .before .before .before .before .before .before .before .before .before .before .args .s .now) (c .before .before .before .before .before .before .before .loop .at) (c .before .before .before .before .before .before .before .loop .names) (c .before .before .before .before .before .before .before .loop .used) (c .before .before .before .before .before .before .loop-test .taken) (c .before .before .before .before .before .end-of .ensures) (c .before .before .const-entry .ensures .0) (c .enum-told .given .1))
 
 enum-known-n : tie.Need-enum-known-n Inv-loop μ-loop
 enum-known-n c = search needs
@@ -65,13 +65,13 @@ loop-less-2 : tie.Need-loop-less-2 Inv-loop μ-loop
 loop-less-2 c = omega (arith, c .before .before .before .before .before .before .before .before .before .before .before .end-of .ensures, line-end-le (c .before .before .before .before .before .before .before .before .before .before .before .before .before .before .before .before .args .s .now) (c .before .before .before .before .before .before .before .before .before .before .before .before .before .loop .at) (omega arith))
 
 loop-again-2 : tie.Need-loop-again-2 Inv-loop μ-loop
-loop-again-2 c = (pushed-length _ _ _ _ _ (c .before .before .before .push .ensures .1) ∙ c .before .before .before .before .before .before .before .before .before .before .before .before .before .loop .inv .0, c .before .before .before .before .before .before .before .before .before .before .before .before .before .loop .inv .1 ∙ consts-put (c .before .before .before .before .before .before .before .before .before .before .before .before .before .before .before .before .args .s .now) (c .before .before .before .before .before .before .before .before .before .before .before .before .before .loop .at) (c .before .before .before .before .before .before .before .before .before .before .before .before .before .loop .names) (c .before .before .before .before .before .before .before .before .before .before .before .before .before .loop .used) (c .before .before .before .before .before .before .before .before .before .before .before .before .loop-test .taken) (c .before .before .before .before .before .before .before .before .before .before .before .end-of .ensures) (c .before .before .before .before .before .before .before .before .const-entry .ensures) (c .before .before .before .before .before .before .n .given .1) (sym (c .before .before .before .push .ensures .0) ∙ c .if1 .taken) ∙ ap (λ (t : List ℕ). consts-of (lines (drop (c .before .before .before .before .before .before .before .before .before .before .before .end-of .result + 1) (c .before .before .before .before .before .before .before .before .before .before .before .before .before .before .before .before .args .s .now))) t ((c .before .before .before .before .before .before .before .before .before .before .before .before .before .loop .used) + 1)) (sym (c .before .before .before .push .ensures .1)))
+loop-again-2 c = (pushed-length _ _ _ _ _ (c .before .before .before .push .ensures .1) ∙ c .before .before .before .before .before .before .before .before .before .before .before .before .before .loop .inv .0, c .before .before .before .before .before .before .before .before .before .before .before .before .before .loop .inv .1 ∙ consts-put (c .before .before .before .before .before .before .before .before .before .before .before .before .before .before .before .before .args .s .now) (c .before .before .before .before .before .before .before .before .before .before .before .before .before .loop .at) (c .before .before .before .before .before .before .before .before .before .before .before .before .before .loop .names) (c .before .before .before .before .before .before .before .before .before .before .before .before .before .loop .used) (c .before .before .before .before .before .before .before .before .before .before .before .before .loop-test .taken) (c .before .before .before .before .before .before .before .before .before .before .before .end-of .ensures) (c .before .before .before .before .before .before .before .before .const-entry .ensures .0) (c .before .before .before .before .before .before .n .given .1) (sym (c .before .before .before .push .ensures .0) ∙ c .if1 .taken) ∙ ap (λ (t : List ℕ). consts-of (lines (drop (c .before .before .before .before .before .before .before .before .before .before .before .end-of .result + 1) (c .before .before .before .before .before .before .before .before .before .before .before .before .before .before .before .before .args .s .now))) t ((c .before .before .before .before .before .before .before .before .before .before .before .before .before .loop .used) + 1)) (sym (c .before .before .before .push .ensures .1)))
 
 same-length : tie.Need-same-length Inv-loop μ-loop
 same-length c = pushed-length _ _ _ _ _ (c .before .before .before .push .ensures .1) ∙ c .before .before .before .before .before .before .before .before .before .before .before .before .before .loop .inv .0
 
 returns : tie.Need-returns Inv-loop μ-loop
-returns c = ap (filling Short) (full-is _ _ _ _ _ (c .before .before .before .push .ensures .1) (sym (c .before .before .before .push .ensures .0) ∙ c .if1 .left)) ∙ sym (c .before .before .before .before .before .before .before .before .before .before .before .before .before .loop .inv .1 ∙ consts-full (c .before .before .before .before .before .before .before .before .before .before .before .before .before .before .before .before .args .s .now) (c .before .before .before .before .before .before .before .before .before .before .before .before .before .loop .at) (c .before .before .before .before .before .before .before .before .before .before .before .before .before .loop .names) (c .before .before .before .before .before .before .before .before .before .before .before .before .before .loop .used) (c .before .before .before .before .before .before .before .before .before .before .before .before .loop-test .taken) (c .before .before .before .before .before .before .before .before .before .before .before .end-of .ensures) (c .before .before .before .before .before .before .before .before .const-entry .ensures) (c .before .before .before .before .before .before .n .given .1) (sym (c .before .before .before .push .ensures .0) ∙ c .if1 .left))
+returns c = ap (filling Short) (full-is _ _ _ _ _ (c .before .before .before .push .ensures .1) (sym (c .before .before .before .push .ensures .0) ∙ c .if1 .left)) ∙ sym (c .before .before .before .before .before .before .before .before .before .before .before .before .before .loop .inv .1 ∙ consts-full (c .before .before .before .before .before .before .before .before .before .before .before .before .before .before .before .before .args .s .now) (c .before .before .before .before .before .before .before .before .before .before .before .before .before .loop .at) (c .before .before .before .before .before .before .before .before .before .before .before .before .before .loop .names) (c .before .before .before .before .before .before .before .before .before .before .before .before .before .loop .used) (c .before .before .before .before .before .before .before .before .before .before .before .before .loop-test .taken) (c .before .before .before .before .before .before .before .before .before .before .before .end-of .ensures) (c .before .before .before .before .before .before .before .before .const-entry .ensures .0) (c .before .before .before .before .before .before .n .given .1) (sym (c .before .before .before .push .ensures .0) ∙ c .if1 .left))
 
 enum-told-2 : tie.Need-enum-told-2 Inv-loop μ-loop
 enum-told-2 c = search needs
@@ -80,7 +80,7 @@ same-length-2 : tie.Need-same-length-2 Inv-loop μ-loop
 same-length-2 c = c .before .before .before .before .before .before .before .loop .inv .0
 
 returns-2 : tie.Need-returns-2 Inv-loop μ-loop
-returns-2 c = sym (c .before .before .before .before .before .before .before .loop .inv .1 ∙ consts-outside (c .before .before .before .before .before .before .before .before .before .before .args .s .now) (c .before .before .before .before .before .before .before .loop .at) (c .before .before .before .before .before .before .before .loop .names) (c .before .before .before .before .before .before .before .loop .used) (c .before .before .before .before .before .before .loop-test .taken) (c .before .before .before .before .before .end-of .ensures) (c .before .before .const-entry .ensures) (c .enum-told2 .given .1))
+returns-2 c = sym (c .before .before .before .before .before .before .before .loop .inv .1 ∙ consts-outside (c .before .before .before .before .before .before .before .before .before .before .args .s .now) (c .before .before .before .before .before .before .before .loop .at) (c .before .before .before .before .before .before .before .loop .names) (c .before .before .before .before .before .before .before .loop .used) (c .before .before .before .before .before .before .loop-test .taken) (c .before .before .before .before .before .end-of .ensures) (c .before .before .const-entry .ensures .0) (c .enum-told2 .given .1))
 
 enum-told-3 : tie.Need-enum-told-3 Inv-loop μ-loop
 enum-told-3 c = search needs
@@ -89,7 +89,7 @@ same-length-3 : tie.Need-same-length-3 Inv-loop μ-loop
 same-length-3 c = c .before .before .before .before .before .before .before .loop .inv .0
 
 returns-3 : tie.Need-returns-3 Inv-loop μ-loop
-returns-3 c = sym (c .before .before .before .before .before .before .before .loop .inv .1 ∙ consts-bad (c .before .before .before .before .before .before .before .before .before .before .args .s .now) (c .before .before .before .before .before .before .before .loop .at) (c .before .before .before .before .before .before .before .loop .names) (c .before .before .before .before .before .before .before .loop .used) (c .before .before .before .before .before .before .loop-test .taken) (c .before .before .before .before .before .end-of .ensures) (c .before .before .const-entry .ensures) (c .enum-told3 .given .1))
+returns-3 c = sym (c .before .before .before .before .before .before .before .loop .inv .1 ∙ consts-bad (c .before .before .before .before .before .before .before .before .before .before .args .s .now) (c .before .before .before .before .before .before .before .loop .at) (c .before .before .before .before .before .before .before .loop .names) (c .before .before .before .before .before .before .before .loop .used) (c .before .before .before .before .before .before .loop-test .taken) (c .before .before .before .before .before .end-of .ensures) (c .before .before .const-entry .ensures .0) (c .enum-told3 .given .1))
 
 same-length-4 : tie.Need-same-length-4 Inv-loop μ-loop
 same-length-4 c = c .before .loop .inv .0

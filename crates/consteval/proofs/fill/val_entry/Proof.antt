@@ -1,5 +1,6 @@
 -- `consteval::fill::val_entry` meets its contract, by the line's head and its parts. Assumes nothing.
 use Rattle.consteval.proofs.FillLaws.{val-empty, val-is, val-not, val-const, val-other, held-capped}
+use Rattle.consteval.proofs.TableLaws.{val-by}
 use Rattle.consteval.specs.Fill.{held}
 use Rattle.lines.specs.Words.{word-of}
 use Rattle.spec.specs.Bytes.{Bytes, number, integer}
@@ -10,7 +11,7 @@ use Rattle.consteval.proofs.fill.val_entry.Statement.{statement}
 use Rattle.consteval.proofs.fill.val_entry.Tie as tie
 
 returns : tie.Need-returns
-returns c = val-empty (c .before .before .args .s .now) (c .if1 .taken)
+returns c = val-by (c .before .before .args .s .now) _ (val-empty (c .before .before .args .s .now) (c .if1 .taken))
 
 part-end-requires : tie.Need-part-end-requires
 part-end-requires c κs = search needs
@@ -58,16 +59,16 @@ enum-told-4 : tie.Need-enum-told-4
 enum-told-4 c = search needs
 
 returns-2 : tie.Need-returns-2
-returns-2 c = c .to-hold .ensures ∙ ap₂ held (c .before .before .before .value .ensures) (c .before .whole .ensures) ∙ held-capped (number (c .before .before .before .before .between2 .result .now)) (within (integer (c .before .before .between3 .result .now))) ∙ ap₂ (λ (a b : Bytes). held (number a) (within (integer b))) (c .before .before .before .before .between2 .ensures) (c .before .before .between3 .ensures) ∙ val-is (c .before .before .before .before .before .before .before .before .before .before .before .before .before .before .before .before .before .args .s .now) (c .before .before .before .before .before .before .before .before .before .before .before .before .before .before .before .if1 .left) (c .before .before .before .before .before .before .before .before .before .before .before .before .before .before .part-end .ensures) (c .before .before .before .before .before .before .before .before .before .before .before .before .word-of .ensures ∙ ap word-of (c .before .before .before .before .before .before .before .before .before .before .before .before .before .between .ensures)) (c .before .before .before .before .before .before .before .before .before .before .before .role-of .ensures) (c .before .before .before .before .before .before .before .before .before .enum-told .given .1) (c .before .before .before .before .before .before .before .before .as-two .ensures) (c .before .before .before .before .before .before .a .given .1)
+returns-2 c = val-by (c .before .before .before .before .before .before .before .before .before .before .before .before .before .before .before .before .before .args .s .now) _ (c .to-hold .ensures .0 ∙ ap₂ held (c .before .before .before .value .ensures) (c .before .whole .ensures) ∙ held-capped (number (c .before .before .before .before .between2 .result .now)) (within (integer (c .before .before .between3 .result .now))) ∙ ap₂ (λ (a b : Bytes). held (number a) (within (integer b))) (c .before .before .before .before .between2 .ensures) (c .before .before .between3 .ensures) ∙ val-is (c .before .before .before .before .before .before .before .before .before .before .before .before .before .before .before .before .before .args .s .now) (c .before .before .before .before .before .before .before .before .before .before .before .before .before .before .before .if1 .left) (c .before .before .before .before .before .before .before .before .before .before .before .before .before .before .part-end .ensures) (c .before .before .before .before .before .before .before .before .before .before .before .before .word-of .ensures ∙ ap word-of (c .before .before .before .before .before .before .before .before .before .before .before .before .before .between .ensures)) (c .before .before .before .before .before .before .before .before .before .before .before .role-of .ensures) (c .before .before .before .before .before .before .before .before .before .enum-told .given .1) (c .before .before .before .before .before .before .before .before .as-two .ensures) (c .before .before .before .before .before .before .a .given .1))
 
 returns-3 : tie.Need-returns-3
-returns-3 c = val-not (c .before .before .before .before .before .before .before .before .before .before .before .args .s .now) (c .before .before .before .before .before .before .before .before .before .if1 .left) (c .before .before .before .before .before .before .before .before .part-end .ensures) (c .before .before .before .before .before .before .word-of .ensures ∙ ap word-of (c .before .before .before .before .before .before .before .between .ensures)) (c .before .before .before .before .before .role-of .ensures) (c .before .before .before .enum-told .given .1) (c .before .before .as-two .ensures) (c .enum-told2 .given .1)
+returns-3 c = val-by (c .before .before .before .before .before .before .before .before .before .before .before .args .s .now) _ (val-not (c .before .before .before .before .before .before .before .before .before .before .before .args .s .now) (c .before .before .before .before .before .before .before .before .before .if1 .left) (c .before .before .before .before .before .before .before .before .part-end .ensures) (c .before .before .before .before .before .before .word-of .ensures ∙ ap word-of (c .before .before .before .before .before .before .before .between .ensures)) (c .before .before .before .before .before .role-of .ensures) (c .before .before .before .enum-told .given .1) (c .before .before .as-two .ensures) (c .enum-told2 .given .1))
 
 returns-4 : tie.Need-returns-4
-returns-4 c = val-const (c .before .before .before .before .before .before .before .before .args .s .now) (c .before .before .before .before .before .before .if1 .left) (c .before .before .before .before .before .part-end .ensures) (c .before .before .before .word-of .ensures ∙ ap word-of (c .before .before .before .before .between .ensures)) (c .before .before .role-of .ensures) (c .enum-told3 .given .1)
+returns-4 c = val-by (c .before .before .before .before .before .before .before .before .args .s .now) _ (val-const (c .before .before .before .before .before .before .before .before .args .s .now) (c .before .before .before .before .before .before .if1 .left) (c .before .before .before .before .before .part-end .ensures) (c .before .before .before .word-of .ensures ∙ ap word-of (c .before .before .before .before .between .ensures)) (c .before .before .role-of .ensures) (c .enum-told3 .given .1))
 
 returns-5 : tie.Need-returns-5
-returns-5 c = val-other (c .before .before .before .before .before .before .before .before .args .s .now) (c .before .before .before .before .before .before .if1 .left) (c .before .before .before .before .before .part-end .ensures) (c .before .before .before .word-of .ensures ∙ ap word-of (c .before .before .before .before .between .ensures)) (c .before .before .role-of .ensures) (c .enum-told4 .given .1)
+returns-5 c = val-by (c .before .before .before .before .before .before .before .before .args .s .now) _ (val-other (c .before .before .before .before .before .before .before .before .args .s .now) (c .before .before .before .before .before .before .if1 .left) (c .before .before .before .before .before .part-end .ensures) (c .before .before .before .word-of .ensures ∙ ap word-of (c .before .before .before .before .between .ensures)) (c .before .before .role-of .ensures) (c .enum-told4 .given .1))
 
 pub val-entry-spec : {M : Type 1} → statement M
 val-entry-spec =

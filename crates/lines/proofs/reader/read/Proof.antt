@@ -3,7 +3,7 @@ use mathlib.Core.Path.{sym, ap, _∙_}
 use Prim.Native.Nat.{ℕ}
 use native.Mathlib.Omega.{arith}
 use lib.ListN.{length-replicate}
-use Rattle.lines.proofs.Answers.{as-verdict, read-told}
+use Rattle.lines.proofs.Answers.{as-verdict, read-told, told-by}
 use borrow.Author.Needs.{needs}
 use Rattle.lines.proofs.reader.read.Statement.{statement}
 use Rattle.lines.proofs.reader.read.Tie as tie
@@ -27,13 +27,13 @@ enum-known-m : tie.Need-enum-known-m
 enum-known-m c = search needs
 
 returns : tie.Need-returns
-returns c = ap as-verdict (sym (c .enum-told .given .1)) ∙ read-told (c .before .before .before .before .before .before .before .before .args .text .now) _ _ (omega (arith, length-replicate {A = ℕ} 8192 0)) (omega (arith, length-replicate {A = ℕ} 128 0)) _ (c .before .before .before .before .read-text .ensures .0)
+returns c = told-by (c .before .before .before .before .before .before .before .before .args .text .now) _ (ap as-verdict (sym (c .enum-told .given .1)) ∙ read-told (c .before .before .before .before .before .before .before .before .args .text .now) _ _ (omega (arith, length-replicate {A = ℕ} 8192 0)) (omega (arith, length-replicate {A = ℕ} 128 0)) _ (c .before .before .before .before .read-text .ensures .0))
 
 returns-2 : tie.Need-returns-2
-returns-2 c = ap as-verdict (sym (c .before .k .given .1)) ∙ read-told (c .before .before .before .before .before .before .before .before .before .args .text .now) _ _ (omega (arith, length-replicate {A = ℕ} 8192 0)) (omega (arith, length-replicate {A = ℕ} 128 0)) _ (c .before .before .before .before .before .read-text .ensures .0)
+returns-2 c = told-by (c .before .before .before .before .before .before .before .before .before .args .text .now) _ (ap as-verdict (sym (c .before .k .given .1)) ∙ read-told (c .before .before .before .before .before .before .before .before .before .args .text .now) _ _ (omega (arith, length-replicate {A = ℕ} 8192 0)) (omega (arith, length-replicate {A = ℕ} 128 0)) _ (c .before .before .before .before .before .read-text .ensures .0))
 
 returns-3 : tie.Need-returns-3
-returns-3 c = ap as-verdict (sym (c .before .m .given .1)) ∙ read-told (c .before .before .before .before .before .before .before .before .before .args .text .now) _ _ (omega (arith, length-replicate {A = ℕ} 8192 0)) (omega (arith, length-replicate {A = ℕ} 128 0)) _ (c .before .before .before .before .before .read-text .ensures .0)
+returns-3 c = told-by (c .before .before .before .before .before .before .before .before .before .args .text .now) _ (ap as-verdict (sym (c .before .m .given .1)) ∙ read-told (c .before .before .before .before .before .before .before .before .before .args .text .now) _ _ (omega (arith, length-replicate {A = ℕ} 8192 0)) (omega (arith, length-replicate {A = ℕ} 128 0)) _ (c .before .before .before .before .before .read-text .ensures .0))
 
 pub read-spec : {M : Type 1} → statement M
 read-spec =

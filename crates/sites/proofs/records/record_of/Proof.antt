@@ -1,33 +1,14 @@
--- `sites::records::record_of` meets its contract. Each arm has its code. Assumes nothing.
+-- `sites::records::record_of` meets its contract. Assumes nothing.
+use Rattle.sites.proofs.Search.{record-made}
 use borrow.Author.Needs.{needs}
 use Rattle.sites.proofs.records.record_of.Statement.{statement}
 use Rattle.sites.proofs.records.record_of.Tie as tie
 
-enum-told : tie.Need-enum-told
-enum-told c = search needs
-
-enum-known-e : tie.Need-enum-known-e
-enum-known-e c = search needs
-
-enum-told-2 : tie.Need-enum-told-2
-enum-told-2 c = search needs
-
-enum-told-3 : tie.Need-enum-told-3
-enum-told-3 c = search needs
+extent-code-requires : tie.Need-extent-code-requires
+extent-code-requires c κs = search needs
 
 returns : tie.Need-returns
-returns c = rw (c .enum-told .given .1)
-
-returns-2 : tie.Need-returns-2
-returns-2 c = rw (c .before .e .given .1)
-
-returns-3 : tie.Need-returns-3
-returns-3 c = rw (c .enum-told2 .given .1)
-
-returns-4 : tie.Need-returns-4
-returns-4 c = rw (c .enum-told3 .given .1)
+returns c = record-made (c .before .args .s) (c .extent-code .ensures)
 
 pub record-of-spec : {M : Type 1} → statement M
-record-of-spec =
-    tie.close
-    (tie.spec enum-told enum-known-e enum-told-2 enum-told-3 returns returns-2 returns-3 returns-4)
+record-of-spec = tie.close (tie.spec extent-code-requires returns)

@@ -40,25 +40,25 @@ same-length : tie.Need-same-length
 same-length c = search needs
 
 returns : tie.Need-returns
-returns c = names-found (c .before .before .before .before .before .before .before .before .before .before .before .before .before .before .before .args .text .now) (c .before .before .before .before .before .before .before .before .before .before .before .before .before .before .before .args .mods .now) (c .before .before .before .before .before .before .before .before .before .before .before .before .before .before .before .args .m) (c .before .before .before .before .before .before .before .before .before .before .place2 .ensures) (c .before .before .before .before .before .before .before .before .before .place3 .ensures) (c .before .before .before .before .before .before .before .before .before .before .before .before .before .before .before .args .names .now) (c .before .before .before .before .before .before .before .before .before .before .before .place .ensures) (c .before .before .before .before .before .before .before .before .stretch .ensures) (c .before .before .before .before .before .before .before .stretch2 .ensures) (c .before .before .before .before .before .fill .ensures) (c .before .before .before .before .before .fill .kept .1 .1 .0) (ap to-named (c .before .n .given .1))
+returns c = names-found (c .before .before .before .before .before .before .before .before .before .before .before .before .before .before .before .args .text .now) (c .before .before .before .before .before .before .before .before .before .before .before .before .before .before .before .args .mods .now) (c .before .before .before .before .before .before .before .before .before .before .before .before .before .before .before .args .m) (c .before .before .before .before .before .before .before .before .before .before .place2 .ensures) (c .before .before .before .before .before .before .before .before .before .place3 .ensures) (c .before .before .before .before .before .before .before .before .before .before .before .before .before .before .before .args .names .now) (c .before .before .before .before .before .before .before .before .before .before .before .place .ensures) (c .before .before .before .before .before .before .before .before .stretch .ensures) (c .before .before .before .before .before .before .before .stretch2 .ensures) (c .before .before .before .before .before .fill .ensures .0) (c .before .before .before .before .before .fill .kept .1 .1 .0) (ap to-named (c .before .n .given .1))
 
 same-length-2 : tie.Need-same-length-2
 same-length-2 c = search needs
 
 returns-2 : tie.Need-returns-2
-returns-2 c = names-found (c .before .before .before .before .before .before .before .before .before .before .before .before .before .before .args .text .now) (c .before .before .before .before .before .before .before .before .before .before .before .before .before .before .args .mods .now) (c .before .before .before .before .before .before .before .before .before .before .before .before .before .before .args .m) (c .before .before .before .before .before .before .before .before .before .place2 .ensures) (c .before .before .before .before .before .before .before .before .place3 .ensures) (c .before .before .before .before .before .before .before .before .before .before .before .before .before .before .args .names .now) (c .before .before .before .before .before .before .before .before .before .before .place .ensures) (c .before .before .before .before .before .before .before .stretch .ensures) (c .before .before .before .before .before .before .stretch2 .ensures) (c .before .before .before .before .fill .ensures) (c .before .before .before .before .fill .kept .1 .1 .0) (ap to-named (c .enum-told .given .1))
+returns-2 c = names-found (c .before .before .before .before .before .before .before .before .before .before .before .before .before .before .args .text .now) (c .before .before .before .before .before .before .before .before .before .before .before .before .before .before .args .mods .now) (c .before .before .before .before .before .before .before .before .before .before .before .before .before .before .args .m) (c .before .before .before .before .before .before .before .before .before .place2 .ensures) (c .before .before .before .before .before .before .before .before .place3 .ensures) (c .before .before .before .before .before .before .before .before .before .before .before .before .before .before .args .names .now) (c .before .before .before .before .before .before .before .before .before .before .place .ensures) (c .before .before .before .before .before .before .before .stretch .ensures) (c .before .before .before .before .before .before .stretch2 .ensures) (c .before .before .before .before .fill .ensures .0) (c .before .before .before .before .fill .kept .1 .1 .0) (ap to-named (c .enum-told .given .1))
 
 same-length-3 : tie.Need-same-length-3
 same-length-3 c = search needs
 
 returns-3 : tie.Need-returns-3
-returns-3 c = names-found (c .before .before .before .before .before .before .before .before .before .before .before .before .before .before .args .text .now) (c .before .before .before .before .before .before .before .before .before .before .before .before .before .before .args .mods .now) (c .before .before .before .before .before .before .before .before .before .before .before .before .before .before .args .m) (c .before .before .before .before .before .before .before .before .before .place2 .ensures) (c .before .before .before .before .before .before .before .before .place3 .ensures) (c .before .before .before .before .before .before .before .before .before .before .before .before .before .before .args .names .now) (c .before .before .before .before .before .before .before .before .before .before .place .ensures) (c .before .before .before .before .before .before .before .stretch .ensures) (c .before .before .before .before .before .before .stretch2 .ensures) (c .before .before .before .before .fill .ensures) (c .before .before .before .before .fill .kept .1 .1 .0) (ap to-named (c .enum-told2 .given .1))
+returns-3 c = names-found (c .before .before .before .before .before .before .before .before .before .before .before .before .before .before .args .text .now) (c .before .before .before .before .before .before .before .before .before .before .before .before .before .before .args .mods .now) (c .before .before .before .before .before .before .before .before .before .before .before .before .before .before .args .m) (c .before .before .before .before .before .before .before .before .before .place2 .ensures) (c .before .before .before .before .before .before .before .before .place3 .ensures) (c .before .before .before .before .before .before .before .before .before .before .before .before .before .before .args .names .now) (c .before .before .before .before .before .before .before .before .before .before .place .ensures) (c .before .before .before .before .before .before .before .stretch .ensures) (c .before .before .before .before .before .before .stretch2 .ensures) (c .before .before .before .before .fill .ensures .0) (c .before .before .before .before .fill .kept .1 .1 .0) (ap to-named (c .enum-told2 .given .1))
 
 same-length-4 : tie.Need-same-length-4
 same-length-4 c = search needs
 
 returns-4 : tie.Need-returns-4
-returns-4 c = names-found (c .before .before .before .before .before .before .before .before .before .before .before .before .before .before .args .text .now) (c .before .before .before .before .before .before .before .before .before .before .before .before .before .before .args .mods .now) (c .before .before .before .before .before .before .before .before .before .before .before .before .before .before .args .m) (c .before .before .before .before .before .before .before .before .before .place2 .ensures) (c .before .before .before .before .before .before .before .before .place3 .ensures) (c .before .before .before .before .before .before .before .before .before .before .before .before .before .before .args .names .now) (c .before .before .before .before .before .before .before .before .before .before .place .ensures) (c .before .before .before .before .before .before .before .stretch .ensures) (c .before .before .before .before .before .before .stretch2 .ensures) (c .before .before .before .before .fill .ensures) (c .before .before .before .before .fill .kept .1 .1 .0) (ap to-named (c .enum-told3 .given .1))
+returns-4 c = names-found (c .before .before .before .before .before .before .before .before .before .before .before .before .before .before .args .text .now) (c .before .before .before .before .before .before .before .before .before .before .before .before .before .before .args .mods .now) (c .before .before .before .before .before .before .before .before .before .before .before .before .before .before .args .m) (c .before .before .before .before .before .before .before .before .before .place2 .ensures) (c .before .before .before .before .before .before .before .before .place3 .ensures) (c .before .before .before .before .before .before .before .before .before .before .before .before .before .before .args .names .now) (c .before .before .before .before .before .before .before .before .before .before .place .ensures) (c .before .before .before .before .before .before .before .stretch .ensures) (c .before .before .before .before .before .before .stretch2 .ensures) (c .before .before .before .before .fill .ensures .0) (c .before .before .before .before .fill .kept .1 .1 .0) (ap to-named (c .enum-told3 .given .1))
 
 pub names-of-module-spec : {M : Type 1} → statement M
 names-of-module-spec =

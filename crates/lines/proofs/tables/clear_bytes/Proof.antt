@@ -3,8 +3,8 @@ use lib.ListN.{length, getD, length-set}
 use Prim.Native.Nat.{ℕ, _≤_, _<_, _-_}
 use mathlib.Core.Path.{_≡_, refl, _∙_}
 use native.Mathlib.Omega.{arith}
-use Rattle.lines.proofs.tables.clear_kinds.Statement.{statement}
-use Rattle.lines.proofs.tables.clear_kinds.Tie as tie
+use Rattle.lines.proofs.tables.clear_bytes.Statement.{statement}
+use Rattle.lines.proofs.tables.clear_bytes.Tie as tie
 
 abbrev Inv-loop : tie.InvT-loop
 Inv-loop s₀ i₀ s i = (length s ≡ length s₀) × (i ≤ length s) × ((k : ℕ) → k < i → getD s k 0 ≡ 0)
@@ -33,8 +33,8 @@ same-length c = c .before .loop .inv .0
 returns : tie.Need-returns Inv-loop μ-loop
 returns c = clear-end (c .before .loop .s) (c .before .before .args .s .now) (c .before .loop .i) (c .before .loop .inv .0) (c .before .loop .inv .1) (c .loop-test .left) (c .before .loop .inv .2)
 
-pub clear-kinds-spec : {M : Type 1} → statement M
-clear-kinds-spec =
+pub clear-bytes-spec : {M : Type 1} → statement M
+clear-bytes-spec =
     tie.close
     (tie.spec
     Inv-loop
