@@ -12,8 +12,9 @@ use lib.Dec.{eqb, ltb}
 use lib.IntN.{ℤ, pos, negsuc}
 use borrow.Author.Tests.{lt-ltb, ltb-true, ltb-false, eqb-true, eqb-false, eq-eqb, ne-eqb}
 use Rattle.spec.specs.Edge.{Node, signal, inst-out, Head}
-use Rattle.graph.specs.Table.{unbiased, node-of, count, node-words}
+use Rattle.graph.specs.Table.{unbiased, node-of, node-words}
 use Rattle.graph.specs.Stands.{Stands, Heading, Headed, Read}
+use Rattle.graph.specs.Search.{next-report}
 use Rattle.graph.specs.Leaves.{HeadLeaves, ReadLeaves, Stretch, NextLeaves}
 use Rattle.graph.specs.declared.Node as D
 use Rattle.graph.specs.declared.Node.the-variants as kinds
@@ -23,6 +24,7 @@ use Rattle.graph.specs.declared.Added.the-variants as added
 use Rattle.graph.specs.declared.Cycle as C
 use Rattle.graph.specs.declared.Cycle.the-variants as cycles
 use Rattle.graph.proofs.Tables.{pick-true, pick-false, miss}
+use Rattle.graph.proofs.Leaving.{no-number}
 use Rattle.consteval.specs.Worth.{biased}
 use Rattle.bench_c.specs.Cycles.{node-told, added-of, said, node-said, loop-at, Copied, Taken, HeadTold, ReadTold, Told, NextTold}
 
@@ -103,14 +105,10 @@ module _ (a : A.Added) (g g′ : List ℕ) (n m : D.Node) (start : ℕ) (f : Hea
   pub told-past : (i : ℕ) → a ≡ added.At i → 512 ≤ i → {g″ : List ℕ} → g″ ≡ replicate (length g′) 0 → length g′ ≡ length g → HeadTold 512 g m start g″
   told-past i e l d z =
       let N = leaves (added.At i) e .0 in
-      inr (refl, many (ltb i (count g)) refl (N .new), d ∙ ap (λ y. replicate {A = ℕ} y 0) z)
-    where
-      many : (v : Bool) → ltb i (count g) ≡ v → (count g ≤ i → i < 512) → 512 ≤ count g
-      many true t h = omega (arith, ltb-true i (count g) t)
-      many false t h = let y = h (ltb-false i (count g) t) in absurd (omega arith)
+      inr (refl, omega (arith, N .number), d ∙ ap (λ y. replicate {A = ℕ} y 0) z)
 
   pub told-full : a ≡ added.Full → HeadTold 512 g m start g′
-  told-full e = let F = leaves added.Full e in inr (refl, F .0 .many, F .1)
+  told-full e = let F = leaves added.Full e in let k = F .0 .many in let l = no-number g m (F .0) in inr (refl, omega arith, F .1)
 
 module _ (a : A.Added) (g g′ : List ℕ) (from : ℕ) (n m : D.Node) (f : ReadLeaves a g from n g′) (q : n ≡ m) where
   read-leaves : (b : A.Added) → a ≡ b → ReadLeaves b g from m g′
@@ -203,17 +201,34 @@ module _ (a : C.Cycle) (g w w′ : List ℕ) (f : (rs : List (List Node)) → Aw
         subst (λ (z : ℕ). Taken z g w′ ns′ rs) (sym (C .number))
         (loop-at w′ p (d - p), found .0, words-length w′ p (d - p) (getD w′ (3074 + p) 0), C .begins, found .1, found .4)
 
--- what the next report leaves of any words
-module _ (a : C.Cycle) (g w w′ : List ℕ) (L : NextLeaves a g w w′) where
-  pub next-none : (ns : List ℕ) → NextTold 0 g w w′ ns ns
-  next-none ns = record { told = refl; fewer = λ h. absurd (omega arith); before = L .before; behind = L .behind }
+-- what the next report gives and leaves of any words
+module _ (a : C.Cycle) (g w w′ : List ℕ) (L : NextLeaves a g w w′) (E : (a, w′) ≡ next-report g w) where
+  told-of : (b : C.Cycle) (r : ℕ) (ns ns′ : List ℕ) → a ≡ b → Told b r w′ ns ns′ → Told (next-report g w .0) r w′ ns ns′
+  told-of b r ns ns′ e T = subst (λ (x : C.Cycle). Told x r w′ ns ns′) (sym e ∙ ap (λ (x : C.Cycle × List ℕ). x .0) E) T
 
-  pub next-told : (p d : ℕ) → a ≡ cycles.Found p d → p < d → (ns ns′ : List ℕ) (r : ℕ) → Copied w′ p (d - p) ns ns′ r → NextTold r g w w′ ns ns′
-  next-told p d e l ns ns′ r K =
-      let S : Stretch (cycles.Found p d) w w′ = subst (λ (x : C.Cycle). Stretch x w w′) e (L .stretch) in
-      record {
-        told = subst (λ (z : ℕ). Told z w′ ns ns′) (sym (K .number)) (p, omega (arith, S .0), omega arith, subst (λ (z : ℕ). Copied w′ p (d - p) ns ns′ z) (K .number) K);
-        fewer = λ h. S .1;
-        before = L .before;
-        behind = L .behind;
-      }
+  next-nothing : (b : C.Cycle) (ns : List ℕ) → a ≡ b → Told b 0 w′ ns ns → NextTold 0 g w w′ ns ns
+  next-nothing b ns e T = record {
+    words = ap (λ (x : C.Cycle × List ℕ). x .1) E;
+    told = told-of b 0 ns ns e T;
+    fewer = λ h. absurd (omega arith);
+    before = L .before;
+    behind = L .behind;
+  }
+
+  pub next-none : (ns : List ℕ) → a ≡ cycles.Done → NextTold 0 g w w′ ns ns
+  next-none ns e = next-nothing cycles.Done ns e (refl, refl)
+
+  module _ (p d : ℕ) (e : a ≡ cycles.Found p d) where
+    pub next-no-nodes : (ns : List ℕ) → d ≤ p → NextTold 0 g w w′ ns ns
+    next-no-nodes ns l = next-nothing (cycles.Found p d) ns e (λ h. absurd (omega arith), λ h. (refl, refl))
+
+    pub next-told : p < d → (ns ns′ : List ℕ) (r : ℕ) → Copied w′ p (d - p) ns ns′ r → NextTold r g w w′ ns ns′
+    next-told l ns ns′ r K =
+        let S : Stretch (cycles.Found p d) w w′ = subst (λ (x : C.Cycle). Stretch x w w′) e (L .stretch) in
+        record {
+          words = ap (λ (x : C.Cycle × List ℕ). x .1) E;
+          told = told-of (cycles.Found p d) r ns ns′ e (λ h. K, λ h. absurd (omega arith));
+          fewer = λ h. S .1;
+          before = L .before;
+          behind = L .behind;
+        }

@@ -6,18 +6,21 @@ use mathlib.Core.Bool.{true, false}
 use mathlib.Core.Logic.{_⊎_}
 use mathlib.Core.List.{List, [], _∷_, _++_, map}
 use mathlib.Core.Option.{some, none}
-use Prim.Native.Nat.{ℕ, zero, suc, _+_, _<_, _≤_}
+use Prim.Native.Nat.{ℕ, zero, suc, _+_, _-_, _<_, _≤_}
 use lib.ListN.{length, getD, set, replicate}
 use lib.Dec.{eqb, ltb}
 use Rattle.spec.specs.Edge.{Node, signal, inst-out}
-use Rattle.graph.specs.Table.{count, node-at}
+use Rattle.graph.specs.Table.{node-at, number-in}
 use Rattle.graph.specs.Cycles.{Awaits, words-from}
+use Rattle.graph.specs.Search.{next-report}
 use Rattle.graph.specs.Leaves.{Keeps, below, HeadLeaves, ReadLeaves}
 use Rattle.graph.specs.declared.Node as D
 use Rattle.graph.specs.declared.Node.the-variants as kinds
 use Rattle.consteval.specs.Worth.{biased}
 use Rattle.graph.specs.declared.Added as A
 use Rattle.graph.specs.declared.Added.the-variants as added
+use Rattle.graph.specs.declared.Cycle as C
+use Rattle.graph.specs.declared.Cycle.the-variants as cycles
 
 -- 01, The edge: the code's node for four numbers: kind, name, index, output
 unfoldable pub node-told : ℕ → ℕ → ℕ → ℕ → D.Node
@@ -69,25 +72,28 @@ Taken zero g w ns rs = rs ≡ []
 Taken (suc k) g w ns rs = (l : List ℕ) × (qs : List (List Node)) × (length l ≡ suc k) × Begins ns l × Awaits g w qs × (rs ≡ map (node-at g) l ∷ qs)
 
 -- 01, The edge; Refused because of the state; Worthless checks: what heading the node n gives and leaves of any words: its number, below 512, and
--- every word but for which hint is given; or 512, there are 512 nodes or more, and all words are 0
+-- every word; or 512, where its number is not below 512, and all words are 0
 abbrev pub HeadTold : ℕ → List ℕ → D.Node → ℕ → List ℕ → Type 0
-HeadTold r g n start g′ = ((r < 512) × HeadLeaves (added.At r) g n start g′) ⊎ ((r ≡ 512) × (512 ≤ count g) × (g′ ≡ replicate (length g) 0))
+HeadTold r g n start g′ = ((r < 512) × HeadLeaves (added.At r) g n start g′) ⊎ ((r ≡ 512) × (512 ≤ number-in g n) × (g′ ≡ replicate (length g) 0))
 
--- 01, The edge; Refused because of the state; Worthless checks: what a read of the node n gives and leaves of any words: 1, and all but what
--- ReadLeaves leaves free; or 0, and all words are 0
+-- 01, The edge; Refused because of the state; Worthless checks: what a read of the node n gives and leaves of any words: 1, and every word
+-- as ReadLeaves has it; or 0, and all words are 0
 abbrev pub ReadTold : ℕ → List ℕ → ℕ → D.Node → List ℕ → Type 0
 ReadTold zero g from n g′ = ReadLeaves added.Full g from n g′
 ReadTold (suc k) g from n g′ = (k ≡ 0) × ((i : ℕ) × ReadLeaves (added.At i) g from n g′)
 
--- 01, The walk: what is told of any words: nothing; or the path from some place to its end, and its first node again
-abbrev pub Told : ℕ → List ℕ → List ℕ → List ℕ → Type 0
-Told zero w ns ns′ = ns′ ≡ ns
-Told (suc k) w ns ns′ = (p : ℕ) × (p + k ≡ getD w 3586 0) × (1 ≤ k) × Copied w p k ns ns′ (suc k)
+-- 01, The walk; Worthless checks: what is told of an answer of the search, of any words: of a report from the place p to before d the nodes there, and the
+-- first of them again; nothing of a report with no nodes, and where there is none
+abbrev pub Told : C.Cycle → ℕ → List ℕ → List ℕ → List ℕ → Type 0
+Told (cycles.Found p d) r w ns ns′ = (p < d → Copied w p (d - p) ns ns′ r) × (d ≤ p → (r ≡ 0) × (ns′ ≡ ns))
+Told cycles.Done r w ns ns′ = (r ≡ 0) × (ns′ ≡ ns)
 
--- 01, The walk; Worthless checks: what asking for the next report gives and leaves of any words: the words of `w` as NextLeaves of graph has
--- them, fewer steps left where there is a report, and the numbers that are told; every number behind as it was
+-- 01, The walk; Worthless checks: what asking for the next report gives and leaves of any words: every word of `w` as Search.next-report of graph has
+-- it, and what is told of its answer; from these follow the others: fewer steps left where a report is told, the words before 2050 as they were, and
+-- those from 3589 on where w awaits reports
 pub record NextTold (r : ℕ) (g w w′ ns ns′ : List ℕ) : Type 0 where
-  pub told : Told r w′ ns ns′
+  pub words : w′ ≡ next-report g w .1
+  pub told : Told (next-report g w .0) r w′ ns ns′
   pub fewer : 0 < r → getD w′ 3588 0 < getD w 3588 0
   pub before : Keeps (below 2050) w w′
   pub behind : (rs : List (List Node)) → Awaits g w rs → (j : ℕ) → 3589 ≤ j → getD w′ j 0 ≡ getD w j 0

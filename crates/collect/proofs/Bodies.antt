@@ -39,7 +39,7 @@ use Rattle.collect.proofs.Turns.{step-outside, repeat-step, const-if-st
 use Rattle.collect.proofs.Ways.{or-none, fine}
 use Rattle.collect.proofs.Parts.{part-drop, part-piece}
 use Rattle.collect.proofs.Items.{Sized, framed-same, framed-again, sized-again}
-use Rattle.collect.proofs.Leaving.{own-same}
+use Rattle.collect.proofs.Leaving.{filled-same}
 use Rattle.collect.proofs.Going.{names-framed}
 
 -- ---- the names
@@ -250,7 +250,7 @@ module _ (fuel : ℕ) (mo : Mode) (text kinds mods : List ℕ) (count : ℕ) (s 
         inside = omega arith;
         fewer = omega arith;
         framed = framed-same;
-        sized = record { kept = own-same (mo .own) own₀; own-size = refl; g-size = refl; k-size = refl };
+        sized = record { kept = filled-same (mo .own) own₀ g₀ k₀; own-size = refl; g-size = refl; k-size = refl };
         walking = λ w G.
             let z : low ≡ low + 0 = omega arith in
             let y : total ≡ total - 0 = omega arith in (

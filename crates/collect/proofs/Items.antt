@@ -21,15 +21,15 @@ use Rattle.steps.specs.declared.Head.the-variants as head
 use Rattle.steps.proofs.HeadLaws.{head-is}
 use Rattle.collect.specs.declared.Walked as W
 use Rattle.collect.specs.declared.Walked.the-variants as walks
-use Rattle.collect.specs.Cycle.{PartOf, Mode, World, Single, Given, OneGiven, Ends, RoundsWithin, OwnKept, Stepped, Framed, PlainEnds, step-of, walk-of, one-of}
+use Rattle.collect.specs.Cycle.{PartOf, Mode, World, Single, Given, OneGiven, Ends, RoundsWithin, Stepped, Framed, PlainEnds, step-of, walk-of, one-of}
 use Rattle.collect.specs.Plain.{PlainLine}
 use Rattle.collect.proofs.Parts.{end-within, part-piece, stands-here}
-use Rattle.collect.proofs.Leaving.{own-same, own-again}
+use Rattle.collect.proofs.Leaving.{Filled, filled-same, filled-again}
 use Rattle.collect.proofs.Going.{Going, one, going-end, going-next, going-full, plain-ends, inst-ends, step-full, names-framed}
 
--- a walk keeps the lengths of the tables, and a summary's walk the words that stand in the place of own tables
+-- a walk keeps the lengths of the tables; rows, heads and summaries are added
 pub record Sized (checking : Bool) (own₀ g₀ k₀ own g k : List ℕ) : Type 0 where
-  pub kept : OwnKept checking own₀ own
+  pub kept : Filled checking own₀ own g₀ g k₀ k
   pub own-size : length own ≡ length own₀
   pub g-size : length g ≡ length g₀
   pub k-size : length k ≡ length k₀
@@ -46,7 +46,7 @@ within-more (walks.Left l) a b h w = omega arith
 within-more walks.Full a b h w = tt
 
 pub sized-again : (checking : Bool) {a b c d e f g h i : List ℕ} → Sized checking a b c d e f → Sized checking d e f g h i → Sized checking a b c g h i
-sized-again checking p q = record { kept = own-again checking _ _ _ (p .kept) (q .kept); own-size = q .own-size ∙ p .own-size; g-size = q .g-size ∙ p .g-size; k-size = q .k-size ∙ p .k-size }
+sized-again checking {a} {b} {c} {d} {e} {f} {g} {h} {i} p q = record { kept = filled-again checking a d g b e h c f i (p .kept) (q .kept); own-size = q .own-size ∙ p .own-size; g-size = q .g-size ∙ p .g-size; k-size = q .k-size ∙ p .k-size }
 
 -- each item has a head
 some-head : (i : Item) → (h : H.Head) × HeadIs h i
@@ -78,7 +78,7 @@ module _ (fuel : ℕ) (mo : Mode) (text kinds mods : List ℕ) (count : ℕ) (s 
         inside = omega arith;
         fewer = omega arith;
         framed = framed-same;
-        sized = record { kept = own-same (mo .own) own₀; own-size = refl; g-size = refl; k-size = refl };
+        sized = record { kept = filled-same (mo .own) own₀ g₀ k₀; own-size = refl; g-size = refl; k-size = refl };
         walking = λ w G. record { items = w .items; state = w .state; run = G .run; holding = G .holding; same = refl };
       }
 

@@ -12,6 +12,7 @@ use Rattle.spec.specs.Value.{Table, own-vals, name-table}
 use Rattle.spec.specs.Summary.{Kept}
 use Rattle.spec.specs.Cleared.{Cleared}
 use Rattle.graph.specs.Stands.{graph-places, Stands}
+use Rattle.graph.specs.Cycles as graphs
 use Rattle.sites.specs.Own.{places}
 use Rattle.runs.specs.Text.{ModuleAt}
 use Rattle.runs.proofs.Text.{module-at}
@@ -25,9 +26,10 @@ use Rattle.items.specs.Lines.{emptied}
 use Rattle.collect.specs.declared.Walked as W
 use Rattle.collect.specs.declared.Walked.the-variants as walks
 use Rattle.collect.specs.declared.Collected.the-variants as collected
-use Rattle.collect.specs.Cycle.{mode, walk-number, Ends, LinesAdded, Framed, RoundsWithin}
+use Rattle.collect.specs.Cycle.{mode, walk-number, Ends, LinesAdded, HeadsAdded, Framed, RoundsWithin}
 use Rattle.collect.specs.Face.{WalkGiven, ModuleGiven, Collects, Walkable, LentAfter}
 use Rattle.collect.proofs.Going.{names-framed}
+use Rattle.collect.proofs.Leaving.{Filled}
 
 -- ---- a module
 
@@ -89,9 +91,10 @@ Sizes names own g k names′ own′ g′ k′ = (length names′ ≡ length name
 
 module _ (text mods : List ℕ) (count m : ℕ) (names own g k names′ own′ g′ k′ : List ℕ) (s : Sizes names own g k names′ own′ g′ k′) where
   pub lent-left : (used left : ℕ) (r : Named) (table : List ℕ) → r ≡ named-by text mods m names → table ≡ table-by text mods m names → r ≡ named.Used used
-      → Framed used table names′ → (a : W.Walked) → a ≡ walks.Left left → Walkable (walk-number a) text count → (v : List ℕ) → v ≡ emptied own → LinesAdded v own′ → LentAfter (collected.Left used left) text mods count m names own g k names′ own′ g′ k′
-  lent-left used left r table a t e f w q h v z l =
-      record { sizes = s; named = (sym a ∙ e, subst (λ (y : List ℕ). Framed used y names′) t f); cleared = λ z. absurd (omega arith); owned = λ _. subst (λ (y : List ℕ). LinesAdded y own′) z l; walkable = rw q at h }
+      → Framed used table names′ → (a : W.Walked) → a ≡ walks.Left left → Walkable (walk-number a) text count → (v : List ℕ) → v ≡ emptied own → (u : List ℕ) → u ≡ graphs.emptied g → Filled true v own′ u g′ k k′
+      → LentAfter (collected.Left used left) text mods count m names own g k names′ own′ g′ k′
+  lent-left used left r table a t e f w q h v z u y l =
+      record { sizes = s; named = (sym a ∙ e, subst (λ (y : List ℕ). Framed used y names′) t f); cleared = λ z. absurd (omega arith); owned = λ _. subst (λ (y : List ℕ). LinesAdded y own′) z (l .0); headed = λ _. subst (λ (y : List ℕ). HeadsAdded y k g′ k′) y (l .1); walkable = rw q at h }
 
   pub lent-full : Cleared names′ → Cleared own′ × Cleared g′ × Cleared k′ → LentAfter collected.Full text mods count m names own g k names′ own′ g′ k′
-  lent-full n z = record { sizes = s; named = n; cleared = λ _. z; owned = λ e. absurd (omega arith); walkable = tt }
+  lent-full n z = record { sizes = s; named = n; cleared = λ _. z; owned = λ e. absurd (omega arith); headed = λ e. absurd (omega arith); walkable = tt }

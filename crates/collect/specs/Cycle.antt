@@ -1,30 +1,34 @@
--- What the walk over a module's items needs of the text, and what it leaves. 01: The line; The collected item; The site; The block; The edge;
+-- What the walk over a module's items needs of the text, and what it leaves. 01: The line; The collected item; The site; The block; The edge; The walk;
 -- Refused because of the state; Worthless checks.
 -- To a reader: definitions that contracts of this and other crates cite; each such contract is proved; check_drivers' own promise cites none of them.
 use mathlib.Core.Path.{_≡_}
 use mathlib.Core.Bool.{Bool, true, false}
+use mathlib.Core.Logic.{_⊎_}
 use mathlib.Core.List.{List, []}
 use Prim.Native.Nat.{ℕ, _+_, _/_, _≤_, _<_}
-use lib.ListN.{length, take, drop, getD, replicate}
+use lib.ListN.{length, take, drop, getD, set, replicate}
 use Rattle.spec.specs.Bytes.{Bytes}
 use Rattle.spec.specs.Syntax.{Item, Items, Header}
 use Rattle.spec.specs.Refusal.{refusal, well-formed, decode}
 use Rattle.spec.specs.Cleared.{Cleared, by-number}
 use Rattle.spec.specs.Value.{Names}
-use Rattle.spec.specs.Edge.{Head}
+use Rattle.spec.specs.Edge.{Head, Summary}
 use Rattle.spec.specs.Summary.{Kept}
 use Rattle.consteval.specs.Worth.{signed}
 use Rattle.lines.specs.Tables.{put-kinds, put-mods}
 use Rattle.graph.specs.Stands.{Stands}
 use Rattle.sites.specs.Own.{added}
 use Rattle.sites.specs.declared.Stored.the-variants as stored
+use Rattle.edges.specs.Lines.{inst-index, inst-module}
 use Rattle.edges.specs.Reads.{KindsOf}
+use Rattle.edges.specs.Leaves.{WireLeaves, DriveLeaves, InstLeaves}
 use Rattle.runs.specs.Run.{ShowsItem, RunOf}
 use Rattle.walk.specs.Walk.{Got, full, going, then-go, Walked, walked, walk-rounds, walk-inner, Own, over-own, State, Walking, Answered, Asking, line-step, walk-items, ask-walk}
 use Rattle.walk.specs.Alike.{Alike}
 use Rattle.items.specs.Held.{Held}
 use Rattle.items.specs.Added.{line-added}
 use Rattle.summary.specs.Keeps.{Keeps, pairs-of}
+use Rattle.summary.specs.Pairs.{Leaves}
 use Rattle.steps.specs.Steps.{HeadIs}
 use Rattle.steps.specs.declared.Head as H
 use Rattle.collect.specs.declared.Walked as W
@@ -156,10 +160,27 @@ abbrev pub OwnKept : Bool → (own own′ : List ℕ) → Type 0
 OwnKept true own own′ = LinesAdded own own′
 OwnKept false own own′ = own′ ≡ own
 
+-- 01, The edge; Worthless checks: s is what an `inst` line x knows of its module: nothing, or the pairs that the table of summaries k has for it
+abbrev pub KnownOf : Summary → Bytes → List ℕ → Type 0
+KnownOf s x k = (s ≡ []) ⊎ (s ≡ pairs-of k (inst-module x))
+
+-- 01, The edge; The walk; Worthless checks: the graph g and the summaries k become g′ and k′ by heads added as lines add them and by summaries made, one
+-- after the other. An `inst` line has the index that its bytes give. A summary is made so: the word of module m says that it is in progress; a graph of
+-- its own, of 16,898 words that are 0, gets heads in the same way; then the pairs of the outputs of a run are kept by that graph. Every other word
+-- stays. Free is which of the modules is summarised, of which an `inst` line knows nothing, and which bytes are read, with which kinds and names.
+pub data HeadsAdded : (g k g′ k′ : List ℕ) → Type 0 where
+  none : {g k : List ℕ} → HeadsAdded g k g k
+  wire : {g k g₁ k₁ g₂ : List ℕ} (x : Bytes) (d : ℕ) (kinds : List ℕ) (names : Names) → HeadsAdded g k g₁ k₁ → WireLeaves true x d kinds names g₁ g₂ → HeadsAdded g k g₂ k₁
+  drive : {g k g₁ k₁ g₂ : List ℕ} (x : Bytes) (d : ℕ) (kinds : List ℕ) (names : Names) → HeadsAdded g k g₁ k₁ → DriveLeaves true x d kinds names g₁ g₂ → HeadsAdded g k g₂ k₁
+  inst : {g k g₁ k₁ g₂ : List ℕ} (x : Bytes) (d : ℕ) (kinds : List ℕ) (names : Names) (s : Summary) → HeadsAdded g k g₁ k₁ → KnownOf s x k₁
+      → InstLeaves true (inst-index x d names) s x d kinds names g₁ g₂ → HeadsAdded g k g₂ k₁
+  summary : {g k g₁ k₁ h k₂ k₃ : List ℕ} (m : ℕ) (run : Bytes) (kinds : List ℕ) → HeadsAdded g k g₁ k₁ → HeadsAdded (replicate 16898 0) (set k₁ m 1) h k₂
+      → Leaves true run kinds h k₂ m k₃ → HeadsAdded g k g₁ k₃
+
 -- 01, Refused because of the state; Worthless checks: the tables that a walk fills, whatever was lent: where it is full every place is 0; where it is
--- not, `OwnKept` is what is said with no condition, and `Ends` says the rest
-abbrev pub WalkLeaves : W.Walked → Bool → (own own′ g′ k′ : List ℕ) → Type 0
-WalkLeaves r checking own own′ g′ k′ = by-number (walk-number r) (OwnKept checking own own′) (Cleared own′ × Cleared g′ × Cleared k′)
+-- not, `OwnKept` and `HeadsAdded` are what is said with no condition, and `Ends` says the rest
+abbrev pub WalkLeaves : W.Walked → Bool → (own own′ g g′ k k′ : List ℕ) → Type 0
+WalkLeaves r checking own own′ g g′ k k′ = by-number (walk-number r) (OwnKept checking own own′ × HeadsAdded g k g′ k′) (Cleared own′ × Cleared g′ × Cleared k′)
 
 -- 01, The collected item: the variable's old value returns afterwards: the names that are used stay as they are, full or not; what stands behind them
 -- is free
@@ -198,6 +219,13 @@ asked-number asked.Empty = 0
 asked-number asked.Kept = 0
 asked-number asked.Full = 20
 
--- 01, Refused because of the state; Worthless checks: where a limit is passed or a constant is outside INT, every place of the table of summaries is 0
-abbrev pub AskLeaves : A.Asked → List ℕ → Type 0
-AskLeaves r k = by-number (asked-number r) (Unit {0}) (Cleared k)
+-- 01, The edge; Refused because of the state; Worthless checks: the table of summaries, whatever was lent: where a limit is passed or a constant is
+-- outside INT every place is 0; else summaries are made, which leaves the graph of the one who asks as it is
+abbrev pub AskLeaves : A.Asked → (k k′ : List ℕ) → Type 0
+AskLeaves r k k′ = by-number (asked-number r) ((g : List ℕ) → HeadsAdded g k g k′) (Cleared k′)
+
+-- 01, The edge; The walk; Refused because of the state; Worthless checks: what an instance line leaves in the same way: where a limit is passed or a
+-- constant is outside INT (false) every place of graph and summaries is 0; else heads are added and summaries made
+abbrev pub EdgesLeave : Bool → (g g′ k k′ : List ℕ) → Type 0
+EdgesLeave true g g′ k k′ = HeadsAdded g k g′ k′
+EdgesLeave false g g′ k k′ = Cleared g′ × Cleared k′

@@ -15,6 +15,7 @@ use Rattle.spec.specs.Summary.{Kept}
 use Rattle.spec.specs.Cleared.{Cleared, by-number}
 use Rattle.consteval.specs.Worth.{names-of}
 use Rattle.graph.specs.Stands.{graph-places, Stands}
+use Rattle.graph.specs.Cycles as graphs
 use Rattle.sites.specs.Own.{places}
 use Rattle.walk.specs.Walk.{Got, full, going, Walked, walked, State, no-own}
 use Rattle.steps.specs.Modules.{name-places, named-by, table-by}
@@ -24,7 +25,7 @@ use Rattle.items.specs.Lines.{emptied}
 use Rattle.summary.specs.Keeps.{Keeps}
 use Rattle.collect.specs.declared.Collected.{Collected}
 use Rattle.collect.specs.declared.Collected.the-variants as collected
-use Rattle.collect.specs.Cycle.{Tabled, Holding, mode, LinesAdded, Framed}
+use Rattle.collect.specs.Cycle.{Tabled, Holding, mode, LinesAdded, HeadsAdded, Framed}
 
 -- 01, Refused because of the state: module x is number m of an accepted text; `own` has just the places of its tables, and names, graph and
 -- summaries have theirs or more; the words k hold the summaries kept so far, and what the others hold does not matter
@@ -52,9 +53,10 @@ used-of (collected.Left used left) = used
 used-of collected.Full = 0
 
 -- 01, The value; The collected item; The site; The block; The edge: the module's name table, the rounds left, and the state of the walk, which the
--- words hold: own tables, graph and summaries; or the walk is full. Free are the words that stand for nothing: behind the names in use; of the graph
--- behind its nodes and edges, and what a node has no use for; of the summaries behind the pairs, and of modules that are not kept. Those of the own
--- tables behind their counts, and in the table of conflicts, stay as they were where the number is 0 (`LentAfter`).
+-- words hold: own tables, graph and summaries; or the walk is full. Free are which number a node has, the order of edges and of the pairs of a
+-- summary, and the words that stand for nothing: behind the names in use; of the graph behind its nodes and edges, and what a node has no use for; of
+-- the summaries behind the pairs, and of modules that are not kept. Where the number is 0 `LentAfter` says more of them: those of the own tables behind
+-- their counts, and in the table of conflicts, stay as they were, and those of graph and summaries are only written as lines write them.
 abbrev pub Collects : Collected → (text names own g k : List ℕ) → Module → Got (Walked State) → Type 0
 Collects r text names own g k x y =
     by-number (number-of r)
@@ -72,15 +74,16 @@ abbrev pub Walkable : (number : ℕ) → (text : List ℕ) → (count : ℕ) →
 Walkable number text count = by-number number ((length text ≤ 32768) × (count ≤ 32)) (Unit {0})
 
 -- 01, Worthless checks; Refused because of the state: what every slice that is lent to be written becomes, whatever it held: it keeps its length,
--- and where the number is 20 each place of it is 0; where it is 0 the counts of the own tables are made 0, and then rows are added to them, as lines
--- add them. Where `ModuleGiven` does not hold, free are: whether the number is 20, but for what `NamesAfter` and `Walkable` say; the rounds left,
--- 4,096 at most; which rows these are; the words of graph and summaries where it is 0. Where it holds, `Collects` says these. The words behind the
--- names in use are always free.
+-- and where the number is 20 each place of it is 0. Where it is 0 the counts of the own tables are made 0, and then rows are added to them, as lines
+-- add them; the graph is emptied, and then heads are added to it and summaries made, as lines do it. Where `ModuleGiven` does not hold, free are:
+-- whether the number is 20, but for what `NamesAfter` and `Walkable` say; the rounds left, 4,096 at most; which lines these are, that is their bytes,
+-- kinds and names; which modules are summarised or not known. Where it holds, `Collects` says these. The words behind the names in use are always free.
 pub record LentAfter (r : Collected) (text mods : List ℕ) (count m : ℕ) (names own g k names′ own′ g′ k′ : List ℕ) : Type 0 where
   pub sizes : (length names′ ≡ length names) × (length own′ ≡ length own) × (length g′ ≡ length g) × (length k′ ≡ length k)
   pub named : NamesAfter r text mods m names names′
   pub cleared : number-of r ≡ 20 → Cleared own′ × Cleared g′ × Cleared k′
   pub owned : number-of r ≡ 0 → LinesAdded (emptied own) own′
+  pub headed : number-of r ≡ 0 → HeadsAdded (graphs.emptied g) k g′ k′
   pub walkable : Walkable (number-of r) text count
 
 -- 01, The collected item: where the walk over the items of module x begins: its name table stands, with room for the variables of open repeats, and

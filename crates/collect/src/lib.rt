@@ -21,13 +21,12 @@ ghost use Rattle.consteval.specs.Worth.{names-of};
 ghost use Rattle.spec.specs.Refusal.{decode, has-name};
 ghost use Rattle.spec.specs.Syntax.{Module};
 ghost use Rattle.spec.specs.Summary.{Kept, kept-summary};
-ghost use Rattle.spec.specs.Cleared.{ClearedUnless};
 ghost use Rattle.walk.specs.Walk.{ask-walk, own-walk};
 ghost use Rattle.steps.specs.declared.Head as heads;
 ghost use Rattle.steps.specs.declared.Head.the-variants as head;
 ghost use Rattle.summary.specs.Keeps.{Keeps};
 ghost use Rattle.collect.specs.Face.{WalkGiven, ModuleGiven, Collects, left-of, Walkable, LentAfter};
-ghost use Rattle.collect.specs.Cycle.{walk-number, Mode, World, Given, Single, OneGiven, mode, Ends, walk-of, one-of, turns-of, step-of, Framed, RoundsWithin, WalkLeaves, Stepped, Tabled, AskedFor, AskLeaves};
+ghost use Rattle.collect.specs.Cycle.{walk-number, Mode, World, Given, Single, OneGiven, mode, Ends, walk-of, one-of, turns-of, step-of, Framed, RoundsWithin, WalkLeaves, Stepped, Tabled, AskedFor, AskLeaves, EdgesLeave};
 
 // What collecting a module gives: a limit is passed or a constant is outside INT; else how many names its table has, and the rounds left.
 pub enum Collected {
@@ -88,7 +87,7 @@ fn collect_items(
         → Ends r (mode (pass .checking) (pass .bound)) (now (text .entry)) (now (own .exit)) (now (g .exit)) (now (k .exit)) (w .busy)
         (walk-of (pass .fuel) (now (text .entry)) (mode (pass .checking) (pass .bound)) w (names-of (now (names .entry)) (pass .used)) left)) ⌝ }
     ensures { λ r. ⌜ Framed (pass .used) (now (names .entry)) (now (names .exit)) × RoundsWithin r left ⌝ }
-    ensures { λ r. ⌜ WalkLeaves r (pass .checking) (now (own .entry)) (now (own .exit)) (now (g .exit)) (now (k .exit)) ⌝ }
+    ensures { λ r. ⌜ WalkLeaves r (pass .checking) (now (own .entry)) (now (own .exit)) (now (g .entry)) (now (g .exit)) (now (k .entry)) (now (k .exit)) ⌝ }
 {
     let mut at: usize = 0;
     let mut left = left;
@@ -128,7 +127,7 @@ fn collect_item(
         → Ends r (mode (pass .checking) (pass .bound)) (now (text .entry)) (now (own .exit)) (now (g .exit)) (now (k .exit)) (w .busy)
         (one-of (pass .fuel) (now (text .entry)) (mode (pass .checking) (pass .bound)) w (names-of (now (names .entry)) (pass .used)) left)) ⌝ }
     ensures { λ r. ⌜ Framed (pass .used) (now (names .entry)) (now (names .exit)) × RoundsWithin r left ⌝ }
-    ensures { λ r. ⌜ WalkLeaves r (pass .checking) (now (own .entry)) (now (own .exit)) (now (g .exit)) (now (k .exit)) ⌝ }
+    ensures { λ r. ⌜ WalkLeaves r (pass .checking) (now (own .entry)) (now (own .exit)) (now (g .entry)) (now (g .exit)) (now (k .entry)) (now (k .exit)) ⌝ }
 {
     match steps::head_of(x) {
         Head::Plain => {
@@ -184,7 +183,7 @@ fn repeat_items(
         → Ends r (mode (pass .checking) (pass .bound)) (now (text .entry)) (now (own .exit)) (now (g .exit)) (now (k .exit)) (w .busy)
         (one-of (pass .fuel) (now (text .entry)) (mode (pass .checking) (pass .bound)) w (names-of (now (names .entry)) (pass .used)) left)) ⌝ }
     ensures { λ r. ⌜ Framed (pass .used) (now (names .entry)) (now (names .exit)) × RoundsWithin r left ⌝ }
-    ensures { λ r. ⌜ WalkLeaves r (pass .checking) (now (own .entry)) (now (own .exit)) (now (g .exit)) (now (k .exit)) ⌝ }
+    ensures { λ r. ⌜ WalkLeaves r (pass .checking) (now (own .entry)) (now (own .exit)) (now (g .entry)) (now (g .exit)) (now (k .entry)) (now (k .exit)) ⌝ }
 {
     if pass.depth == 0 {
         places::clear_tables(own, g, k);
@@ -244,7 +243,7 @@ fn repeat_rounds(
         → Ends r (mode (pass .checking) (pass .bound)) (now (text .entry)) (now (own .exit)) (now (g .exit)) (now (k .exit)) (w .busy)
         (turns-of (pass .fuel) (now (text .entry)) (mode (pass .checking) (pass .bound)) w (turn .name) (turn .low) (turn .rounds) (names-of (now (names .entry)) (pass .used)) (turn .left))) ⌝ }
     ensures { λ r. ⌜ Framed (pass .used) (now (names .entry)) (now (names .exit)) × RoundsWithin r (turn .left) ⌝ }
-    ensures { λ r. ⌜ WalkLeaves r (pass .checking) (now (own .entry)) (now (own .exit)) (now (g .exit)) (now (k .exit)) ⌝ }
+    ensures { λ r. ⌜ WalkLeaves r (pass .checking) (now (own .entry)) (now (own .exit)) (now (g .entry)) (now (g .exit)) (now (k .entry)) (now (k .exit)) ⌝ }
 {
     let mut left = turn.left;
     let mut i: u32 = 0;
@@ -287,7 +286,7 @@ fn branch_items(
         → Ends r (mode (pass .checking) (pass .bound)) (now (text .entry)) (now (own .exit)) (now (g .exit)) (now (k .exit)) (w .busy)
         (one-of (pass .fuel) (now (text .entry)) (mode (pass .checking) (pass .bound)) w (names-of (now (names .entry)) (pass .used)) left)) ⌝ }
     ensures { λ r. ⌜ Framed (pass .used) (now (names .entry)) (now (names .exit)) × RoundsWithin r left ⌝ }
-    ensures { λ r. ⌜ WalkLeaves r (pass .checking) (now (own .entry)) (now (own .exit)) (now (g .exit)) (now (k .exit)) ⌝ }
+    ensures { λ r. ⌜ WalkLeaves r (pass .checking) (now (own .entry)) (now (own .exit)) (now (g .entry)) (now (g .exit)) (now (k .entry)) (now (k .exit)) ⌝ }
 {
     if pass.depth < 2 {
         places::clear_tables(own, g, k);
@@ -329,7 +328,7 @@ fn inst_edges(
         (now (ks .entry)) (now (names .entry)) (pass .used) own (now (g .entry)) (now (k .entry)) w
         → Stepped r mo (now (text .entry)) own (now (g .exit)) (now (k .exit)) (w .busy)
         (step-of (pass .fuel) (now (text .entry)) mo (w .header) (w .busy) (names-of (now (names .entry)) (pass .used)) (w .item) (w .state))) ⌝ }
-    ensures { λ r. ⌜ ClearedUnless r (now (g .exit)) × ClearedUnless r (now (k .exit)) ⌝ }
+    ensures { λ r. ⌜ EdgesLeave r (now (g .entry)) (now (g .exit)) (now (k .entry)) (now (k .exit)) ⌝ }
 {
     let index = edges::inst_index(x, pass.depth, names, pass.used);
     if places::is_outside(index) {
@@ -367,7 +366,7 @@ fn inst_edges(
 fn comb_summary(text: &[u8], kinds: &[u8], mods: &[u32], m: u32, pass: Pass, k: &mut [u32]) -> Asked
     ensures { λ r. ⌜ ((kept : Kept) (busy : List ℕ) → Tabled (now (text .entry)) (now (kinds .entry)) (now (mods .entry)) (pass .count) → Keeps (now (k .entry)) kept busy
         → AskedFor r (now (k .exit)) m busy (ask-walk (pass .fuel) (decode (now (text .entry))) busy kept m)) ⌝ }
-    ensures { λ r. ⌜ AskLeaves r (now (k .exit)) ⌝ }
+    ensures { λ r. ⌜ AskLeaves r (now (k .entry)) (now (k .exit)) ⌝ }
 {
     if pass.fuel == 0 {
         return Asked::Empty;
@@ -391,7 +390,7 @@ fn make_summary(text: &[u8], kinds: &[u8], mods: &[u32], m: u32, pass: Pass, k: 
     ensures { λ r. ⌜ ((kept : Kept) (busy : List ℕ) → Tabled (now (text .entry)) (now (kinds .entry)) (now (mods .entry)) (pass .count) → Keeps (now (k .entry)) kept busy
         → m < pass .count → kept-summary kept m ≡ none → has-name m busy ≡ false
         → AskedFor r (now (k .exit)) m busy (ask-walk (suc (pass .fuel)) (decode (now (text .entry))) busy kept m)) ⌝ }
-    ensures { λ r. ⌜ AskLeaves r (now (k .exit)) ⌝ }
+    ensures { λ r. ⌜ AskLeaves r (now (k .entry)) (now (k .exit)) ⌝ }
 {
     if 32768 < text.len() {
         graph::clear(k);
@@ -452,7 +451,7 @@ fn walk_module(
         (now (names .entry)) used (now (own .entry)) (now (g .entry)) (now (k .entry)) x kept
         → Ends r (mode true (x .bound)) (now (text .entry)) (now (own .exit)) (now (g .exit)) (now (k .exit)) [] (own-walk (decode (now (text .entry))) x kept)) ⌝ }
     ensures { λ r. ⌜ Framed used (now (names .entry)) (now (names .exit)) × RoundsWithin r 4096 ⌝ }
-    ensures { λ r. ⌜ WalkLeaves r true (now (own .entry)) (now (own .exit)) (now (g .exit)) (now (k .exit)) ⌝ }
+    ensures { λ r. ⌜ WalkLeaves r true (now (own .entry)) (now (own .exit)) (now (g .entry)) (now (g .exit)) (now (k .entry)) (now (k .exit)) ⌝ }
     ensures { λ r. ⌜ Walkable (walk-number r) (now (text .entry)) count ⌝ }
 {
     if 32768 < text.len() {

@@ -3,14 +3,13 @@
 use consteval::Value;
 use lines::parts;
 ghost use Rattle.consteval.specs.Worth.{names-of, worth};
-ghost use Rattle.spec.specs.Cleared.{ClearedUnless};
 ghost use Rattle.edges.specs.Lines.{summary-at, InstHeads};
-ghost use Rattle.collect.specs.Plain.{LineHeads, PlainLine, PlainLeaves, InstLeaves};
+ghost use Rattle.collect.specs.Plain.{LineHeads, HeadsLeave, PlainLine, PlainLeaves, InstLeaves};
 
 // What the line x heads and reads, by the first byte of its word.
 fn line_heads(x: &[u8], depth: u32, ks: &[u8], names: &[u32], used: usize, g: &mut [u32]) -> bool
     ensures { λ r. ⌜ LineHeads r (now (x .entry)) depth (now (ks .entry)) (names-of (now (names .entry)) used) (now (g .entry)) (now (g .exit)) ⌝ }
-    ensures { λ r. ⌜ ClearedUnless r (now (g .exit)) ⌝ }
+    ensures { λ r. ⌜ HeadsLeave r (now (g .entry)) (now (g .exit)) ⌝ }
 {
     let c = parts::byte(x, 1);
     if c == b'w' {
@@ -38,7 +37,7 @@ pub(crate) fn plain_line(
 ) -> bool
     ensures { λ r. ⌜ PlainLine r (now (x .entry)) from depth (now (ks .entry)) checking bound (names-of (now (names .entry)) used)
         (now (own .entry)) (now (g .entry)) (now (own .exit)) (now (g .exit)) ⌝ }
-    ensures { λ r. ⌜ PlainLeaves r checking (now (own .entry)) (now (own .exit)) (now (g .exit)) ⌝ }
+    ensures { λ r. ⌜ PlainLeaves r checking (now (own .entry)) (now (own .exit)) (now (g .entry)) (now (g .exit)) ⌝ }
 {
     if checking {
         if !items::own_line(x, from, bound, depth, ks, names, used, own) {
@@ -78,7 +77,7 @@ pub(crate) fn inst_line(
     g: &mut [u32],
 ) -> bool
     ensures { λ r. ⌜ InstHeads r (worth index) (summary-at (now (k .entry)) first count) (now (x .entry)) depth (now (ks .entry)) (names-of (now (names .entry)) used) (now (g .entry)) (now (g .exit)) ⌝ }
-    ensures { λ r. ⌜ InstLeaves r (now (g .exit)) (now (k .entry)) (now (k .exit)) ⌝ }
+    ensures { λ r. ⌜ InstLeaves r (worth index) (summary-at (now (k .entry)) first count) (now (x .entry)) depth (now (ks .entry)) (names-of (now (names .entry)) used) (now (g .entry)) (now (g .exit)) (now (k .entry)) (now (k .exit)) ⌝ }
 {
     if edges::inst_heads(x, depth, index, k, first, count, ks, names, used, g) {
         return true;

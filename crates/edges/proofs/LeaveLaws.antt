@@ -7,10 +7,9 @@ use Prim.Native.Nat.{ℕ, zero, suc, _+_, _<_, _≤_}
 use native.Mathlib.Omega.{arith}
 use lib.ListN.{length, getD, replicate}
 use Rattle.spec.specs.Bytes.{Bytes}
-use Rattle.spec.specs.Cleared.{ClearedUnless}
 use Rattle.spec.specs.Value.{Value, Names}
 use Rattle.spec.specs.Edge.{Node, Reads, no-reads, and-reads, inst-out, Summary, index-of, has-output}
-use Rattle.spec.proofs.Cleared.{cleared-of}
+use Rattle.spec.proofs.Cleared.{ClearedUnless, cleared-of}
 use Rattle.lines.specs.Parts.{part-end, piece, follows}
 use Rattle.graph.specs.Table.{node-of}
 use Rattle.graph.specs.Leaves.{HeadLeaves, ReadLeaves}

@@ -9,3 +9,4 @@ pub mod OutputLaws
 pub mod TotalLaws
 pub mod ShownLaws
 pub mod LeaveLaws
+pub mod OneLaws

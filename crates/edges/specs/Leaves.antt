@@ -1,6 +1,7 @@
 -- What heading and reading leave of any words, also where the bytes show no line and the words stand for no graph.
 -- 01: The line; The site; The edge; The walk; Refused because of the state; Worthless checks.
--- To a reader: definitions that the contracts of this crate cite; each such contract is proved; check_drivers' own promise cites none of them.
+-- To a reader: definitions that the contracts of this crate cite; each such contract is proved; OneWire, OneDrive and OneInst are statements, proved in
+-- proofs/OneLaws (one-wire, one-drive, one-inst); check_drivers' own promise cites none of them.
 use mathlib.Core.Path.{_≡_}
 use mathlib.Core.Bool.{Bool, true, false}
 use mathlib.Core.Logic.{_⊎_}
@@ -10,8 +11,8 @@ use lib.ListN.{length, getD, replicate}
 use Rattle.spec.specs.Bytes.{Bytes}
 use Rattle.spec.specs.Value.{Value, Names}
 use Rattle.spec.specs.Edge.{Node, Reads, inst-out, Summary, index-of, has-output}
-use Rattle.graph.specs.Table.{node-of, edge-total}
-use Rattle.graph.specs.Leaves.{NoPlace, HeadLeaves, ReadLeaves}
+use Rattle.graph.specs.Table.{node-of}
+use Rattle.graph.specs.Leaves.{NoPlace, HeadLeaves, ReadFull, ReadLeaves}
 use Rattle.graph.specs.declared.Added.the-variants as added
 use Rattle.graph.specs.declared.Node as declared
 use Rattle.graph.specs.declared.Node.the-variants as nodes
@@ -19,16 +20,16 @@ use Rattle.edges.specs.Lines.{end-behind, number-at, name-end, module-en
 use Rattle.edges.specs.Total.{wire-reads, drive-lv, drive-reads, inst-reads}
 
 -- 01, The edge; Worthless checks: the node `from` reads the nodes ns, one after the other, which takes the words g to g′: each read leaves what
--- ReadLeaves says. Free is only what that leaves free
+-- ReadLeaves says
 abbrev pub ReadsLeave : ℕ → List Node → List ℕ → List ℕ → Type 0
 ReadsLeave from [] g g′ = g′ ≡ g
 ReadsLeave from (n ∷ ns) g g′ = (m : declared.Node) × (node-of m ≡ n) × (i : ℕ) × (g₁ : List ℕ) × ReadLeaves (added.At i) g from m g₁ × ReadsLeave from ns g₁ g′
 
--- 01, Refused because of the state: one of the nodes ns, read after those before it, is one too many: it has no place, or there are 4,096 edges or more
+-- 01, Refused because of the state: reading one of the nodes ns, after those before it, is refused: the node or its edge is one too many
 abbrev pub FullAmong : ℕ → List Node → List ℕ → Type 0
 FullAmong from [] g = ⊥
 FullAmong from (n ∷ ns) g =
-    ((m : declared.Node) × (node-of m ≡ n) × (NoPlace g m ⊎ (4096 ≤ edge-total g)))
+    ((m : declared.Node) × (node-of m ≡ n) × ReadFull g from m)
     ⊎ ((m : declared.Node) × (node-of m ≡ n) × (i : ℕ) × (g₁ : List ℕ) × ReadLeaves (added.At i) g from m g₁ × FullAmong from ns g₁)
 
 -- 01, Refused because of the state: reading q is refused: an index is outside INT, or one of the nodes is one too many
@@ -77,8 +78,7 @@ unfoldable pub inst-start : Bytes → ℕ
 inst-start x = number-at x (module-end x) (end-behind x (module-end x))
 
 -- 01, The edge; The walk; Refused because of the state; Worthless checks: what a `wire` line leaves, whatever the bytes and words are: its NAME is
--- headed at its START and reads what its bytes read; or that is refused, and every word is 0. Free is only what heading and reading a node leave free
--- of any words, HeadLeaves and ReadLeaves
+-- headed at its START and reads what its bytes read; or that is refused, and every word is 0
 abbrev pub WireLeaves : Bool → Bytes → ℕ → List ℕ → Names → List ℕ → List ℕ → Type 0
 WireLeaves r x d kinds names g g′ = HeadThenReads r (wire-reads kinds names d x) g (nodes.Signal (wire-name x)) (wire-start x) g′
 
@@ -120,6 +120,20 @@ OutputsOrCleared false q os v x g g′ = OutputsRefused q os v x g × (g′ ≡ 
 
 -- 01, The edge; The walk; Refused because of the state; Worthless checks: what an `inst` line leaves, whatever the bytes and words are, v being handed
 -- over as the value of its index: every output in the summary s is headed, in the order of their last pairs, and reads what the line's bytes read for
--- it; or one of them is refused, and every word is 0. Free is only what heading and reading a node leave free of any words
+-- it; or one of them is refused, and every word is 0
 abbrev pub InstLeaves : Bool → Value → Summary → Bytes → ℕ → List ℕ → Names → List ℕ → List ℕ → Type 0
 InstLeaves r v s x d kinds names g g′ = OutputsOrCleared r (inst-reads kinds names s d x) (outputs-in s) v x g g′
+
+-- 01, Worthless checks: a `wire` line leaves nothing free: whatever the bytes and words are, there is only one such answer, and only one such list of
+-- words
+abbrev pub OneWire : Bytes → ℕ → List ℕ → Names → List ℕ → Type 0
+OneWire x d kinds names g = (r s : Bool) (g′ g″ : List ℕ) → WireLeaves r x d kinds names g g′ → WireLeaves s x d kinds names g g″ → (r ≡ s) × (g′ ≡ g″)
+
+-- 01, Worthless checks: and so of a `drive` line
+abbrev pub OneDrive : Bytes → ℕ → List ℕ → Names → List ℕ → Type 0
+OneDrive x d kinds names g = (r s : Bool) (g′ g″ : List ℕ) → DriveLeaves r x d kinds names g g′ → DriveLeaves s x d kinds names g g″ → (r ≡ s) × (g′ ≡ g″)
+
+-- 01, Worthless checks: and so of an `inst` line
+abbrev pub OneInst : Value → Summary → Bytes → ℕ → List ℕ → Names → List ℕ → Type 0
+OneInst v t x d kinds names g =
+    (r s : Bool) (g′ g″ : List ℕ) → InstLeaves r v t x d kinds names g g′ → InstLeaves s v t x d kinds names g g″ → (r ≡ s) × (g′ ≡ g″)

@@ -7,6 +7,7 @@ pub mod Leaving
 pub mod Keeping
 pub mod Limits
 pub mod Reaching
+pub mod Flooding
 pub mod Lifted
 pub mod Machine
 pub mod Sorting
@@ -16,3 +17,4 @@ pub mod Steps
 pub mod Falling
 pub mod Reports
 pub mod Resetting
+pub mod Searching

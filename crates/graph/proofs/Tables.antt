@@ -8,11 +8,11 @@ use native.Mathlib.Numerals.{add-one}
 use native.Mathlib.Nat.{add-assoc}
 use lib.ListN.{length, getD, set, length-set}
 use lib.Seq.{getD-set-same, getD-set-other}
-use lib.Dec.{eqb}
-use borrow.Author.Tests.{eqb-true, eqb-false, eq-eqb, ne-eqb}
+use lib.Dec.{eqb, ltb}
+use borrow.Author.Tests.{eqb-true, eqb-false, eq-eqb, ne-eqb, ltb-true, lt-ltb, le-ltb}
 use Rattle.spec.specs.DepthFirst.{among}
 use Rattle.spec.proofs.Numbers.{if-case}
-use Rattle.graph.specs.Table.{OnLinks, source, target, link, newest, edges-below, out, Linked, pushed}
+use Rattle.graph.specs.Table.{OnLinks, source, target, link, links-find, edge-there, newest, edges-below, out, Linked, pushed}
 
 -- a choice whose test is known
 pub pick-true : {A : Type 0} (b : Bool) (x y : A) → b ≡ true → elim b as (λ _. A) [ true ↦ x | false ↦ y ] ≡ x
@@ -257,3 +257,67 @@ module _ (g : List ℕ) (b s t : ℕ) where
 
     pub seek-lost : {y : ℕ} → y ≡ link g b (e - 1) → e ≤ y → (r : Bool) → Has r
     seek-lost w u r n l h = let k = links-less l s (e - 1) (at-edge n l h) in absurd (omega arith)
+
+-- the ways of `has_edge` for any words: what the links find is what they find from here on
+abbrev pub Following : List ℕ → ℕ → ℕ → ℕ → ℕ → Type 0
+Following g b s t e = edge-there g b s t ≡ links-find g b t e e
+
+module _ (g : List ℕ) (b t : ℕ) where
+  -- more steps than the place find no more
+  links-enough : (f h e : ℕ) → e ≤ f → e ≤ h → links-find g b t f e ≡ links-find g b t h e
+  unfolding links-find
+  links-enough zero zero e l m = refl
+  links-enough zero (suc h) zero l m = refl
+  links-enough zero (suc h) (suc k) l m = absurd (omega arith)
+  links-enough (suc f) zero zero l m = refl
+  links-enough (suc f) zero (suc k) l m = absurd (omega arith)
+  links-enough (suc f) (suc h) zero l m = refl
+  links-enough (suc f) (suc h) (suc k) l m = go (links-enough f h (link g b k)) (eqb (target g b k) t) (ltb (link g b k) (suc k)) refl
+    where
+      go : (link g b k ≤ f → link g b k ≤ h → links-find g b t f (link g b k) ≡ links-find g b t h (link g b k))
+          → (u v : Bool) → ltb (link g b k) (suc k) ≡ v
+          → _≡_ {A = Bool}
+          (elim u as (λ _. Bool) [ true ↦ true | false ↦ elim v as (λ _. Bool) [ true ↦ links-find g b t f (link g b k) | false ↦ false ] ])
+          (elim u as (λ _. Bool) [ true ↦ true | false ↦ elim v as (λ _. Bool) [ true ↦ links-find g b t h (link g b k) | false ↦ false ] ])
+      go i true v q = refl
+      go i false true q = let z = ltb-true (link g b k) (suc k) q in i (omega arith) (omega arith)
+      go i false false q = refl
+
+module _ (g : List ℕ) (b s t : ℕ) where
+  pub follow-start : {e : ℕ} → e ≡ getD g (b + s) 0 → Following g b s t e
+  unfolding edge-there
+  follow-start d = ap (λ z. links-find g b t z z) (sym d)
+
+  pub follow-end : {e : ℕ} → e ≤ 0 → Following g b s t e → false ≡ edge-there g b s t
+  unfolding links-find
+  follow-end {e} z f = sym (f ∙ ap (λ y. links-find g b t y y) (none e z))
+    where
+      none : (e : ℕ) → e ≤ 0 → e ≡ 0
+      none e z = omega arith
+
+  module _ {e : ℕ} (z : 0 < e) (f : Following g b s t e) where
+    follow-step : edge-there g b s t ≡ elim (eqb (target g b (e - 1)) t) as (λ _. Bool) [
+      | true ↦ true
+      | false ↦ elim (ltb (link g b (e - 1)) (suc (e - 1))) as (λ _. Bool) [ true ↦ links-find g b t (e - 1) (link g b (e - 1)) | false ↦ false ]
+    ]
+    unfolding links-find
+    follow-step = f ∙ ap (λ y. links-find g b t y y) (back′ e z)
+      where
+        back′ : (e : ℕ) → 0 < e → e ≡ suc (e - 1)
+        back′ e z = omega arith
+
+    pub follow-here : {x : ℕ} → x ≡ target g b (e - 1) → x ≡ t → true ≡ edge-there g b s t
+    follow-here d q = sym (follow-step ∙ pick-true (eqb (target g b (e - 1)) t) _ _ (eq-eqb (target g b (e - 1)) t (sym d ∙ q)))
+
+    module _ {x y : ℕ} (d : x ≡ target g b (e - 1)) (q : ¬ (x ≡ t)) (w : y ≡ link g b (e - 1)) where
+      follow-past : edge-there g b s t
+          ≡ elim (ltb (link g b (e - 1)) (suc (e - 1))) as (λ _. Bool) [ true ↦ links-find g b t (e - 1) (link g b (e - 1)) | false ↦ false ]
+      follow-past = follow-step ∙ pick-false (eqb (target g b (e - 1)) t) _ _ (ne-eqb (target g b (e - 1)) t (λ c. q (d ∙ c)))
+
+      pub follow-lost : e ≤ y → false ≡ edge-there g b s t
+      follow-lost u = sym (follow-past ∙ pick-false (ltb (link g b (e - 1)) (suc (e - 1))) _ _ (le-ltb (link g b (e - 1)) (suc (e - 1)) (omega (arith, w))))
+
+      pub follow-next : y < e → Following g b s t y
+      follow-next u =
+          follow-past ∙ pick-true (ltb (link g b (e - 1)) (suc (e - 1))) _ _ (lt-ltb (link g b (e - 1)) (suc (e - 1)) (omega (arith, w)))
+          ∙ links-enough g b t (e - 1) (link g b (e - 1)) (link g b (e - 1)) (omega (arith, w)) (omega arith) ∙ ap (λ v. links-find g b t v v) (sym w)

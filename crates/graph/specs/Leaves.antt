@@ -1,17 +1,18 @@
 -- What the functions give back and leave of any words, also of words that stand for no graph.
 -- 01: The edge; The walk; Refused because of the state; Worthless checks.
--- To a reader: definitions that contracts of this and other crates cite; each such contract is proved; check_drivers' own promise cites none of them.
+-- To a reader: definitions that contracts of this and other crates cite; each such contract is proved; OneHead and OneRead are statements, proved in
+-- proofs/Leaving (one-head, one-read); check_drivers' own promise cites none of them.
 use mathlib.Core.Path.{_≡_}
-use mathlib.Core.Bool.{true, false}
+use mathlib.Core.Bool.{Bool, true, false}
 use mathlib.Core.Logic.{_⊎_}
 use mathlib.Core.List.{List}
 use Prim.Native.Nat.{ℕ, suc, _+_, _<_, _≤_}
 use lib.ListN.{length, getD, set, replicate}
 use lib.Dec.{eqb, ltb}
 use Rattle.spec.specs.Edge.{Node, Head}
-use Rattle.graph.specs.Table.{node-of, count, edge-total, node-at, headed-at, pushed, stored}
+use Rattle.graph.specs.Table.{node-of, count, edge-total, node-at, headed-at, edge-there, pushed, stored, slot-of, number-in}
 use Rattle.graph.specs.Stands.{Stands}
-use Rattle.graph.specs.Reach.{words-below, Clean}
+use Rattle.graph.specs.Reach.{words-below, Clean, reach-inputs}
 use Rattle.graph.specs.Cycles.{Roomy, in-order, Pending, Awaits}
 use Rattle.graph.specs.declared.Added as A
 use Rattle.graph.specs.declared.Added.the-variants as added
@@ -29,22 +30,19 @@ pub record Keeps (places : ℕ → Type 0) (s s′ : List ℕ) : Type 0 where
 abbrev pub below : ℕ → ℕ → Type 0
 below b j = j < b
 
--- 01, The edge: where a node is looked for: the number of a node that is the same, or the count where none is. Which of several that are
--- the same is left free; a graph has each node once
-pub record Located (g : List ℕ) (n : Node) (r : ℕ) : Type 0 where
-  pub within : r ≤ count g
-  pub here : r < count g → node-at g r ≡ n
-  pub none : count g ≤ r → (i : ℕ) → i < count g → ¬ (node-at g i ≡ n)
-
 -- 01, The edge: one node more, with START 0 and not headed
 abbrev pub one-more : List ℕ → declared.Node → List ℕ
 one-more g (nodes.Signal n) = stored g 0 n 0 0
 one-more g (nodes.Output n o) = stored g 1 n 0 o
 one-more g (nodes.OutputAt n x o) = stored g 2 n x o
 
--- 01, The edge: the node n, which was looked for and has the number i: added where it is none of the nodes. The hint h, of 1,024, gets the number
-unfoldable pub with-node : List ℕ → declared.Node → ℕ → ℕ → List ℕ
-with-node g n i h = let g′ = set g (15874 + h) i in elim (ltb i (count g)) [ true ↦ g′ | false ↦ one-more g′ n ]
+-- 01, The edge: the node n is looked for: its hint gets its number
+unfoldable pub hinted : List ℕ → declared.Node → List ℕ
+hinted g n = set g (15874 + slot-of n) (number-in g n)
+
+-- 01, The edge: the node n is looked for, and added where it is none of the nodes
+unfoldable pub with-node : List ℕ → declared.Node → List ℕ
+with-node g n = elim (ltb (number-in g n) (count g)) [ true ↦ hinted g n | false ↦ one-more (hinted g n) n ]
 
 -- 01, The walk: the node i is headed: it has this START, unless it was headed before
 unfoldable pub with-head : List ℕ → ℕ → ℕ → List ℕ
@@ -56,7 +54,7 @@ with-edge g s t = set (pushed g 3074 (edge-total g) s t) 1 (edge-total g + 1)
 
 -- 01, The edge; Refused because of the state: the answer for the node n, whatever the words: its number, which is below 512 where it is new
 pub record Numbered (g : List ℕ) (n : declared.Node) (i : ℕ) : Type 0 where
-  pub located : Located g (node-of n) i
+  pub number : i ≡ number-in g n
   pub new : count g ≤ i → i < 512
 
 -- 01, Refused because of the state: the node n is one too many: there are 512 nodes or more, and it is none of them
@@ -66,26 +64,47 @@ pub record NoPlace (g : List ℕ) (n : declared.Node) : Type 0 where
 
 -- 01, The edge; Refused because of the state: what finding or adding the node n gives and leaves of any words
 abbrev pub Placed : A.Added → List ℕ → declared.Node → List ℕ → Type 0
-Placed (added.At i) g n g′ = Numbered g n i × ((h : ℕ) × (h < 1024) × (g′ ≡ with-node g n i h))
-Placed added.Full g n g′ = NoPlace g n × (length g′ ≡ length g)
+Placed (added.At i) g n g′ = Numbered g n i × (g′ ≡ with-node g n)
+Placed added.Full g n g′ = NoPlace g n × (g′ ≡ hinted g n)
 
--- 01, The edge; Refused because of the state; Worthless checks: what heading the node n gives and leaves of any words: every word but for
--- which hint is given; at a limit all are 0
+-- 01, The edge; Refused because of the state; Worthless checks: what heading the node n gives and leaves of any words: every word; at a limit all are 0
 abbrev pub HeadLeaves : A.Added → List ℕ → declared.Node → ℕ → List ℕ → Type 0
-HeadLeaves (added.At i) g n start g′ = Numbered g n i × ((h : ℕ) × (h < 1024) × (g′ ≡ with-head (with-node g n i h) i start))
+HeadLeaves (added.At i) g n start g′ = Numbered g n i × (g′ ≡ with-head (with-node g n) i start)
 HeadLeaves added.Full g n start g′ = NoPlace g n × (g′ ≡ replicate (length g) 0)
 
--- 01, The edge; Refused because of the state; Worthless checks: what a read of the node n gives and leaves of any words: every word but for
--- which hint and whether there is one edge more; at a limit all are 0. Whether the edge was there is left free where `from` heads no
--- line of a graph; else Read says it
-abbrev pub ReadLeaves : A.Added → List ℕ → ℕ → declared.Node → List ℕ → Type 0
-ReadLeaves (added.At i) g from n g′ =
-    Numbered g n i × ((h : ℕ) × (h < 1024) × ((g′ ≡ with-node g n i h) ⊎ ((edge-total g < 4096) × (g′ ≡ with-edge (with-node g n i h) from i))))
-ReadLeaves added.Full g from n g′ = (NoPlace g n ⊎ (4096 ≤ edge-total g)) × (g′ ≡ replicate (length g) 0)
+-- 01, The edge; Refused because of the state: what a read of the node i leaves, by whether its edge was there: the words as they were; or one edge
+-- more, of at most 4,096
+abbrev pub Edged : Bool → List ℕ → ℕ → ℕ → List ℕ → Type 0
+Edged true g from i g′ = g′ ≡ g
+Edged false g from i g′ = (edge-total g < 4096) × (g′ ≡ with-edge g from i)
 
--- 01, The edge; Worthless checks: what the search for inputs gives and leaves of any words: at most 512 names, and the first two words as
--- they were. The others are left free where g stands for no graph or a node is marked; else every word behind the 1,538 stays
-pub record ReachLeaves (g w w′ : List ℕ) (r : ℕ) : Type 0 where
+-- 01, Refused because of the state: the edge to the node i is one too many: it is not there, and there are 4,096 edges or more
+pub record NoEdge (g : List ℕ) (from i : ℕ) : Type 0 where
+  pub none : edge-there g 3074 from i ≡ false
+  pub many : 4096 ≤ edge-total g
+
+-- 01, Refused because of the state: a read of the node n is refused: the node is one too many, or it has its number and the edge is
+abbrev pub ReadFull : List ℕ → ℕ → declared.Node → Type 0
+ReadFull g from n = NoPlace g n ⊎ (Numbered g n (number-in g n) × NoEdge (with-node g n) from (number-in g n))
+
+-- 01, The edge; Refused because of the state; Worthless checks: what a read of the node n gives and leaves of any words: every word; at a limit all are
+-- 0. There is one edge more exactly where the links do not find it
+abbrev pub ReadLeaves : A.Added → List ℕ → ℕ → declared.Node → List ℕ → Type 0
+ReadLeaves (added.At i) g from n g′ = Numbered g n i × Edged (edge-there (with-node g n) 3074 from i) (with-node g n) from i g′
+ReadLeaves added.Full g from n g′ = ReadFull g from n × (g′ ≡ replicate (length g) 0)
+
+-- 01, Worthless checks: heading leaves nothing free: whatever the words, there is only one such answer, and only one such list of words
+abbrev pub OneHead : List ℕ → declared.Node → ℕ → Type 0
+OneHead g n start = (a b : A.Added) (g′ g″ : List ℕ) → HeadLeaves a g n start g′ → HeadLeaves b g n start g″ → (a ≡ b) × (g′ ≡ g″)
+
+-- 01, Worthless checks: and so of a read
+abbrev pub OneRead : List ℕ → ℕ → declared.Node → Type 0
+OneRead g from n = (a b : A.Added) (g′ g″ : List ℕ) → ReadLeaves a g from n g′ → ReadLeaves b g from n g″ → (a ≡ b) × (g′ ≡ g″)
+
+-- 01, The edge; Worthless checks: what the search for inputs gives and leaves of any words, as Reach.reach-inputs has it; and what follows: at most 512
+-- names, the first two words as they were, and every word behind the 1,538 where g stands for a graph and no node is marked
+pub record ReachLeaves (g kinds w : List ℕ) (o : ℕ) (w′ : List ℕ) (r : ℕ) : Type 0 where
+  pub all : (r, w′) ≡ reach-inputs g kinds o w
   pub few : r ≤ 512
   pub before : Keeps (below 2) w w′
   pub behind : (hs : List Head) → Stands g hs → Clean w → (j : ℕ) → 1538 ≤ j → getD w′ j 0 ≡ getD w j 0
@@ -111,19 +130,19 @@ pub record BeginLeaves (g w w′ : List ℕ) : Type 0 where
   pub prepared : count g ≤ 512 → edge-total g ≤ 4096 → Prepared g w w′
   pub behind : (hs : List Head) → Stands g hs → Roomy w → (j : ℕ) → 29190 ≤ j → getD w′ j 0 ≡ getD w j 0
 
--- 01, The walk; Worthless checks: what a step of the search leaves of any words; every word from 3589 on stays where the slice holds the state of
--- a search
+-- 01, The walk; Worthless checks: which words a step of the search keeps; every word from 3589 on only where the slice holds the state of a search.
+-- What it gives and what becomes of every word, of any words, Search.search-step says
 pub record StepLeaves (g w w′ : List ℕ) : Type 0 where
   pub before : Keeps (below 2050) w w′
   pub behind : (ps : List (List ℕ)) (m : ℕ) → Pending g w (suc m) ps → (j : ℕ) → 3589 ≤ j → getD w′ j 0 ≡ getD w j 0
 
--- 01, The walk: a report is a stretch that ends where the path ends, and leaves fewer steps. Where it begins is left free where w awaits no reports
+-- 01, The walk: a report is a stretch that ends where the path ends, and leaves fewer steps
 abbrev pub Stretch : C.Cycle → List ℕ → List ℕ → Type 0
 Stretch (cycles.Found p d) w w′ = (d ≡ getD w′ 3586 0) × (getD w′ 3588 0 < getD w 3588 0)
 Stretch cycles.Done w w′ = Unit {0}
 
--- 01, The walk; Worthless checks: what asking for the next report gives and leaves of any words: the words of `reach` and the order of the
--- nodes as they were. The words from 2050 on are left free where w awaits no reports; else every word from 3589 on stays
+-- 01, The walk; Worthless checks: which words asking for the next report keeps: the words of `reach` and the order of the nodes; every word from 3589
+-- on only where w awaits reports. What it gives and what becomes of every word, of any words, Search.next-report says
 pub record NextLeaves (r : C.Cycle) (g w w′ : List ℕ) : Type 0 where
   pub stretch : Stretch r w w′
   pub before : Keeps (below 2050) w w′

@@ -1,11 +1,11 @@
--- What a search for the inputs that an output reaches gives and leaves. 01: The edge; The walk.
+-- What a search for the inputs that an output reaches gives and leaves. 01: The edge; The walk; Refused because of the state; Worthless checks.
 -- To a reader: definitions that contracts of this and other crates cite; each such contract is proved; check_drivers' own promise cites none of them.
 use mathlib.Core.Path.{_≡_}
 use mathlib.Core.Bool.{Bool, true, false}
 use mathlib.Core.Logic.{_↔_, _⊎_}
 use mathlib.Core.List.{List, [], _∷_}
 use Prim.Native.Nat.{ℕ, zero, suc, _+_, _<_, _≤_}
-use lib.ListN.{length, getD}
+use lib.ListN.{length, getD, set}
 use lib.Dec.{eqb, ltb}
 use Rattle.spec.specs.Graph.{_∈_, Once}
 use Rattle.spec.specs.DepthFirst.{among}
@@ -14,7 +14,8 @@ use Rattle.spec.specs.Syntax.{Header}
 use Rattle.spec.specs.Site.{kind-of}
 use Rattle.spec.specs.Edge.{Head}
 use Rattle.spec.specs.Summary.{is-input, inputs-reached}
-use Rattle.graph.specs.Table.{target, Linked, edges-below, out}
+use Rattle.graph.specs.Table.{count, target, link, Linked, edges-below, out, number-in}
+use Rattle.graph.specs.declared.Node.the-variants as nodes
 
 -- 01, The edge; The walk: k words from b on, the last first
 unfoldable pub words-below : List ℕ → ℕ → ℕ → List ℕ
@@ -99,3 +100,62 @@ pub record Inputs (header : List Header) (heads : List Head) (o : ℕ) (w : List
   pub once : Once (found w r)
   pub names : (m : ℕ) → m ∈ found w r ↔ m ∈ inputs-reached header heads o
   pub count : r ≡ length (inputs-reached header heads o)
+
+-- 01, The edge; Refused because of the state: whatever the words, the edges from the place e on add their targets, each that is not marked, behind the k
+-- nodes reached; the place 0 ends it, a LINK that is not below its own place, and a node more than 512. With f steps left: how many are reached then
+unfoldable pub links-spread : List ℕ → ℕ → ℕ → ℕ → List ℕ → ℕ × List ℕ
+links-spread g zero e k w = (k, w)
+links-spread g (suc f) zero k w = (k, w)
+links-spread g (suc f) (suc i) k w =
+    let t = target g 3074 i in
+    elim (ltb (link g 3074 i) (suc i)) [
+      | true ↦ elim (eqb (getD w (2 + t) 0) 0) [
+        | true ↦ elim (ltb k 512) [ true ↦ links-spread g f (link g 3074 i) (k + 1) (set (set w (2 + t) 1) (514 + k) t) | false ↦ (k, w) ]
+        | false ↦ links-spread g f (link g 3074 i) k w
+      ]
+      | false ↦ (k, w)
+    ]
+
+-- 01, The edge: the edges of s add to the k nodes reached, whatever the words; a place is followed by a smaller one, so that the first is as many steps
+-- as are needed
+unfoldable pub node-spread : List ℕ → ℕ → ℕ → List ℕ → ℕ × List ℕ
+node-spread g s k w = links-spread g (getD g (3074 + s) 0) (getD g (3074 + s) 0) k w
+
+-- 01, The edge: whatever the words, the search goes on from the node at the place i of the k reached, and from those behind it, with f steps left: how
+-- many are reached then
+unfoldable pub flood-from : List ℕ → List ℕ → ℕ → ℕ → ℕ → List ℕ → ℕ × List ℕ
+flood-from g kinds zero i k w = (k, w)
+flood-from g kinds (suc f) i k w =
+    let s = getD w (514 + i) 0 in
+    elim (ltb i k) [
+      | true ↦ elim (stops g kinds s) [
+        | true ↦ flood-from g kinds f (i + 1) k w
+        | false ↦ flood-from g kinds f (i + 1) (node-spread g s k w .0) (node-spread g s k w .1)
+      ]
+      | false ↦ (k, w)
+    ]
+
+-- 01, The edge: f nodes reached, from the place i on, are unmarked, and the names of those at which the search stops stand behind the n names found,
+-- whatever the words: how many are found then
+unfoldable pub gather-from : List ℕ → List ℕ → ℕ → ℕ → ℕ → List ℕ → ℕ × List ℕ
+gather-from g kinds zero i n w = (n, w)
+gather-from g kinds (suc f) i n w =
+    let s = getD w (514 + i) 0 in
+    elim (stops g kinds s) [
+      | true ↦ gather-from g kinds f (i + 1) (n + 1) (set (set w (2 + s) 0) (1026 + n) (getD g (514 + s) 0))
+      | false ↦ gather-from g kinds f (i + 1) n (set w (2 + s) 0)
+    ]
+
+-- 01, The edge; Worthless checks: what the search from the node i gives and leaves of any words: it is marked and stands first, at most 512 nodes are
+-- reached, and the names of the inputs among them are gathered
+unfoldable pub reach-node : List ℕ → List ℕ → ℕ → List ℕ → ℕ × List ℕ
+reach-node g kinds i w = let flooded = flood-from g kinds 512 0 1 (set (set w (2 + i) 1) 514 i) in gather-from g kinds (flooded .0) 0 0 (flooded .1)
+
+-- 01, The edge; Worthless checks: what the search for the inputs of o gives and leaves of any words: an input reaches itself alone, a name that is no
+-- node nothing
+unfoldable pub reach-inputs : List ℕ → List ℕ → ℕ → List ℕ → ℕ × List ℕ
+reach-inputs g kinds o w =
+    elim (eqb (getD kinds o 0) 1) [
+      | true ↦ (1, set w 1026 o)
+      | false ↦ elim (ltb (number-in g (nodes.Signal o)) (count g)) [ true ↦ reach-node g kinds (number-in g (nodes.Signal o)) w | false ↦ (0, w) ]
+    ]

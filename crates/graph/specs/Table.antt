@@ -2,14 +2,14 @@
 -- 01: The value; The edge; The walk; Refused because of the state.
 -- To a reader: definitions that contracts of this and other crates cite; each such contract is proved; check_drivers' own promise cites none of them.
 use mathlib.Core.Path.{_≡_}
-use mathlib.Core.Bool.{true, false}
+use mathlib.Core.Bool.{Bool, true, false, _&&_}
 use mathlib.Core.List.{List, [], _∷_}
 use mathlib.Core.Option.{some, none}
-use Prim.Native.Nat.{ℕ, zero, suc, _+_, _-_, _<_, _≤_}
+use Prim.Native.Nat.{ℕ, zero, suc, _+_, _-_, _*_, _%_, _<_, _≤_}
 use lib.ListN.{length, getD, set}
 use lib.Dec.{eqb, ltb}
 use lib.IntN.{ℤ, pos, negsuc}
-use Rattle.spec.specs.Edge.{Node, signal, inst-out}
+use Rattle.spec.specs.Edge.{Node, signal, inst-out, same-node}
 use Rattle.graph.specs.declared.Node as declared
 use Rattle.graph.specs.declared.Node.the-variants as nodes
 
@@ -71,6 +71,22 @@ target g b k = getD g (b + 4608 + k) 0
 abbrev pub link : List ℕ → ℕ → ℕ → ℕ
 link g b k = getD g (b + 8704 + k) 0
 
+-- 01, The edge: what following the links from the place e finds, whatever the words, with f steps left: is t the target of an edge on the way?
+-- The place 0 ends it, and so does a LINK that is not below its own place
+unfoldable pub links-find : List ℕ → ℕ → ℕ → ℕ → ℕ → Bool
+links-find g b t zero e = false
+links-find g b t (suc f) zero = false
+links-find g b t (suc f) (suc k) =
+    elim (eqb (target g b k) t) [
+      | true ↦ true
+      | false ↦ elim (ltb (link g b k) (suc k)) [ true ↦ links-find g b t f (link g b k) | false ↦ false ]
+    ]
+
+-- 01, The edge: is there an edge from s to t in the table at b, as far as the links of s say it? A place is followed by a smaller one, so that the
+-- first place is as many steps as are needed
+unfoldable pub edge-there : List ℕ → ℕ → ℕ → ℕ → Bool
+edge-there g b s t = links-find g b t (getD g (b + s) 0) (getD g (b + s) 0)
+
 -- 01, The edge: 1 more than the number of the newest edge of s below k, or 0
 unfoldable pub newest : List ℕ → ℕ → ℕ → ℕ → ℕ
 newest g b s zero = 0
@@ -110,6 +126,30 @@ pub record Found (g : List ℕ) (n : Node) (r : ℕ) : Type 0 where
   pub within : r ≤ count g
   pub before : (i : ℕ) → i < r → ¬ (node-at g i ≡ n)
   pub here : r < count g → node-at g r ≡ n
+
+-- 01, The edge: words behind a graph's own, at 15874: 1,024 hints, each the number that a node of that place had when it was last looked for. A hint
+-- may be any number, and is only believed where that node is the same.
+
+-- 01, The edge: the place of a node's hint, of 1,024
+abbrev pub slot-of : declared.Node → ℕ
+slot-of (nodes.Signal a) = a % 1024
+slot-of (nodes.Output a o) = (a % 1024 * 1021 + o % 1024 * 329 + 600) % 1024
+slot-of (nodes.OutputAt a x o) = (a % 1024 * 1021 + o % 1024 * 329 + x % 1024 * 641 + 600) % 1024
+
+-- 01, The edge: the hint of a node, 0 where the slice is too short for it
+abbrev pub hint : List ℕ → declared.Node → ℕ
+hint g n = getD g (15874 + slot-of n) 0
+
+-- 01, The edge: the first of the k nodes from i on that is n, or the number behind them where none is
+unfoldable pub first-from : List ℕ → Node → ℕ → ℕ → ℕ
+first-from g n zero i = i
+first-from g n (suc k) i = elim (same-node (node-at g i) n) [ true ↦ i | false ↦ first-from g n k (suc i) ]
+
+-- 01, The edge: the number of the node n, whatever the words: its hint, where that is the number of a node and that node is n; else the first node that is
+-- n, or the count where none is. A graph has each node once
+unfoldable pub number-in : List ℕ → declared.Node → ℕ
+number-in g n =
+    elim (ltb (hint g n) (count g) && same-node (node-at g (hint g n)) (node-of n)) [ true ↦ hint g n | false ↦ first-from g (node-of n) (count g) 0 ]
 
 -- 01, The walk: the place e in the links of s: 0, or 1 more than the number of an edge of s; it is at most n
 pub record OnLinks (g : List ℕ) (b s n e : ℕ) : Type 0 where

@@ -9,12 +9,12 @@ use native.Mathlib.Numerals.{add-one}
 use lib.Dec.{T, eqb, ltb, leb, leb→le, ltb→lt}
 use lib.ListN.{length, getD, set, length-set}
 use lib.Seq.{sets, length-sets, getD-set-same, getD-set-other, ext-getD}
-use borrow.Author.Tests.{eq-eqb, ne-eqb, eqb-true, eqb-false, lt-ltb, le-ltb}
+use borrow.Author.Tests.{eq-eqb, ne-eqb, eqb-true, eqb-false, lt-ltb, le-ltb, ltb-true, ltb-false}
 use Rattle.spec.specs.Refusal.{has-name}
 use Rattle.spec.specs.Site.{Site, Conflict, Misused, conflict-before, insert-conflict, with-conflict, conflicts, conflict-names, misused-names, first-conflict, sites-of}
-use Rattle.sites.specs.Own.{Table, run, row, rows-in, items, own-of, row-names, with-conflicts, skip-at, conflict-table, conflict-from, site-table, pair-table, port-table, reg-table, mem-table, misuse-table, site-from, pair-from, port-from, storage-from, misused-from, poisoned-names, Front, conflict-rows, conflict-row, conflict-of, pushed, site-row, misuse-poison, conflict-step, entry-names, places}
+use Rattle.sites.specs.Own.{Table, run, row, rows-in, items, own-of, row-names, with-conflicts, skip-at, conflict-table, conflict-from, site-table, pair-table, port-table, reg-table, mem-table, misuse-table, site-from, pair-from, port-from, storage-from, misused-from, poisoned-names, Front, Behind, conflict-rows, conflict-row, conflict-of, conflict-numbers, conflicts-stored, conflicts-found, stored-row, pushed, site-row, misuse-poison, conflict-step, entry-names, places}
 use Rattle.sites.proofs.Added.{conflict-shape}
-use Rattle.sites.proofs.Rows.{run-ext, run-snoc, run-step, run-end, row-end, rows-limit, same-own, names-items, has-here, has-later, row-sets-above, row-sets-before, row-sets-same, row-length, row-at, run-length, pushed-items, grown-room, push-room, getD-sets-below}
+use Rattle.sites.proofs.Rows.{run-ext, run-snoc, run-step, run-end, row-end, rows-limit, same-own, names-items, has-here, has-later, row-sets-above, row-sets-before, row-sets-same, row-length, row-at, run-length, more-count, pushed-items, grown-room, push-room, getD-sets-below}
 
 -- which of two goes first
 module _ (c d : Conflict) where
@@ -316,3 +316,140 @@ final-rows a b p n k e z =
     ap (λ (j : ℕ). conflicts (skip-at (misuse-poison b) (site-row b) j) (items site-from site-table b) (run (site-row b) j (n - j))) z
     ∙ ap (λ (j : ℕ). conflicts (misuse-poison b) (items site-from site-table b) (run (site-row b) 0 j)) y
     ∙ (λ i. conflicts (poison i) (every i) (every i))
+
+-- the numbers behind the rows of the conflicts
+pub behind-same : (own : List ℕ) → rows-in conflict-table own < 1024 → Behind own own
+unfolding rows-in
+behind-same own h = record { count = omega arith; at = λ j p. refl }
+
+pub behind-start : (own : List ℕ) → 6 < length own → Behind (set own 6 0) (set own 6 0)
+unfolding rows-in
+behind-start own h = behind-same (set own 6 0) (omega (arith, getD-set-same own 6 0 0 h))
+
+pub behind-then : {a b c : List ℕ} (n : ℕ) → ((j : ℕ) → conflict-table .base + 2 * n ≤ j → getD b j 0 ≡ getD a j 0) → n ≤ rows-in conflict-table c → Behind b c → Behind a c
+behind-then n p h q = record { count = q .count; at = λ j g. q .at j g ∙ p j (omega arith) }
+
+pub getD-sets-past : (own : List ℕ) (j i : ℕ) (vs : List ℕ) → i + length vs ≤ j → getD (sets own i vs) j 0 ≡ getD own j 0
+getD-sets-past own j i [] h = refl
+getD-sets-past own j i (v ∷ vs) h = getD-sets-past (set own i v) j (suc i) vs (omega arith) ∙ getD-set-other own i j v 0 (λ e. omega arith)
+
+getD-sets-within : (own : List ℕ) (i : ℕ) (vs : List ℕ) (m : ℕ) → m < length vs → i + length vs ≤ length own → getD (sets own i vs) (i + m) 0 ≡ getD vs m 0
+getD-sets-within own i [] m h g = absurd (omega arith)
+getD-sets-within own i (v ∷ vs) zero h g =
+    let z : i + 0 ≡ i = omega arith in
+    ap (λ (k : ℕ). getD (sets (set own i v) (suc i) vs) k 0) z ∙ getD-sets-below (set own i v) i (suc i) vs (omega arith) ∙ getD-set-same own i v 0 (omega arith)
+getD-sets-within own i (v ∷ vs) (suc m) h g =
+    let z : i + suc m ≡ suc i + m = omega arith in
+    ap (λ (k : ℕ). getD (sets (set own i v) (suc i) vs) k 0) z ∙ getD-sets-within (set own i v) (suc i) vs m (omega arith) (omega (arith, length-set own i v))
+
+module _ (own vs : List ℕ) (len : length own ≡ places) (w : length vs ≡ 2) (r : rows-in conflict-table own < 1024) where
+  pub pushed-more : rows-in conflict-table (pushed conflict-table own vs) ≡ suc (rows-in conflict-table own)
+  pushed-more =
+      let sh = conflict-shape own len in
+      ap (rows-in conflict-table) (push-room conflict-table own vs r) ∙ more-count conflict-from conflict-table own (rows-in conflict-table own) vs refl r (sh .before) (sh .inside) w
+
+  pub pushed-behind : Behind own (pushed conflict-table own vs)
+  pushed-behind =
+      let n : ℕ = rows-in conflict-table own in
+      let at : ℕ = conflict-table .base + 2 * n in
+      let sh = conflict-shape own len in
+      let more = more-count conflict-from conflict-table own n vs refl r (sh .before) (sh .inside) w in
+      let word : getD (stored-row conflict-table own n vs) 6 0 ≡ n + 1 = getD-set-same (sets own at vs) 6 (n + 1) 0 (omega (arith, length-sets own at vs)) in
+      rw (push-room conflict-table own vs r)
+      (record {
+        count = omega (arith, word, more);
+        at = λ j h. getD-set-other (sets own at vs) 6 j (n + 1) 0 (λ e. omega arith) ∙ getD-sets-past own j at vs (omega (arith, more, w));
+      })
+
+-- a step takes no conflict away
+with-more : (n : ℕ) (o : Option ℕ) (l : List Conflict) → length l ≤ length (with-conflict n o l)
+with-more n none l = omega arith
+with-more n (some x) l = omega (arith, insert-length (record { start = x; name = n }) l)
+
+step-more : (own : List ℕ) (k : ℕ) (cs : List Conflict) → length cs ≤ length (conflict-step own k cs)
+unfolding conflict-step
+step-more own k cs = go (has-name (site-row own k .name) (skip-at (misuse-poison own) (site-row own) k)) refl
+  where
+    go : (t : Bool) → has-name (site-row own k .name) (skip-at (misuse-poison own) (site-row own) k) ≡ t → length cs ≤ length (conflict-step own k cs)
+    go true e = rw (e, conflict-step) (omega arith)
+    go false e = rw (e, conflict-step) (with-more (site-row own k .name) (first-conflict [] (sites-of (site-row own k .name) (items site-from site-table own))) cs)
+
+pub rows-more : (own own′ : List ℕ) (k : ℕ) → conflict-rows own′ ≡ conflict-step own k (conflict-rows own) → rows-in conflict-table own ≤ rows-in conflict-table own′
+rows-more own own′ k e =
+    let a = run-length (conflict-row own) 0 (rows-in conflict-table own) in
+    let b = run-length (conflict-row own′) 0 (rows-in conflict-table own′) in
+    omega (arith, a, b, ap length e, step-more own k (conflict-rows own))
+
+pub behind-count : (own : List ℕ) (v j n : ℕ) → conflict-table .base + 2 * n ≤ j → getD (set own 6 v) j 0 ≡ getD own j 0
+behind-count own v j n h = getD-set-other own 6 j v 0 (λ e. omega arith)
+
+-- conflicts as numbers
+numbers-length : (cs : List Conflict) → length (conflict-numbers cs) ≡ 2 * length cs
+unfolding conflict-numbers
+numbers-length [] = refl
+numbers-length (c ∷ cs) = omega (arith, numbers-length cs)
+
+numbers-at : (own : List ℕ) (i n m : ℕ) → m < 2 * n → getD (conflict-numbers (run (conflict-row own) i n)) m 0 ≡ getD own (conflict-table .base + 2 * i + m) 0
+unfolding conflict-numbers run
+numbers-at own i zero m h = absurd (omega arith)
+numbers-at own i (suc n) zero h = row-at conflict-table own i 0 (omega arith)
+numbers-at own i (suc n) (suc zero) h = row-at conflict-table own i 1 (omega arith)
+numbers-at own i (suc n) (suc (suc m)) h =
+    let z : conflict-table .base + 2 * suc i + m ≡ conflict-table .base + 2 * i + suc (suc m) = omega arith in
+    numbers-at own (suc i) n m (omega arith) ∙ ap (λ (k : ℕ). getD own k 0) z
+
+-- where the rows are these, the count is theirs and every other number is as it was, nothing is left open
+module _ (a b : List ℕ) (cs : List Conflict) (len : length a ≡ places) (p : Front a b) (q : Behind a b) (e : conflict-rows b ≡ cs) where
+  abbrev rows : List ℕ
+  rows = sets a (conflict-table .base) (conflict-numbers cs)
+
+  many : rows-in conflict-table b ≡ length cs
+  many = sym (run-length (conflict-row b) 0 (rows-in conflict-table b)) ∙ ap length e
+
+  word : (j : ℕ) → getD b j 0 ≡ getD (set rows 6 (length cs)) j 0
+  word j = here (eqb j 6) refl
+    where
+      k : ℕ
+      k = conflict-table .base + 2 * length cs
+
+      few : length cs ≤ 1024
+      few = omega (arith, many, rows-limit conflict-table b)
+
+      other : ¬ (j ≡ 6) → (t u : Bool) → ltb j (conflict-table .base) ≡ t → ltb j k ≡ u → getD b j 0 ≡ getD rows j 0
+      other d true u x y = p .at j (ltb-true j (conflict-table .base) x) d ∙ sym (getD-sets-below a j (conflict-table .base) (conflict-numbers cs) (ltb-true j (conflict-table .base) x))
+      other d false true x y =
+          let l = ltb-false j (conflict-table .base) x in
+          let m = ltb-true j k y in
+          let i : ℕ = j - conflict-table .base in
+          let z : conflict-table .base + i ≡ j = omega arith in
+          let z′ : conflict-table .base + 2 * 0 + i ≡ j = omega arith in
+          sym (ap (λ (x : ℕ). getD rows x 0) (sym z)
+          ∙ getD-sets-within a (conflict-table .base) (conflict-numbers cs) i (omega (arith, numbers-length cs)) (omega (arith, numbers-length cs, few, len))
+          ∙ ap (λ (l : List Conflict). getD (conflict-numbers l) i 0) (sym e)
+          ∙ numbers-at b 0 (rows-in conflict-table b) i (omega (arith, many))
+          ∙ ap (λ (x : ℕ). getD b x 0) z′)
+      other d false false x y =
+          let m = ltb-false j k y in
+          q .at j (omega (arith, many)) ∙ sym (getD-sets-past a j (conflict-table .base) (conflict-numbers cs) (omega (arith, numbers-length cs)))
+
+      here : (t : Bool) → eqb j 6 ≡ t → getD b j 0 ≡ getD (set rows 6 (length cs)) j 0
+      here true x =
+          let z = eqb-true j 6 x in
+          ap (λ (i : ℕ). getD b i 0) z ∙ q .count ∙ many
+          ∙ sym (ap (λ (i : ℕ). getD (set rows 6 (length cs)) i 0) z ∙ getD-set-same rows 6 (length cs) 0 (omega (arith, length-sets a (conflict-table .base) (conflict-numbers cs), len)))
+      here false x =
+          let d = eqb-false j 6 x in
+          other d (ltb j (conflict-table .base)) (ltb j k) refl refl ∙ sym (getD-set-other rows 6 j (length cs) 0 d)
+
+  pub stored-are : b ≡ conflicts-stored a cs
+  unfolding conflicts-stored
+  stored-are =
+      ext-getD 0 b (set rows 6 (length cs)) (p .size ∙ sym (length-set rows 6 (length cs) ∙ length-sets a (conflict-table .base) (conflict-numbers cs))) (λ j h. word j)
+
+  pub found-are : cs ≡ conflicts (misuse-poison a) (own-of a .sites) (own-of a .sites) → b ≡ conflicts-found a
+  unfolding conflicts-found
+  found-are x = stored-are ∙ ap (conflicts-stored a) x ∙ sym (rw (eq-eqb (length a) places len, conflicts-found))
+
+pub found-none : (own : List ℕ) → ¬ (length own ≡ places) → own ≡ conflicts-found own
+unfolding conflicts-found
+found-none own h = sym (rw (ne-eqb (length own) places h, conflicts-found))

@@ -7,15 +7,15 @@ use native.Mathlib.Nat.{not-suc-le-zero, le-of-suc-le-suc}
 use lib.Dec.{T}
 use lib.ListN.{length, set}
 use Rattle.sites.specs.declared.Stored.the-variants as stored
-use Rattle.sites.specs.Run.{stored-by}
+use Rattle.sites.specs.Run.{StoredBy}
 
-pub done : (t : Bool) → T t → stored.Done ≡ stored-by t
-done true _ = refl
+pub done : (t : Bool) → T t → StoredBy t stored.Done
+done true _ = (refl, refl)
 done false z = absurd z
 
-pub full : (t : Bool) → T (not t) → stored.Full ≡ stored-by t
+pub full : (t : Bool) → T (not t) → StoredBy t stored.Full
 full true z = absurd z
-full false _ = refl
+full false _ = (refl, refl)
 
 -- past the end nothing changes
 pub set-past : {A : Type 0} (l : List A) (i : ℕ) (a : A) → length l ≤ i → l ≡ set l i a

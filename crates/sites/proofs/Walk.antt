@@ -56,7 +56,7 @@ use Rattle.sites.proofs.Stored.Laws as S′
 use Rattle.sites.proofs.Found as F
 use Rattle.sites.proofs.Found.Laws as F′
 use Rattle.sites.specs.declared.records.Record.{Record}
-use Rattle.sites.specs.Run.{sites-in, record-of, stored-by, NameConflict}
+use Rattle.sites.specs.Run.{sites-in, record-of, StoredBy, NameConflict}
 use Rattle.sites.proofs.Search.{blank, Sought}
 use Rattle.sites.proofs.Row.{array, past, array-typed, parted, joined, laid, freed}
 use Rattle.sites.proofs.Fill.{Filling, begun, more, further, last-fits, count-fits, more-fits, part-length, part-fits, part-room, all-fits, all-room, finished}
@@ -128,7 +128,7 @@ module _ {M : Type 1} (𝓤 : URA M) (H : Heap 𝓤) (A : Atoms 𝓤) (W : Given
         move ! (1 ∷ 0 ∷ []) $ join ! $ frame ! $ done !
 
     abbrev Said : Lasts storing.ended (0 ∷ [], tt) (x 0, (k, (s, tt))) → Stored → Type 0
-    Said ws r = (ws .0 ≡ set ys k (record-of s)) × (sites-in (ws .0) ≡ set (sites-in ys) k (site-of s)) × (r ≡ stored-by (ltb k (length ys)))
+    Said ws r = (ws .0 ≡ set ys k (record-of s)) × (sites-in (ws .0) ≡ set (sites-in ys) k (site-of s)) × StoredBy (ltb k (length ys)) r
 
     stores : {Γ : List (Item 𝓤)} {E : Env 𝓤 H} {xs : List Operand} {d : Place} {rest : Body} {p : Post′ 𝓤 H}
         → ((α : ℕ) (γ : GName) → Opds (Go {0}) W (raw (Store 𝓤 H A mem run .pre (to-store α γ)) ∷ ‵ (flent (α ∷ []) (Held T.the-row (length ys) b 0 γ)) ∷ Γ) E xs (slice ∷ vint w64 k ∷ mach s ∷ []))

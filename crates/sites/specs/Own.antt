@@ -394,6 +394,11 @@ pub record Front (old new : List ℕ) : Type 0 where
   pub size : length new ≡ length old
   pub at : (j : ℕ) → j < conflict-table .base → ¬ (j ≡ conflict-table .count) → getD new j 0 ≡ getD old j 0
 
+-- 01, The site: the numbers behind the rows of the conflicts stay: the count is at most 1,024, and every number behind as many rows is as it was
+pub record Behind (old new : List ℕ) : Type 0 where
+  pub count : getD new (conflict-table .count) 0 ≡ rows-in conflict-table new
+  pub at : (j : ℕ) → conflict-table .base + 2 * rows-in conflict-table new ≤ j → getD new j 0 ≡ getD old j 0
+
 -- 01, The site: the conflicts of a run of numbers
 abbrev pub conflict-rows : List ℕ → List Conflict
 conflict-rows own = items conflict-from conflict-table own
@@ -405,6 +410,24 @@ site-row own i = site-from (row site-table own i)
 -- 01, The site: the names of the misuses of a run of numbers
 abbrev pub misuse-poison : List ℕ → List ℕ
 misuse-poison own = misused-names (items misused-from misuse-table own)
+
+-- 01, The site: conflicts as the numbers of their rows, one row behind the other: name, START, as conflict-from reads them
+unfoldable pub conflict-numbers : List Conflict → List ℕ
+conflict-numbers [] = []
+conflict-numbers (c ∷ cs) = c .name ∷ c .start ∷ conflict-numbers cs
+
+-- 01, The site: these conflicts from the first row of their table on, and their count; every other number stays
+unfoldable pub conflicts-stored : List ℕ → List Conflict → List ℕ
+conflicts-stored own cs = set (sets own (conflict-table .base) (conflict-numbers cs)) (conflict-table .count) (length cs)
+
+-- 01, The site: what the numbers become: the conflicts of the names that are not misused stand in their table; every other number stays. A
+-- run of numbers of another length has no tables, and stays
+unfoldable pub conflicts-found : List ℕ → List ℕ
+conflicts-found own =
+    elim (eqb (length own) places) [
+      | true ↦ conflicts-stored own (site.conflicts (misuse-poison own) (own-of own .sites) (own-of own .sites))
+      | false ↦ own
+    ]
 
 -- 01, The site: what the site in row k adds to the conflicts of the sites behind it: that of its name, if there is one and neither a
 -- row before nor a misuse has the name

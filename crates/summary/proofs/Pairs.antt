@@ -248,7 +248,7 @@ below-length w b (suc n) = ap suc (below-length w b n)
 -- ---- the summary is kept
 
 pub leaves-zero : (r : Bool) (s : Bytes) (kinds g k : List ℕ) (m : ℕ) (k′ : List ℕ) → r ≡ false → Leaves r s kinds g k m k′ → Cleared k′
-leaves-zero r s kinds g k m k′ e h = let t : Leaves false s kinds g k m k′ = rw e at h in cleared-of (length k) k′ (t .4)
+leaves-zero r s kinds g k m k′ e h = let t : Leaves false s kinds g k m k′ = rw e at h in cleared-of (length k) k′ (t .1)
 
 -- `keep`
 pub kept-one : (k : List ℕ) (m start count : ℕ) {k₁ k₂ k₃ : List ℕ} → k₁ ≡ set k (32 + m) start → k₂ ≡ set k₁ (64 + m) count → k₃ ≡ set k₂ m 2 → k₃ ≡ recorded k m start count

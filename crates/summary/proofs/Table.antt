@@ -14,11 +14,12 @@ use borrow.Author.Tests.{eqb-true, eqb-false, eq-eqb, ne-eqb}
 use Rattle.spec.specs.Refusal.{has-name}
 use Rattle.spec.specs.Edge.{Summary}
 use Rattle.spec.specs.Summary.{Kept, kept-summary, triples}
-use Rattle.graph.specs.Cycles.{Zeroed}
+use Rattle.graph.specs.Cycles.{Zeroed, zeroed}
 use Rattle.graph.proofs.Sorting.{zeroed-none, zeroed-more}
+use Rattle.graph.proofs.Resetting.{zeroed-zeroed, zeroed-is}
 use Rattle.edges.specs.Lines.{summary-at}
 use Rattle.walk.specs.Alike.{Alike}
-use Rattle.summary.specs.Keeps.{state-word, start-of, count-of, total-of, kept-places, first-of, pairs-of, state-by, state-of, StateIs, Keeps, Says, Reset}
+use Rattle.summary.specs.Keeps.{state-word, start-of, count-of, total-of, kept-places, first-of, pairs-of, state-by, state-of, StateIs, Keeps, Says, emptied}
 use Rattle.summary.specs.declared.State.the-variants as states
 
 -- ---- words
@@ -131,20 +132,22 @@ pub zeroed-next : (k₀ k : List ℕ) (i : ℕ) → Zeroed 0 i k₀ k → {k′ 
 zeroed-next k₀ k i Z q = zeroed-more Z (q ∙ ap (λ (j : ℕ). set k j 0) (omega arith))
 
 -- all of them, and then the number of all pairs
-pub emptied : (k w : List ℕ) (i : ℕ) → i ≤ 32 → 32 ≤ i → Zeroed 0 i k w → {k′ : List ℕ} → k′ ≡ set w 96 0 → Reset k k′
-emptied k w i l g Z q = let e : i ≡ 32 = omega arith in (w, rw e at Z, zeroed-more (zeroed-none 96 w) q)
+pub emptied-is : (k w : List ℕ) (i : ℕ) → i ≤ 32 → 32 ≤ i → Zeroed 0 i k w → {k′ : List ℕ} → k′ ≡ set w 96 0 → k′ ≡ emptied k
+emptied-is k w i l g Z q = let e : i ≡ 32 = omega arith in q ∙ ap (λ (x : List ℕ). set x 96 0) (zeroed-is 0 32 (rw e at Z))
 
 -- then no summary is kept
-pub none-kept : (k k′ : List ℕ) → Reset k k′ → kept-places ≤ length k → Keeps k′ [] []
+pub none-kept : (k k′ : List ℕ) → k′ ≡ emptied k → kept-places ≤ length k → Keeps k′ [] []
 unfolding kept-summary has-name triples
-none-kept k k′ E z =
-    let a = E .1 .size in
-    let b = E .2 .size in
+none-kept k k′ q z =
+    let a = zeroed-zeroed 0 32 k in
+    let b : Zeroed 96 1 (zeroed 0 32 k) k′ = zeroed-more (zeroed-none 96 (zeroed 0 32 k)) q in
+    let s = a .size in
+    let t = b .size in
     record {
       sized = omega arith;
       each = λ n l.
-          let e : state-word k′ n ≡ 0 = E .2 .others n (inl (omega arith)) ∙ ap (λ (j : ℕ). getD (E .0) j 0) (omega arith) ∙ E .1 .zeros n l in
+          let e : state-word k′ n ≡ 0 = b .others n (inl (omega arith)) ∙ ap (λ (j : ℕ). getD (zeroed 0 32 k) j 0) (omega arith) ∙ a .zeros n l in
           rw e (refl, refl);
-      total = E .2 .zeros 0 (omega arith);
+      total = b .zeros 0 (omega arith);
       few = omega arith;
     }

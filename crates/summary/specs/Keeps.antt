@@ -12,7 +12,7 @@ use Rattle.spec.specs.Syntax.{Module}
 use Rattle.spec.specs.Refusal.{has-name}
 use Rattle.spec.specs.Edge.{Head, Summary}
 use Rattle.spec.specs.Summary.{Kept, kept-summary, triples, triple-limit, module-summary}
-use Rattle.graph.specs.Cycles.{Zeroed}
+use Rattle.graph.specs.Cycles.{zeroed}
 use Rattle.edges.specs.Lines.{summary-at}
 use Rattle.walk.specs.Alike.{Alike}
 use Rattle.summary.specs.declared.State as S
@@ -82,8 +82,8 @@ pub record Keeps (k : List ℕ) (kept : Kept) (busy : List ℕ) : Type 0 where
   pub few : triples kept ≤ triple-limit
 
 -- 01, The edge: before the first summary is asked for: the states and then the number of all pairs are 0, and every other word stays
-abbrev pub Reset : List ℕ → List ℕ → Type 0
-Reset k k′ = (w : List ℕ) × Zeroed 0 32 k w × Zeroed 96 1 w k′
+abbrev pub emptied : List ℕ → List ℕ
+emptied k = set (zeroed 0 32 k) 96 0
 
 -- 01, The edge: module m is kept, with so many pairs from that number on
 unfoldable pub recorded : List ℕ → ℕ → ℕ → ℕ → List ℕ

@@ -17,7 +17,7 @@ use Rattle.spec.specs.Summary.{triple-limit, inputs-reached, paired}
 use Rattle.lines.specs.Parts.{piece, next-end}
 use Rattle.runs.specs.Run.{form-length}
 use Rattle.graph.specs.Stands.{Stands}
-use Rattle.graph.specs.Reach.{Clean}
+use Rattle.graph.specs.Reach.{Clean, found, reach-inputs}
 use Rattle.edges.specs.Lines.{summary-at}
 use Rattle.edges.specs.Reads.{KindsOf}
 use Rattle.summary.specs.Keeps.{total-of, kept-places, recorded}
@@ -48,17 +48,29 @@ pub record Reaching (header : List Header) (heads : List Head) (o : ℕ) (is : L
   pub found : (i : ℕ) → i ∈ is → i ∈ inputs-reached header heads o
   pub all : (i : ℕ) → i ∈ inputs-reached header heads o → i ∈ is
 
--- 01, The edge; Worthless checks: what adding the output o to any words k gives and leaves: its pairs with at most 512 names are written. The names are
--- those of the inputs that o reaches, in some order, and no node is marked in the work slice w′ then. Which names these are is free only where the
--- kinds or the graph stand for nothing, or the work slice w is too short or has a mark
+-- 01, The edge; Worthless checks: the pairs of the output o, whatever the words: with each name that the search for its inputs finds (Reach.reach-inputs,
+-- at most 512), the last first; w is the work slice before the search
+unfoldable pub output-pairs : (kinds g : List ℕ) → ℕ → List ℕ → Summary
+output-pairs kinds g o w = let search = reach-inputs g kinds o w in paired o (found (search .1) (search .0))
+
+-- 01, The edge; Worthless checks: the pairs of these outputs, in their order, whatever the words: each search begins with the work slice that the one
+-- before leaves
+unfoldable pub outputs-pairs : (kinds g : List ℕ) → List ℕ → List ℕ → Summary
+outputs-pairs kinds g [] w = []
+outputs-pairs kinds g (o ∷ os) w = output-pairs kinds g o w ++ outputs-pairs kinds g os (reach-inputs g kinds o w .1)
+
+-- 01, The edge; Worthless checks: what adding the output o to any words k gives and leaves: its pairs are written, and w′ is the work slice that the
+-- search leaves. There are at most 512 names; where the kinds and the graph stand for something, and the work slice w has room and no mark, they are
+-- those of the inputs that o reaches, in some order, and no node is marked in w′
 abbrev pub OutputLeaves : Bool → (kinds g w w′ k : List ℕ) → ℕ → List ℕ → Type 0
 OutputLeaves r kinds g w w′ k o k′ =
-    (is : List ℕ) × (length is ≤ 512)
+    (w′ ≡ reach-inputs g kinds o w .1) × (pairs-written (output-pairs kinds g o w) k ≡ (r, k′))
+    × ((is : List ℕ) × (length is ≤ 512)
     × ((header : List Header) (heads : List Head) → KindsOf kinds header → Stands g heads → Clean w → Reaching header heads o is × Clean w′)
-    × (pairs-written (paired o is) k ≡ (r, k′))
+    × (output-pairs kinds g o w ≡ paired o is))
 
 -- 01, The edge; Worthless checks: ps are the pairs of these outputs, in their order, each with at most 512 names: those of the inputs that it reaches,
--- in some order. Which names these are is free only where the kinds or the graph stand for nothing
+-- in some order, where the kinds and the graph stand for something
 abbrev pub PairsOf : (kinds g : List ℕ) → List ℕ → Summary → Type 0
 PairsOf kinds g [] ps = ps ≡ []
 PairsOf kinds g (o ∷ os) ps =
@@ -105,17 +117,20 @@ first-names seen (n ∷ l) = elim (has-name n seen) [ true ↦ first-names seen 
 unfoldable pub outputs-of : Bytes → List ℕ
 outputs-of s = first-names [] (port-names (forms-from (length s) s 0))
 
+-- 01, The edge; Worthless checks: the pairs of the outputs of a run in any bytes: the first search begins with 1,538 words that are 0
+unfoldable pub run-pairs : Bytes → (kinds g : List ℕ) → Summary
+run-pairs s kinds g = outputs-pairs kinds g (outputs-of s) (replicate 1538 0)
+
 -- 01, Worthless checks; Refused because of the state: what making the summary of module m leaves, whatever the run s and the words k stand for: the
--- pairs of the run's outputs are written, and module m is kept with just these; or the pairs of the first of them, some or all, find 1,024 or more
--- counted, and then every place is 0. So with no output the answer is true. Which names these are is free only where the kinds or the graph stand for
--- nothing, at most 512 for each output then too.
+-- pairs of the run's outputs are written, and module m is kept with just these; or one of them finds 1,024 or more counted, and then every place is
+-- 0. So with no output the answer is true. Nothing is free. Besides, `PairsOf` holds of the pairs of all outputs, or of the first of them that are too many
 abbrev pub Leaves : Bool → Bytes → (kinds g k : List ℕ) → ℕ → List ℕ → Type 0
 Leaves true s kinds g k m k′ =
-    (ps : Summary) × (w : List ℕ) × PairsOf kinds g (outputs-of s) ps × (pairs-written ps k ≡ (true, w))
-    × (k′ ≡ recorded w m (total-of k) (total-of w - total-of k))
+    let written = pairs-written (run-pairs s kinds g) k in
+    (written .0 ≡ true) × (k′ ≡ recorded (written .1) m (total-of k) (total-of (written .1) - total-of k)) × PairsOf kinds g (outputs-of s) (run-pairs s kinds g)
 Leaves false s kinds g k m k′ =
-    (ps : Summary) × (w : List ℕ) × ((os later : List ℕ) × (outputs-of s ≡ os ++ later) × PairsOf kinds g os ps) × (pairs-written ps k ≡ (false, w))
-    × (k′ ≡ replicate (length k) 0)
+    (pairs-written (run-pairs s kinds g) k .0 ≡ false) × (k′ ≡ replicate (length k) 0)
+    × ((ps : Summary) × (w : List ℕ) × ((os later : List ℕ) × (outputs-of s ≡ os ++ later) × PairsOf kinds g os ps) × (pairs-written ps k ≡ (false, w)))
 
 -- 01, The edge; Refused because of the state: the pairs qs are added behind ps, or there are too many
 abbrev pub Added : Bool → List ℕ → List ℕ → Summary → Summary → Type 0

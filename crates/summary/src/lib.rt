@@ -15,7 +15,7 @@ ghost use Rattle.runs.specs.Run.{ShowsItem, RunOf};
 ghost use Rattle.graph.specs.Stands.{Stands};
 ghost use Rattle.graph.specs.Reach.{Clean, found};
 ghost use Rattle.edges.specs.Reads.{KindsOf};
-ghost use Rattle.summary.specs.Keeps.{state-of, first-of, count-of, Keeps, recorded, Made, Reset};
+ghost use Rattle.summary.specs.Keeps.{state-of, first-of, count-of, Keeps, recorded, Made, emptied};
 ghost use Rattle.summary.specs.Pairs.{Grown, Added, OutputAdded, PortIs, pairs-written, OutputLeaves, port-of, Leaves};
 
 // A module that no line asked for yet, one that is being summarised, one whose summary is kept.
@@ -100,7 +100,7 @@ pub fn begin(k: &mut [u32], m: u32)
 
 // No summary is kept, and no module is in progress.
 pub fn reset(k: &mut [u32])
-    ensures { λ _. ⌜ Reset (now (k .entry)) (now (k .exit)) ⌝ }
+    ensures { λ _. ⌜ now (k .exit) ≡ emptied (now (k .entry)) ⌝ }
 {
     let mut i: usize = 0;
     while i < MODULES {

@@ -7,7 +7,7 @@ use mathlib.Core.Option.{none, some}
 use Rattle.spec.specs.Refusal.{has-name}
 use Rattle.spec.specs.Site as site
 use Rattle.sites.specs.Own.{conflict-of, conflict-rows, misuse-poison, skip-at, site-row, found-of}
-use Rattle.sites.proofs.Conflicts.{front-same, step-seen, step-new}
+use Rattle.sites.proofs.Conflicts.{front-same, behind-same, step-seen, step-new}
 use Rattle.sites.proofs.Fill.{alone}
 use borrow.Author.Needs.{needs}
 use Rattle.sites.proofs.take_conflict.Statement.{statement}
@@ -23,7 +23,7 @@ same-length : tie.Need-same-length
 same-length c = search needs
 
 returns : tie.Need-returns
-returns c = (front-same (c .before .before .before .before .before .before .args .own .now), step-seen (c .before .before .before .before .before .before .args .own .now) (c .before .before .before .before .before .before .args .k) (conflict-rows (c .before .before .before .before .before .before .args .own .now)) (ap (λ (t : site.Site). has-name (t .name) (skip-at (misuse-poison (c .before .before .before .before .before .before .args .own .now)) (site-row (c .before .before .before .before .before .before .args .own .now)) (c .before .before .before .before .before .before .args .k))) (sym (c .before .before .before .site-at .ensures)) ∙ sym (c .before .seen-before .ensures) ∙ c .if1 .taken))
+returns c = (front-same (c .before .before .before .before .before .before .args .own .now), step-seen (c .before .before .before .before .before .before .args .own .now) (c .before .before .before .before .before .before .args .k) (conflict-rows (c .before .before .before .before .before .before .args .own .now)) (ap (λ (t : site.Site). has-name (t .name) (skip-at (misuse-poison (c .before .before .before .before .before .before .args .own .now)) (site-row (c .before .before .before .before .before .before .args .own .now)) (c .before .before .before .before .before .before .args .k))) (sym (c .before .before .before .site-at .ensures)) ∙ sym (c .before .seen-before .ensures) ∙ c .if1 .taken), behind-same (c .before .before .before .before .before .before .args .own .now) (c .before .before .before .before .before .before .pre .2))
 
 add-next-site : tie.Need-add-next-site
 add-next-site c = search needs
@@ -35,7 +35,7 @@ same-length-2 : tie.Need-same-length-2
 same-length-2 c = search needs
 
 returns-2 : tie.Need-returns-2
-returns-2 c = (front-same (c .before .before .before .before .before .before .before .before .before .args .own .now), alone (c .before .before .before .before .before .before .site-at .result .name) (c .before .before .before .before .before .before .before .before .before .args .own .now) (c .before .before .before .before .before .before .before .before .before .args .k) (c .before .next-site .result) (conflict-rows (c .before .before .before .before .before .before .before .before .before .args .own .now)) (ap (λ (t : site.Site). t .name) (c .before .before .before .before .before .before .site-at .ensures)) (sym (c .before .before .before .before .seen-before .ensures) ∙ c .before .before .before .if1 .left) (c .before .next-site .ensures) (omega (arith, c .if2 .taken)) (c .before .before .before .before .before .before .before .before .before .pre .0))
+returns-2 c = (front-same (c .before .before .before .before .before .before .before .before .before .args .own .now), alone (c .before .before .before .before .before .before .site-at .result .name) (c .before .before .before .before .before .before .before .before .before .args .own .now) (c .before .before .before .before .before .before .before .before .before .args .k) (c .before .next-site .result) (conflict-rows (c .before .before .before .before .before .before .before .before .before .args .own .now)) (ap (λ (t : site.Site). t .name) (c .before .before .before .before .before .before .site-at .ensures)) (sym (c .before .before .before .before .seen-before .ensures) ∙ c .before .before .before .if1 .left) (c .before .next-site .ensures) (omega (arith, c .if2 .taken)) (c .before .before .before .before .before .before .before .before .before .pre .0), behind-same (c .before .before .before .before .before .before .before .before .before .args .own .now) (c .before .before .before .before .before .before .before .before .before .pre .2))
 
 first-conflict-requires : tie.Need-first-conflict-requires
 first-conflict-requires c κs = search needs
@@ -55,6 +55,7 @@ returns-3 c = (
   c .before .before .insert-conflict .ensures .0,
   c .before .before .insert-conflict .ensures .1 ∙ ap (λ (t : site.Site). site.insert-conflict (conflict-of (c .before .before .before .before .before .start .given .0 .0) (t .name)) (conflict-rows (c .before .before .before .before .before .before .before .before .before .before .before .before .before .before .before .before .before .before .args .own .now))) (c .before .before .before .before .before .before .before .before .before .before .before .before .before .before .before .site-at .ensures)
       ∙ step-new (c .before .before .before .before .before .before .before .before .before .before .before .before .before .before .before .before .before .before .args .own .now) (c .before .before .before .before .before .before .before .before .before .before .before .before .before .before .before .before .before .before .args .k) (conflict-rows (c .before .before .before .before .before .before .before .before .before .before .before .before .before .before .before .before .before .before .args .own .now)) (some (c .before .before .before .before .before .start .given .0 .0)) (ap (λ (t : site.Site). has-name (t .name) (skip-at (misuse-poison (c .before .before .before .before .before .before .before .before .before .before .before .before .before .before .before .before .before .before .args .own .now)) (site-row (c .before .before .before .before .before .before .before .before .before .before .before .before .before .before .before .before .before .before .args .own .now)) (c .before .before .before .before .before .before .before .before .before .before .before .before .before .before .before .before .before .before .args .k))) (sym (c .before .before .before .before .before .before .before .before .before .before .before .before .before .before .before .site-at .ensures)) ∙ sym (c .before .before .before .before .before .before .before .before .before .before .before .before .before .seen-before .ensures) ∙ c .before .before .before .before .before .before .before .before .before .before .before .before .if1 .left) (ap found-of (sym (c .before .before .before .before .before .start .given .1)) ∙ c .before .before .before .before .before .before .before .first-conflict .ensures ∙ ap (λ (t : site.Site). site.first-conflict [] (site.sites-of (t .name) (own-of (c .before .before .before .before .before .before .before .before .before .before .before .before .before .before .before .before .before .before .args .own .now) .sites))) (c .before .before .before .before .before .before .before .before .before .before .before .before .before .before .before .site-at .ensures)),
+  c .before .before .insert-conflict .ensures .2,
 )
 
 enum-told : tie.Need-enum-told
@@ -65,7 +66,7 @@ same-length-4 c = search needs
 
 returns-4 : tie.Need-returns-4
 unfolding own-of
-returns-4 c = (front-same (c .before .before .before .before .before .before .before .before .before .before .before .before .before .args .own .now), step-new (c .before .before .before .before .before .before .before .before .before .before .before .before .before .args .own .now) (c .before .before .before .before .before .before .before .before .before .before .before .before .before .args .k) (conflict-rows (c .before .before .before .before .before .before .before .before .before .before .before .before .before .args .own .now)) none (ap (λ (t : site.Site). has-name (t .name) (skip-at (misuse-poison (c .before .before .before .before .before .before .before .before .before .before .before .before .before .args .own .now)) (site-row (c .before .before .before .before .before .before .before .before .before .before .before .before .before .args .own .now)) (c .before .before .before .before .before .before .before .before .before .before .before .before .before .args .k))) (sym (c .before .before .before .before .before .before .before .before .before .before .site-at .ensures)) ∙ sym (c .before .before .before .before .before .before .before .before .seen-before .ensures) ∙ c .before .before .before .before .before .before .before .if1 .left) (ap found-of (sym (c .enum-told .given .1)) ∙ c .before .before .first-conflict .ensures ∙ ap (λ (t : site.Site). site.first-conflict [] (site.sites-of (t .name) (own-of (c .before .before .before .before .before .before .before .before .before .before .before .before .before .args .own .now) .sites))) (c .before .before .before .before .before .before .before .before .before .before .site-at .ensures)))
+returns-4 c = (front-same (c .before .before .before .before .before .before .before .before .before .before .before .before .before .args .own .now), step-new (c .before .before .before .before .before .before .before .before .before .before .before .before .before .args .own .now) (c .before .before .before .before .before .before .before .before .before .before .before .before .before .args .k) (conflict-rows (c .before .before .before .before .before .before .before .before .before .before .before .before .before .args .own .now)) none (ap (λ (t : site.Site). has-name (t .name) (skip-at (misuse-poison (c .before .before .before .before .before .before .before .before .before .before .before .before .before .args .own .now)) (site-row (c .before .before .before .before .before .before .before .before .before .before .before .before .before .args .own .now)) (c .before .before .before .before .before .before .before .before .before .before .before .before .before .args .k))) (sym (c .before .before .before .before .before .before .before .before .before .before .site-at .ensures)) ∙ sym (c .before .before .before .before .before .before .before .before .seen-before .ensures) ∙ c .before .before .before .before .before .before .before .if1 .left) (ap found-of (sym (c .enum-told .given .1)) ∙ c .before .before .first-conflict .ensures ∙ ap (λ (t : site.Site). site.first-conflict [] (site.sites-of (t .name) (own-of (c .before .before .before .before .before .before .before .before .before .before .before .before .before .args .own .now) .sites))) (c .before .before .before .before .before .before .before .before .before .before .site-at .ensures)), behind-same (c .before .before .before .before .before .before .before .before .before .before .before .before .before .args .own .now) (c .before .before .before .before .before .before .before .before .before .before .before .before .before .pre .2))
 
 pub take-conflict-spec : {M : Type 1} → statement M
 take-conflict-spec =

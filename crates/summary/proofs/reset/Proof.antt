@@ -5,7 +5,7 @@ use mathlib.Core.Path.{_∙_}
 use Prim.Native.Nat.{_≤_, _-_}
 use Rattle.graph.specs.Cycles.{Zeroed}
 use Rattle.graph.proofs.Sorting.{zeroed-none}
-use Rattle.summary.proofs.Table.{zeroed-next, emptied}
+use Rattle.summary.proofs.Table.{zeroed-next, emptied-is}
 use Rattle.summary.proofs.reset.Statement.{statement}
 use Rattle.summary.proofs.reset.Tie as tie
 
@@ -37,7 +37,7 @@ same-length : tie.Need-same-length Inv-loop μ-loop
 same-length c = c .before .before .put2 .kept .0 ∙ c .before .before .before .before .before .loop .inv .1 .size
 
 returns : tie.Need-returns Inv-loop μ-loop
-returns c = emptied (c .before .before .before .before .before .before .before .args .k .now) (c .before .before .before .before .before .loop .k) (c .before .before .before .before .before .loop .i) (c .before .before .before .before .before .loop .inv .0) (c .before .before .before .before .loop-test .left) (c .before .before .before .before .before .loop .inv .1) (c .before .before .put2 .ensures)
+returns c = emptied-is (c .before .before .before .before .before .before .before .args .k .now) (c .before .before .before .before .before .loop .k) (c .before .before .before .before .before .loop .i) (c .before .before .before .before .before .loop .inv .0) (c .before .before .before .before .loop-test .left) (c .before .before .before .before .before .loop .inv .1) (c .before .before .put2 .ensures)
 
 pub reset-spec : {M : Type 1} → statement M
 reset-spec =

@@ -94,7 +94,7 @@ loop-less-3 : tie.Need-loop-less-3 Inv-loop μ-loop
 loop-less-3 c = omega (arith, end-after (c .before .before .before .before .before .before .before .before .before .before .before .before .before .before .before .before .before .before .before .before .before .before .args .s .now) (c .before .before .before .before .before .before .before .before .before .before .before .before .before .before .before .loop .from) (c .before .before .before .before .before .before .before .before .before .before .before .before .before .before .loop-test .taken) (c .before .before .before .before .before .before .before .before .before .before .before .before .before .form-end .ensures) .0, c .before .before .before .before .before .before .before .before .before .before .before .before .before .before .loop-test .taken)
 
 loop-again-3 : tie.Need-loop-again-3 Inv-loop μ-loop
-loop-again-3 c = (end-after (c .before .before .before .before .before .before .before .before .before .before .before .before .before .before .before .before .before .before .before .before .before .before .args .s .now) (c .before .before .before .before .before .before .before .before .before .before .before .before .before .before .before .loop .from) (c .before .before .before .before .before .before .before .before .before .before .before .before .before .before .loop-test .taken) (c .before .before .before .before .before .before .before .before .before .before .before .before .before .form-end .ensures) .1, written-then (c .before .before .before .before .before .before .before .before .before .before .before .before .before .before .before .loop .inv .1) (written-of _ (c .before .before .before .before .add-output .ensures .1 .3)), simp length-set (c .before .before .before .before .before .before .before .before .before .before .before .before .before .before .before .loop .inv .2), c .before .before .before .before .add-output .kept .1 .1 .0 ∙ c .before .before .before .before .before .before .before .before .before .before .before .before .before .before .before .loop .inv .3, λ d M heads kept busy r h st ks. let q = c .before .before .before .before .before .before .before .before .before .before .before .before .before .before .before .loop .inv .4 d M heads kept busy r h st ks in going-new q (c .before .before .before .before .before .before .before .before .before .before .before .before .before .before .loop-test .taken) (c .before .before .before .before .before .before .before .before .before .before .before .before .before .form-end .ensures) (c .before .before .before .before .before .before .before .before .before .before .before .before .between .ensures) (c .before .before .before .before .before .before .before .before .before .before .before .port-of .result) (c .before .before .before .before .before .before .before .before .before .before .before .port-of .ensures .0) (c .before .before .before .before .before .before .before .before .before .o .given .1) (out-name _ (c .before .before .before .before .before .before .before .before .before .before .before .port-of .result) (c .before .before .before .before .before .before .before .before .before .o .given .1) (c .before .before .before .before .before .before .before .before .before .before .before .port-of .ensures .1)) (c .before .before .before .before .before .before .before .if1 .left) (c .before .before .before .before .before .before .before .before .before .before .before .before .before .before .before .loop .inv .2) refl (not-false (c .before .before .before .before .add-output .result) (c .if2 .left)) (c .before .before .before .before .add-output .ensures .0 (M .header) heads h st (q .clean) (c .before .before .before .before .before .before .before .before .before .before .before .before .before .before .before .before .before .before .before .before .before .before .args .k .now) (reach-by (q .f) (q .done)) (q .grown)), turning-new (c .before .before .before .before .before .before .before .before .before .before .before .before .before .before .before .loop .inv .5) (c .before .before .before .before .before .before .before .before .before .before .before .before .before .before .loop-test .taken) (c .before .before .before .before .before .before .before .before .before .before .before .before .before .form-end .ensures) (c .before .before .before .before .before .before .before .before .before .before .before .before .between .ensures) (c .before .before .before .before .before .before .before .before .before .before .before .port-of .result) (c .before .before .before .before .before .before .before .before .before .before .before .port-of .ensures .1) (c .before .before .before .before .before .before .before .before .before .o .given .1) (out-name _ (c .before .before .before .before .before .before .before .before .before .before .before .port-of .result) (c .before .before .before .before .before .before .before .before .before .o .given .1) (c .before .before .before .before .before .before .before .before .before .before .before .port-of .ensures .1)) (c .before .before .before .before .before .before .before .if1 .left) (c .before .before .before .before .before .before .before .before .before .before .before .before .before .before .before .loop .inv .2) refl (not-false (c .before .before .before .before .add-output .result) (c .if2 .left)) (c .before .before .before .before .add-output .ensures .1))
+loop-again-3 c = (end-after (c .before .before .before .before .before .before .before .before .before .before .before .before .before .before .before .before .before .before .before .before .before .before .args .s .now) (c .before .before .before .before .before .before .before .before .before .before .before .before .before .before .before .loop .from) (c .before .before .before .before .before .before .before .before .before .before .before .before .before .before .loop-test .taken) (c .before .before .before .before .before .before .before .before .before .before .before .before .before .form-end .ensures) .1, written-then (c .before .before .before .before .before .before .before .before .before .before .before .before .before .before .before .loop .inv .1) (written-of _ (c .before .before .before .before .add-output .ensures .1 .1)), simp length-set (c .before .before .before .before .before .before .before .before .before .before .before .before .before .before .before .loop .inv .2), c .before .before .before .before .add-output .kept .1 .1 .0 ∙ c .before .before .before .before .before .before .before .before .before .before .before .before .before .before .before .loop .inv .3, λ d M heads kept busy r h st ks. let q = c .before .before .before .before .before .before .before .before .before .before .before .before .before .before .before .loop .inv .4 d M heads kept busy r h st ks in going-new q (c .before .before .before .before .before .before .before .before .before .before .before .before .before .before .loop-test .taken) (c .before .before .before .before .before .before .before .before .before .before .before .before .before .form-end .ensures) (c .before .before .before .before .before .before .before .before .before .before .before .before .between .ensures) (c .before .before .before .before .before .before .before .before .before .before .before .port-of .result) (c .before .before .before .before .before .before .before .before .before .before .before .port-of .ensures .0) (c .before .before .before .before .before .before .before .before .before .o .given .1) (out-name _ (c .before .before .before .before .before .before .before .before .before .before .before .port-of .result) (c .before .before .before .before .before .before .before .before .before .o .given .1) (c .before .before .before .before .before .before .before .before .before .before .before .port-of .ensures .1)) (c .before .before .before .before .before .before .before .if1 .left) (c .before .before .before .before .before .before .before .before .before .before .before .before .before .before .before .loop .inv .2) refl (not-false (c .before .before .before .before .add-output .result) (c .if2 .left)) (c .before .before .before .before .add-output .ensures .0 (M .header) heads h st (q .clean) (c .before .before .before .before .before .before .before .before .before .before .before .before .before .before .before .before .before .before .before .before .before .before .args .k .now) (reach-by (q .f) (q .done)) (q .grown)), turning-new (c .before .before .before .before .before .before .before .before .before .before .before .before .before .before .before .loop .inv .5) (c .before .before .before .before .before .before .before .before .before .before .before .before .before .before .loop-test .taken) (c .before .before .before .before .before .before .before .before .before .before .before .before .before .form-end .ensures) (c .before .before .before .before .before .before .before .before .before .before .before .before .between .ensures) (c .before .before .before .before .before .before .before .before .before .before .before .port-of .result) (c .before .before .before .before .before .before .before .before .before .before .before .port-of .ensures .1) (c .before .before .before .before .before .before .before .before .before .o .given .1) (out-name _ (c .before .before .before .before .before .before .before .before .before .before .before .port-of .result) (c .before .before .before .before .before .before .before .before .before .o .given .1) (c .before .before .before .before .before .before .before .before .before .before .before .port-of .ensures .1)) (c .before .before .before .before .before .before .before .if1 .left) (c .before .before .before .before .before .before .before .before .before .before .before .before .before .before .before .loop .inv .2) refl (not-false (c .before .before .before .before .add-output .result) (c .if2 .left)) (c .before .before .before .before .add-output .ensures .1))
 
 at-requires-2 : tie.Need-at-requires-2 Inv-loop μ-loop
 at-requires-2 c κs = search needs

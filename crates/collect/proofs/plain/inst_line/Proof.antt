@@ -7,6 +7,7 @@ use Rattle.spec.proofs.Cleared.{cleared-of, false-cleared}
 use Rattle.edges.specs.Lines.{summary-at}
 use Rattle.collect.proofs.PlainLaws.{outputs-said}
 use Rattle.edges.proofs.LeaveLaws.{inst-cleared}
+use Rattle.collect.proofs.Leaving.{inst-left}
 use borrow.Author.Needs.{needs}
 use Rattle.collect.proofs.plain.inst_line.Statement.{statement}
 use Rattle.collect.proofs.plain.inst_line.Tie as tie
@@ -21,7 +22,7 @@ same-length-2 : tie.Need-same-length-2
 same-length-2 c = search needs
 
 returns : tie.Need-returns
-returns c = (outputs-said (c .before .before .before .before .before .before .before .before .before .before .before .args .x .now) (c .before .before .before .before .before .before .before .before .before .before .before .args .depth) (c .before .before .before .before .before .before .before .before .before .before .before .args .ks .now) (names-of (c .before .before .before .before .before .before .before .before .before .before .before .args .names .now) (c .before .before .before .before .before .before .before .before .before .before .before .args .used)) (c .before .before .before .before .before .before .before .before .before .before .before .args .g .now) (worth (c .before .before .before .before .before .before .before .before .before .before .before .args .index)) (summary-at (c .before .before .before .before .before .before .before .before .before .before .before .args .k .now) (c .before .before .before .before .before .before .before .before .before .before .before .args .first) (c .before .before .before .before .before .before .before .before .before .before .before .args .count)) (c .before .before .before .inst-heads .result) true _ (c .if1 .taken) (c .before .before .before .inst-heads .ensures .1 .0), refl)
+returns c = (outputs-said (c .before .before .before .before .before .before .before .before .before .before .before .args .x .now) (c .before .before .before .before .before .before .before .before .before .before .before .args .depth) (c .before .before .before .before .before .before .before .before .before .before .before .args .ks .now) (names-of (c .before .before .before .before .before .before .before .before .before .before .before .args .names .now) (c .before .before .before .before .before .before .before .before .before .before .before .args .used)) (c .before .before .before .before .before .before .before .before .before .before .before .args .g .now) (worth (c .before .before .before .before .before .before .before .before .before .before .before .args .index)) (summary-at (c .before .before .before .before .before .before .before .before .before .before .before .args .k .now) (c .before .before .before .before .before .before .before .before .before .before .before .args .first) (c .before .before .before .before .before .before .before .before .before .before .before .args .count)) (c .before .before .before .inst-heads .result) true _ (c .if1 .taken) (c .before .before .before .inst-heads .ensures .1 .0), (inst-left (c .before .before .before .before .before .before .before .before .before .before .before .args .x .now) (c .before .before .before .before .before .before .before .before .before .before .before .args .depth) (c .before .before .before .before .before .before .before .before .before .before .before .args .ks .now) (names-of (c .before .before .before .before .before .before .before .before .before .before .before .args .names .now) (c .before .before .before .before .before .before .before .before .before .before .before .args .used)) (c .before .before .before .before .before .before .before .before .before .before .before .args .g .now) _ (worth (c .before .before .before .before .before .before .before .before .before .before .before .args .index)) (summary-at (c .before .before .before .before .before .before .before .before .before .before .before .args .k .now) (c .before .before .before .before .before .before .before .before .before .before .before .args .first) (c .before .before .before .before .before .before .before .before .before .before .before .args .count)) (c .before .before .before .inst-heads .result) (c .if1 .taken) (c .before .before .before .inst-heads .ensures .0), refl))
 
 clear-requires : tie.Need-clear-requires
 clear-requires c κs = search needs

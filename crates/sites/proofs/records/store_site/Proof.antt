@@ -53,7 +53,7 @@ use Rattle.sites.proofs.Site.Laws as Z′
 use Rattle.sites.proofs.Stored as S
 use Rattle.sites.proofs.Stored.Laws as S′
 use Rattle.sites.specs.declared.records.Record.{Record}
-use Rattle.sites.specs.Run.{sites-in, record-of, stored-by}
+use Rattle.sites.specs.Run.{sites-in, record-of, StoredBy}
 use Rattle.sites.proofs.Search.{blank, stands, sites-set}
 use Rattle.sites.proofs.Store as law
 use Rattle.sites.proofs.Row.{vals, tells, place-fits}
@@ -107,7 +107,7 @@ module _ {M : Type 1} (𝓤 : URA M) (H : Heap 𝓤) (A : Atoms 𝓤) (W : Given
   abbrev Post : Val → SProp 𝓤
   Post = walkOf 𝓤 H A store-site.ended stayed (store-site.clauses 𝓤 H A mem run) .post (((κ, tt), (q, tt), tt, a, at), tt)
 
-  exits : (zs : List Record) (t : Stored) → length zs ≡ length ys → zs ≡ set ys i (record-of s) → t ≡ stored-by (ltb i (length ys))
+  exits : (zs : List Record) (t : Stored) → length zs ≡ length ys → zs ≡ set ys i (record-of s) → StoredBy (ltb i (length ys)) t
       → ent 𝓤 (⋆ 𝓤 H A (‵ (fobs γ (codedHoleys T.the-row .code (heres T.the-row zs))) ∷ ‵ (fbor κ (Held T.the-row (length zs) b o γ)) ∷ ‵ (flft κ q) ∷ [])) (Post (answer t))
   exits zs t same is said =
       let stored = ap sites-in is ∙ sites-set ys i (record-of s) ∙ ap (set (sites-in ys) i) (stands s) in
