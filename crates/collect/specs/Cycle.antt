@@ -167,7 +167,8 @@ KnownOf s x k = (s ≡ []) ⊎ (s ≡ pairs-of k (inst-module x))
 -- 01, The edge; The walk; Worthless checks: the graph g and the summaries k become g′ and k′ by heads added as lines add them and by summaries made, one
 -- after the other. An `inst` line has the index that its bytes give. A summary is made so: the word of module m says that it is in progress; a graph of
 -- its own, of 16,898 words that are 0, gets heads in the same way; then the pairs of the outputs of a run are kept by that graph. Every other word
--- stays. Free is which of the modules is summarised, of which an `inst` line knows nothing, and which bytes are read, with which kinds and names.
+-- stays. Free is which bytes are read, with which kinds, names and depth; of which module an `inst` line knows nothing; which module is summarised, which
+-- may be any number, and its state before; and an index outside INT counts as none here.
 pub data HeadsAdded : (g k g′ k′ : List ℕ) → Type 0 where
   none : {g k : List ℕ} → HeadsAdded g k g k
   wire : {g k g₁ k₁ g₂ : List ℕ} (x : Bytes) (d : ℕ) (kinds : List ℕ) (names : Names) → HeadsAdded g k g₁ k₁ → WireLeaves true x d kinds names g₁ g₂ → HeadsAdded g k g₂ k₁

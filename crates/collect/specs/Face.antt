@@ -77,7 +77,8 @@ Walkable number text count = by-number number ((length text ≤ 32768) × (count
 -- and where the number is 20 each place of it is 0. Where it is 0 the counts of the own tables are made 0, and then rows are added to them, as lines
 -- add them; the graph is emptied, and then heads are added to it and summaries made, as lines do it. Where `ModuleGiven` does not hold, free are:
 -- whether the number is 20, but for what `NamesAfter` and `Walkable` say; the rounds left, 4,096 at most; which lines these are, that is their bytes,
--- kinds and names; which modules are summarised or not known. Where it holds, `Collects` says these. The words behind the names in use are always free.
+-- kinds, names, depth, place in the text and whether the module is bound; which modules are summarised or not known, by any number. Where it holds,
+-- `Collects` says these. The words behind the names in use are always free.
 pub record LentAfter (r : Collected) (text mods : List ℕ) (count m : ℕ) (names own g k names′ own′ g′ k′ : List ℕ) : Type 0 where
   pub sizes : (length names′ ≡ length names) × (length own′ ≡ length own) × (length g′ ≡ length g) × (length k′ ≡ length k)
   pub named : NamesAfter r text mods m names names′

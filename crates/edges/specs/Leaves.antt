@@ -1,7 +1,7 @@
 -- What heading and reading leave of any words, also where the bytes show no line and the words stand for no graph.
 -- 01: The line; The site; The edge; The walk; Refused because of the state; Worthless checks.
--- To a reader: definitions that the contracts of this crate cite; each such contract is proved; OneWire, OneDrive and OneInst are statements, proved in
--- proofs/OneLaws (one-wire, one-drive, one-inst); check_drivers' own promise cites none of them.
+-- To a reader: definitions that contracts of this and other crates cite; each such contract is proved; OneWire, OneDrive and OneInst are statements,
+-- proved in proofs/OneLaws (one-wire, one-drive, one-inst); check_drivers' own promise cites none of them.
 use mathlib.Core.Path.{_≡_}
 use mathlib.Core.Bool.{Bool, true, false}
 use mathlib.Core.Logic.{_⊎_}
@@ -32,7 +32,7 @@ FullAmong from (n ∷ ns) g =
     ((m : declared.Node) × (node-of m ≡ n) × ReadFull g from m)
     ⊎ ((m : declared.Node) × (node-of m ≡ n) × (i : ℕ) × (g₁ : List ℕ) × ReadLeaves (added.At i) g from m g₁ × FullAmong from ns g₁)
 
--- 01, Refused because of the state: reading q is refused: an index is outside INT, or one of the nodes is one too many
+-- 01, Refused because of the state: reading q is refused: an index is outside INT, or a node or an edge is one too many
 abbrev pub ReadsRefused : Reads → ℕ → List ℕ → Type 0
 ReadsRefused q from g = (q .out ≡ true) ⊎ FullAmong from (q .nodes) g
 

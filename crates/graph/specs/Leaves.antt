@@ -120,8 +120,8 @@ pub record Prepared (g w w′ : List ℕ) : Type 0 where
   pub steps : 3588 < length w → getD w′ 3588 0 ≡ 2098176
 
 -- 01, The walk; Worthless checks: what preparing the work slice leaves, whatever the slices hold: the words of `reach`, the cursors and the
--- path as they were. All words stay where there are more than 512 nodes or 4,096 edges. The edges in order, from 3590 on, are left free where g
--- stands for no graph or the slice has fewer than 29,190 words; else Awaits says what they are, and every word behind the 29,190 stays
+-- path as they were. All words stay where there are more than 512 nodes or 4,096 edges. The words from 3590 on are
+-- left free; where g stands for a graph and the slice has 29,190 words Awaits says what the search makes of them, and every word behind those stays
 pub record BeginLeaves (g w w′ : List ℕ) : Type 0 where
   pub before : Keeps (below 1538) w w′
   pub path : (j : ℕ) → 2562 ≤ j → j < 3586 → getD w′ j 0 ≡ getD w j 0
@@ -141,8 +141,8 @@ abbrev pub Stretch : C.Cycle → List ℕ → List ℕ → Type 0
 Stretch (cycles.Found p d) w w′ = (d ≡ getD w′ 3586 0) × (getD w′ 3588 0 < getD w 3588 0)
 Stretch cycles.Done w w′ = Unit {0}
 
--- 01, The walk; Worthless checks: which words asking for the next report keeps: the words of `reach` and the order of the nodes; every word from 3589
--- on only where w awaits reports. What it gives and what becomes of every word, of any words, Search.next-report says
+-- 01, The walk; Worthless checks: that a report is a stretch, and which words asking for the next one keeps: the words of `reach` and the order of the
+-- nodes; every word from 3589 on only where w awaits reports. What it gives and what becomes of every word, of any words, Search.next-report says
 pub record NextLeaves (r : C.Cycle) (g w w′ : List ℕ) : Type 0 where
   pub stretch : Stretch r w w′
   pub before : Keeps (below 2050) w w′

@@ -102,7 +102,8 @@ pub record Inputs (header : List Header) (heads : List Head) (o : ℕ) (w : List
   pub count : r ≡ length (inputs-reached header heads o)
 
 -- 01, The edge; Refused because of the state: whatever the words, the edges from the place e on add their targets, each that is not marked, behind the k
--- nodes reached; the place 0 ends it, a LINK that is not below its own place, and a node more than 512. With f steps left: how many are reached then
+-- nodes reached; the place 0 ends it, an edge whose LINK is not below its own place, which adds nothing, and a node more than 512. With f steps left: how many
+-- are reached then
 unfoldable pub links-spread : List ℕ → ℕ → ℕ → ℕ → List ℕ → ℕ × List ℕ
 links-spread g zero e k w = (k, w)
 links-spread g (suc f) zero k w = (k, w)

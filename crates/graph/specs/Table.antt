@@ -127,8 +127,8 @@ pub record Found (g : List ℕ) (n : Node) (r : ℕ) : Type 0 where
   pub before : (i : ℕ) → i < r → ¬ (node-at g i ≡ n)
   pub here : r < count g → node-at g r ≡ n
 
--- 01, The edge: words behind a graph's own, at 15874: 1,024 hints, each the number that a node of that place had when it was last looked for. A hint
--- may be any number, and is only believed where that node is the same.
+-- 01, The edge: words behind a graph's own, at 15874: 1,024 hints, each the number that a node of that place had when it was last headed or read, or
+-- the count where there was no room. A hint may be any number, and is only believed where that node is the same.
 
 -- 01, The edge: the place of a node's hint, of 1,024
 abbrev pub slot-of : declared.Node → ℕ

@@ -36,7 +36,8 @@ fn record_of(s: Site) -> Record
     }
 }
 
-// The extent of a record. Ranges stand first, and no other code is asked for one by one before them: a pair of ranges is the common case.
+// The extent of a record. Ranges stand first, since a pair of ranges is the common case; then what is past the other codes, so that the compiled loop
+// has no choice among three codes.
 fn extent_in(r: Record) -> Extent
     ensures { λ x. ⌜ extent-of x ≡ extent-in r ⌝ }
 {

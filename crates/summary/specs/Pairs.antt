@@ -1,6 +1,6 @@
 -- The pairs of a summary that is being made: each top-level output with the inputs that it reaches.
 -- 01: The line; The edge; Refused because of the state; Worthless checks.
--- To a reader: definitions that the contracts of this crate cite; each such contract is proved; check_drivers' own promise cites none of them.
+-- To a reader: definitions that contracts of this and other crates cite; each such contract is proved; check_drivers' own promise cites none of them.
 use mathlib.Core.Path.{_≡_}
 use mathlib.Core.Bool.{Bool, true, false}
 use mathlib.Core.List.{List, [], _∷_, _++_}
