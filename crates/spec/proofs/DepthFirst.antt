@@ -17,6 +17,7 @@ use Rattle.spec.proofs.Walks.{fewer_steps, along, reached_root, reached_next, or
 
 pub in_backwards : {A : Type 0} {a : A} (l : List A) → a ∈ l → a ∈ backwards l
 unfolding backwards
+in_backwards {A = A} {a = a} [] x' = elim x' [ ]
 in_backwards (b ∷ l) (Memᴰ.head e) = Memᴰ.append_right (backwards l) (Memᴰ.head e)
 in_backwards (b ∷ l) (Memᴰ.tail m) = Memᴰ.append_left (b ∷ []) (in_backwards l m)
 
@@ -72,6 +73,7 @@ module _ {A : Type 0} (same : A → A → Bool) (next : A → List A)
     Open n (p ∷ path) = Reached next roots p × (n ∈ next p) × Open p path
 
     open_reached : (n : A) (path : List A) → Open n path → (a : A) → a ∈ path → Reached next roots a
+    open_reached n [] o a x'' = elim x'' [ ]
     open_reached n (p ∷ path) o a (Memᴰ.head e) = subst⁻¹ (λ z. Reached next roots z) e o.0
     open_reached n (p ∷ path) o a (Memᴰ.tail m) = open_reached p path o.2 a m
 

@@ -38,6 +38,7 @@ module _ {A : Type 0} where
   stands_second {b = b} s = subst⁻¹ (λ z. b ∈ z) s.parted (Memᴰ.append_right s.front (Memᴰ.tail s.behind))
 
   stands_either : (l : List A) (m n : A) → m ∈ l → n ∈ l → ¬ (m ≡ n) → StandsBefore l m n ⊎ StandsBefore l n m
+  stands_either [] m n x3 _ d = elim x3 [ ]
   stands_either (b ∷ l) m n (Memᴰ.head e) (Memᴰ.head f) d = absurd (d (e ∙ sym f))
   stands_either (b ∷ l) m n (Memᴰ.head e) (Memᴰ.tail j) d = inl (record { front = []; back = l; parted = ap (λ z. z ∷ l) (sym e); behind = j })
   stands_either (b ∷ l) m n (Memᴰ.tail i) (Memᴰ.head f) d = inr (record { front = []; back = l; parted = ap (λ z. z ∷ l) (sym f); behind = i })

@@ -91,6 +91,7 @@ module _ {A B : Type 0} (f : A → List B) where
   -- members of what f gives of each member
   pub in_concat : {a : A} {b : B} (l : List A) → a ∈ l → b ∈ f a → b ∈ concat_map f l
   unfolding concat_map
+  in_concat {a = a} {b = b} [] x'' h = elim x'' [ ]
   in_concat {b = b} (c ∷ l) (Memᴰ.head e) h = Memᴰ.append_left (concat_map f l) (subst (λ z. b ∈ f z) e h)
   in_concat (c ∷ l) (Memᴰ.tail i) h = Memᴰ.append_right (f c) (in_concat l i h)
 

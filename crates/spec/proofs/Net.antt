@@ -92,6 +92,7 @@ module _ {G : Graph} (N : Net G) (K : Ranked G) where
     -- what is recalculated comes right
     each_gains : (k : ℕ) (l : List G.Signal) (x : State N) → Upto k x y → (t : G.Signal) (i : t ∈ G.signals) → K.rank t ≤ k → t ∈ l → recalculate_each N l x t i ≡ y t i
     unfolding recalculate_each
+    each_gains k [] x u t i h x5 = elim x5 [ ]
     each_gains k (s ∷ l) x u t i h (Memᴰ.head e) = each_keeps k l (recalculate N s x) (recalculate_upto k x u s) t i h (recalculate_self N s t x i e ∙ gives_right k x u t i h)
     each_gains k (s ∷ l) x u t i h (Memᴰ.tail m) = each_gains k l (recalculate N s x) (recalculate_upto k x u s) t i h m
 

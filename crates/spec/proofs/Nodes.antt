@@ -256,6 +256,7 @@ module _ {A : Type 0} (same : A → A → Bool) (yes_same : (a b : A) → same a
 
   pub in_each_once : {a : A} (l : List A) → a ∈ l → a ∈ each_once same l
   unfolding each_once
+  in_each_once {a = a} [] x' = elim x' [ ]
   in_each_once {a} (b ∷ l) (Memᴰ.head e) =
       let f = in_each_once {a = a} l in
       if_case (λ (k : List A). a ∈ k) (among same b l) _ _ (λ h. f (Memᴰ.cast e (among_yes same yes_same self b l h))) (λ h. Memᴰ.head e)
@@ -321,6 +322,7 @@ module _ (hs : List Head) where
 
   pub insert_old : {a : Node} (m : Node) (l : List Node) → a ∈ l → a ∈ insert_node hs m l
   unfolding insert_node
+  insert_old {a = a} m [] x' = elim x' [ ]
   insert_old {a} m (n ∷ l) (Memᴰ.head d) =
       if_case (λ k. a ∈ k) (same_node m n) _ _ (λ e. Memᴰ.head d)
       (λ e. if_case (λ k. a ∈ k) (ascends hs m n) _ _ (λ h. Memᴰ.tail (Memᴰ.head d)) (λ h. Memᴰ.head d))
@@ -358,6 +360,7 @@ module _ (hs : List Head) where
 
   pub in_ascending : {a : Node} (l : List Node) → a ∈ l → a ∈ ascending hs l
   unfolding ascending
+  in_ascending {a = a} [] x' = elim x' [ ]
   in_ascending (n ∷ l) (Memᴰ.head e) = Memᴰ.cast e (insert_new n (ascending hs l))
   in_ascending (n ∷ l) (Memᴰ.tail i) = insert_old n (ascending hs l) (in_ascending l i)
 
@@ -392,6 +395,7 @@ read_by {x} (h ∷ hs) n i = go (read_by hs n) (same_node n h.node) refl i
 
 pub reads_all : {x : Node} {h : Head} (hs : List Head) (n : Node) → h ∈ hs → h.node ≡ n → x ∈ h.reads → x ∈ all_reads hs n
 unfolding all_reads
+reads_all {x = x} {h = h} [] n x4 e i = elim x4 [ ]
 reads_all {x} (g ∷ hs) n (Memᴰ.head d) e i =
     if_case (λ k. x ∈ k) (same_node n g.node) _ _
     (λ v. Memᴰ.append_left (all_reads hs n) (subst (λ (z : Head). x ∈ z.reads) d i))
@@ -439,6 +443,7 @@ next_rising hs n = ascending_rising hs (all_reads hs n)
 -- heads, roots, and all nodes
 pub head_in : {h : Head} (hs : List Head) → h ∈ hs → h.node ∈ head_nodes hs
 unfolding head_nodes
+head_in {h = h} [] x' = elim x' [ ]
 head_in (g ∷ hs) (Memᴰ.head d) = Memᴰ.head (ap (λ z. z.node) d)
 head_in (g ∷ hs) (Memᴰ.tail i) = Memᴰ.tail (head_in hs i)
 
@@ -462,11 +467,13 @@ roots_rising hs = ascending_rising hs (head_nodes hs)
 
 pub headed_all : {n : Node} (hs : List Head) → n ∈ head_nodes hs → n ∈ all_nodes hs
 unfolding head_nodes all_nodes
+headed_all {n = n} [] x' = elim x' [ ]
 headed_all (g ∷ hs) (Memᴰ.head e) = Memᴰ.head e
 headed_all (g ∷ hs) (Memᴰ.tail i) = Memᴰ.tail (Memᴰ.append_right g.reads (headed_all hs i))
 
 pub reads_listed : {x : Node} {h : Head} (hs : List Head) → h ∈ hs → x ∈ h.reads → x ∈ all_nodes hs
 unfolding all_nodes
+reads_listed {x = x} {h = h} [] x3 i = elim x3 [ ]
 reads_listed {x} (g ∷ hs) (Memᴰ.head d) i = Memᴰ.tail (Memᴰ.append_left (all_nodes hs) (subst (λ (z : Head). x ∈ z.reads) d i))
 reads_listed (g ∷ hs) (Memᴰ.tail j) i = Memᴰ.tail (Memᴰ.append_right g.reads (reads_listed hs j i))
 

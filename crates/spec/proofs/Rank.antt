@@ -79,10 +79,13 @@ module _ (G : Graph) where
   upto s (t ∷ l) c (Memᴰ.tail m) = let w = upto t l c.1 m in (t, w.0 ∷ w.1, (c.0, w.2), w.3)
 
   -- a walk from a signal stays among the signals
+  listed_along : (t : G.Signal) (s : G.Signal) (l : List G.Signal) → s ∈ G.signals → Chain G.reads s l → t ∈ (s ∷ l) → t ∈ G.signals
+  listed_along t s l i c (Memᴰ.head e) = Memᴰ.cast e i
+  listed_along t s [] i c (Memᴰ.tail m) = absurd (Memᴰ.not-nil m)
+  listed_along t s (u ∷ l) i c (Memᴰ.tail m) = listed_along t u l (G.closed s u i c.0) c.1 m
+
   pub chain_listed : (s : G.Signal) (l : List G.Signal) → s ∈ G.signals → Chain G.reads s l → (t : G.Signal) → t ∈ (s ∷ l) → t ∈ G.signals
-  chain_listed s l i c t (Memᴰ.head e) = Memᴰ.cast e i
-  chain_listed s [] i c t (Memᴰ.tail m) = absurd (Memᴰ.not-nil m)
-  chain_listed s (u ∷ l) i c t (Memᴰ.tail m) = chain_listed u l (G.closed s u i c.0) c.1 t m
+  chain_listed s l i c t m = listed_along t s l i c m
 
   -- pigeonhole: a walk within U that has more nodes than U comes back
   pigeonhole : (U : List G.Signal) (s : G.Signal) (l : List G.Signal) → s ∈ G.signals → Chain G.reads s l → ((t : G.Signal) → t ∈ (s ∷ l) → t ∈ U) → length U ≤ length l → Closed G

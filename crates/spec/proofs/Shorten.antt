@@ -22,7 +22,7 @@ data Star {A : Type 0} (R : A → A → Type 0) (c : A) : A → Type 0 where
 abbrev Plus : {A : Type 0} (R : A → A → Type 0) → A → A → Type 0
 Plus {A} R c a = (b : A) × R a b × Star R c b
 
-join : {A : Type 0} {R : A → A → Type 0} {a b c : A} → Star R b a → Star R c b → Star R c a
+join : {A : Type 0} {R : A → A → Type 0} {b a c : A} → Star R b a → Star R c b → Star R c a
 join {R = R} {c = c} (done e) w = subst⁻¹ (λ z. Star R c z) e w
 join (go_to h v) w = go_to h (join v w)
 

@@ -28,10 +28,10 @@ module _ {A : Type 0} (next : A → List A) where
   along Q f s [] c q = q
   along Q f s (t ∷ w) c q = along Q f t w c.1 (f s t q c.0)
 
-  along_from : (Q : A → Type 0) → ((a b : A) → Q a → b ∈ next a → Q b) → (s : A) (w : List A) → Chain next s w → (n : A) → n ∈ (s ∷ w) → Q n → Q (last s w)
-  along_from Q f s w c n (Memᴰ.head e) q = along Q f s w c (subst Q e q)
-  along_from Q f s [] c n (Memᴰ.tail m) q = absurd (Memᴰ.not-nil m)
-  along_from Q f s (t ∷ w) c n (Memᴰ.tail m) q = along_from Q f t w c.1 n m q
+  along_from : (Q : A → Type 0) → ((a b : A) → Q a → b ∈ next a → Q b) → (n : A) → (s : A) (w : List A) → Chain next s w → n ∈ (s ∷ w) → Q n → Q (last s w)
+  along_from Q f n s w c (Memᴰ.head e) q = along Q f s w c (subst Q e q)
+  along_from Q f n s [] c (Memᴰ.tail m) q = absurd (Memᴰ.not-nil m)
+  along_from Q f n s (t ∷ w) c (Memᴰ.tail m) q = along_from Q f n t w c.1 m q
 
   chain_more : (s : A) (w : List A) (m : A) → Chain next s w → m ∈ next (last s w) → Chain next s (w ++ (m ∷ [])) × (last s (w ++ (m ∷ [])) ≡ m)
   chain_more s [] m c i = ((i, tt), refl)
@@ -60,5 +60,5 @@ module _ {A : Type 0} (next : A → List A) where
   order_no_loop l p [] n c m i = c
   order_no_loop l p (s ∷ []) n c m i = c
   order_no_loop l p (s ∷ t ∷ w) n c m i =
-      let start = along_from (λ z. z ∈ l) (λ x y. order_next l p x y) s (t ∷ w) c.0 n m i in
+      let start = along_from (λ z. z ∈ l) (λ x y. order_next l p x y) n s (t ∷ w) c.0 m i in
       no_return l p s t w (Memᴰ.cast (sym c.1) start) c.0 c.1

@@ -32,12 +32,14 @@ module _ {Key : Type 0} where
   later_rising j k (i ∷ is) h r = (omega (arith, r.0), r.1)
 
   rising_above : (k : ℕ) (is : List (Instance Key)) → Rising k is → (i : Instance Key) → i ∈ is → k ≤ i.position
+  rising_above k [] r i x'' = elim x'' [ ]
   rising_above k (i' ∷ is) r i (Memᴰ.head e) = subst⁻¹ (λ z. k ≤ z.position) e r.0
   rising_above k (i' ∷ is) r i (Memᴰ.tail m) = let s = rising_above (suc i'.position) is r.1 i m in omega (arith, r.0, s)
 
   -- so each instance is the one at its position
   rising_at : (k : ℕ) (is : List (Instance Key)) → Rising k is → (i : Instance Key) → i ∈ is → instance_at i.position is ≡ some i
   unfolding instance_at
+  rising_at k [] r i x'' = elim x'' [ ]
   rising_at k (i' ∷ is) r i (Memᴰ.head e) = rw (eq-eqb i'.position i.position (ap (λ z. z.position) (sym e)), instance_at) (ap {B = Option (Instance Key)} some (sym e))
   rising_at k (i' ∷ is) r i (Memᴰ.tail m) =
       let h = rising_above (suc i'.position) is r.1 i m in
