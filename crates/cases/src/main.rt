@@ -1,5 +1,7 @@
 // Runs the cases of the files that are named: holds what is printed for each text to the stored answer. Prints what differs, and last how
 // many cases there were and how many differ.
+#![tactic(auto)]
+
 mod record;
 mod run;
 

@@ -12,7 +12,7 @@ use lines::read::number_after;
 const CASE: u64 = 0x636173654;
 
 // A record at the head of some bytes: where its name ends, where its text begins, how many bytes text and answer have.
-#[derive(Drop)]
+#[derive(Clone, Copy)]
 pub enum Record {
     Is {
         name: usize,

@@ -11,7 +11,7 @@ use lines::bytes::at8;
 use lines::parts::{between, rest};
 
 // How many cases were run, and how many differ; what is no case counts as one that differs.
-#[derive(Drop)]
+#[derive(Clone, Copy)]
 pub struct Tally {
     pub cases: usize,
     pub different: usize,

@@ -1,5 +1,7 @@
 // The walk over a module's items, the edges of its instances, and the summaries that they ask for: each calls the next. Ends because a
 // summary that is begun takes one from `fuel`, the number of modules that may still be begun, and a body takes brackets from `depth`.
+#![tactic(auto)]
+
 mod places;
 mod plain;
 
@@ -23,21 +25,21 @@ use steps::{Chosen, Head, Times, modules};
 use summary::State;
 
 // What collecting a module gives: a limit is passed or a constant is outside INT; else how many names its table has, and the rounds left.
-#[derive(Drop)]
+#[derive(Clone, Copy)]
 pub enum Collected {
     Full,
     Left(usize, u32),
 }
 
 // What a walk gives: the rounds left, or a limit is passed or a constant outside INT.
-#[derive(Drop)]
+#[derive(Clone, Copy)]
 enum Walked {
     Left(u32),
     Full,
 }
 
 // What asking for a summary gives: nothing is known of the module, its pairs stand in the table, or a limit is passed or a constant outside INT.
-#[derive(Drop)]
+#[derive(Clone, Copy)]
 enum Asked {
     Empty,
     Kept,
@@ -46,7 +48,7 @@ enum Asked {
 
 // What a run of items is walked with: the modules of the text, how many of them may still be begun, the brackets left, which walk it is, and
 // how many names are used.
-#[derive(Drop)]
+#[derive(Clone, Copy)]
 struct Pass {
     count: u32,
     fuel: u32,
@@ -57,7 +59,7 @@ struct Pass {
 }
 
 // The rounds of a repeat: its variable, the first value, how many there are, and what is left of the module's rounds when these are spent.
-#[derive(Drop)]
+#[derive(Clone, Copy)]
 struct Turn {
     name: u32,
     low: u32,

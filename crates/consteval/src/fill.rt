@@ -15,7 +15,7 @@ use lines::words::Word;
 use lines::{numbers, parts, words};
 
 // Pairs used, or why there is no table. `Bad`: a number that is out of its range, which no accepted text has.
-#[derive(Drop)]
+#[derive(Clone, Copy)]
 pub enum Filled {
     Used(usize),
     Outside,
@@ -24,7 +24,7 @@ pub enum Filled {
 }
 
 // What a line adds to the table.
-#[derive(Drop)]
+#[derive(Clone, Copy)]
 enum Entry {
     Skip,
     Put(u32, u32),
@@ -32,7 +32,7 @@ enum Entry {
     Bad,
 }
 
-#[derive(Drop)]
+#[derive(Clone, Copy)]
 enum Role {
     Val,
     Const,

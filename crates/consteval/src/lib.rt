@@ -1,4 +1,6 @@
 // The value of a constant expression, under a name table.
+#![tactic(auto)]
+
 ghost use Rattle.std.specs.Prelude.{◌≡◌, [], pos};
 ghost use Rattle.spec.specs.Decode.{decode_atom, decode_expr};
 ghost use Rattle.spec.specs.Bytes.{number};
@@ -16,7 +18,7 @@ pub mod names;
 mod shape;
 
 // A value v in INT is held as v + 2147483648.
-#[derive(Drop)]
+#[derive(Clone, Copy)]
 pub enum Value {
     Known(u32),
     Missing,

@@ -5,14 +5,14 @@ ghost use Rattle.consteval.specs.Worth.{shape};
 
 use lines::words::Word;
 
-#[derive(Drop)]
+#[derive(Clone, Copy)]
 pub(crate) enum Unary {
     Neg,
     Not,
     Clog2,
 }
 
-#[derive(Drop)]
+#[derive(Clone, Copy)]
 pub(crate) enum Binary {
     Add,
     Sub,
@@ -32,7 +32,7 @@ pub(crate) enum Binary {
     Bxor,
 }
 
-#[derive(Drop)]
+#[derive(Clone, Copy)]
 pub(crate) enum Shape {
     Name,
     If,

@@ -1,4 +1,6 @@
 // Prints the reports of the text on standard input, or `(refused NUMBER LINE)`; `(unread)` where the text cannot be read.
+#![tactic(auto)]
+
 use input::Input;
 
 // All of it to standard output; where that fails, one line on standard error says so.

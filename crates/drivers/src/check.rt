@@ -20,14 +20,14 @@ use lines::{reader, tables};
 use steps::modules;
 
 // What the check of a module, or of several, gives: the next place and the rounds taken; or a limit is passed or a constant outside INT.
-#[derive(Drop)]
+#[derive(Clone, Copy)]
 enum Checked {
     Full,
     Done(Place, u32),
 }
 
 // 01's answer: 0 or the number of a refusal, its line, the bytes written, the reports, the rounds.
-#[derive(Drop)]
+#[derive(Clone, Copy)]
 pub struct Answer {
     pub number: u32,
     pub line: u32,

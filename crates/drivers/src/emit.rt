@@ -7,7 +7,7 @@ ghost use Rattle.drivers.specs.Emits.{Appends, Emits};
 use report::{Node, Report};
 
 // Where the next line goes, one past the buffer's end where they no longer fit; and how many reports there are so far.
-#[derive(Drop)]
+#[derive(Clone, Copy)]
 pub(crate) struct Place {
     pub(crate) at: usize,
     pub(crate) reports: usize,

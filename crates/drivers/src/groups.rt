@@ -28,7 +28,7 @@ use report::{Detail, Report};
 use sites::{Blocks, Cover, Found, Misuse, OutputLine};
 
 // Done with the next place; or a width that decides coverage is outside INT.
-#[derive(Drop)]
+#[derive(Clone, Copy)]
 pub(crate) enum Covered {
     Done(Place),
     Outside,

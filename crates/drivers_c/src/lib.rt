@@ -1,4 +1,6 @@
 // The whole check for programs in other languages: numbers and slices of numbers only.
+#![tactic(auto)]
+
 ghost use Rattle.std.specs.Prelude.{◌≡◌, [], ◌∷◌, set};
 ghost use Rattle.spec.specs.Check.{check_call};
 ghost use Rattle.drivers.specs.Check.{slices};

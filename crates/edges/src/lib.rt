@@ -1,4 +1,6 @@
 // What an expression reads, and what a line heads: into the graph of a module.
+#![tactic(auto)]
+
 ghost use Rattle.std.specs.Prelude.{◌≡◌, ◌+◌, ◌-◌, length, drop, get_or, eqb, ◌&&◌};
 ghost use Rattle.std.proofs.Math.Option.{none};
 ghost use Rattle.spec.specs.Decode.{decode_expr};
@@ -36,7 +38,7 @@ fn name_read(kinds: &[u8], n: u32, g: &mut [u32], from: u32) -> bool
 }
 
 // The name that an expression is, if it is one.
-#[derive(Drop)]
+#[derive(Clone, Copy)]
 enum Named {
     Is(u32),
     Not,
@@ -95,7 +97,7 @@ fn is_inst(kinds: &[u8], i: u32) -> bool
 }
 
 // What an `f` is of: an inst, an inst with an index, or anything else.
-#[derive(Drop)]
+#[derive(Clone, Copy)]
 enum FieldOf {
     Inst(u32),
     InstAt(u32),

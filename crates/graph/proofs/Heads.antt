@@ -175,6 +175,7 @@ module _ (hs ks : List Head) (m : Node) (others : (n : Node) → ¬ (n ≡ m) �
 
   pub edges_one_more : length (reads_of ks m) ≡ suc (length (reads_of hs m)) → (l : List Node) → Once l → m ∈ l → edges_from ks l ≡ suc (edges_from hs l)
   unfolding edges_from
+  edges_one_more e [] o x'' = elim x'' [ ]
   edges_one_more e (n ∷ l) o (Memᴰ.head d) =
       let r = edges_without_it l (λ i. o.0 (Memᴰ.cast (sym d) i)) in
       let f : length (reads_of ks n) ≡ suc (length (reads_of hs n)) = rw (← d) e in
@@ -191,6 +192,7 @@ cut a (b ∷ l) = elim (same_node a b) [ true ↦ cut a l | false ↦ b ∷ cut 
 
 in_cut : {a b : Node} (l : List Node) → b ∈ l → ¬ (b ≡ a) → b ∈ cut a l
 unfolding cut
+in_cut {a = a} {b = b} [] x'' d = elim x'' [ ]
 in_cut {a} {b} (c ∷ l) (Memᴰ.head e) d =
     if_case (λ k. b ∈ k) (same_node a c) _ _ (λ f. absurd (d (e ∙ sym (same_node_yes a c f)))) (λ f. Memᴰ.head e)
 in_cut {a} {b} (c ∷ l) (Memᴰ.tail i) d =
@@ -230,6 +232,7 @@ cut_none a (c ∷ l) d =
 
 edges_cut : (hs : List Head) (a : Node) (l : List Node) → Once l → a ∈ l → edges_from hs l ≡ length (reads_of hs a) + edges_from hs (cut a l)
 unfolding cut edges_from
+edges_cut hs a [] o x'' = elim x'' [ ]
 edges_cut hs a (c ∷ l) o (Memᴰ.head e) =
     let f : cut a (c ∷ l) ≡ l = pick_true (same_node a c) _ _ (rw e (same_node_refl c)) ∙ cut_none a l (λ i. o.0 (Memᴰ.cast (sym e) i)) in
     ap (λ z. length (reads_of hs z) + edges_from hs l) (sym e) ∙ ap (λ z. length (reads_of hs a) + edges_from hs z) (sym f)

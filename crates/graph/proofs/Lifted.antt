@@ -74,6 +74,7 @@ module _ (header : List Header) (m : ℕ) where
 
   inputs_in : (l : List Node) → is_input (kind_of header m) ≡ true → signal m ∈ l → m ∈ inputs_among header l
   unfolding inputs_among
+  inputs_in [] e x'' = elim x'' [ ]
   inputs_in (signal n ∷ l) e (Memᴰ.head d) =
       let f : n ≡ m = eqb-true n m (ap (same_node (signal n)) d ∙ same_node_refl (signal n)) in
       if_case (λ z. m ∈ z) (is_input (kind_of header n)) _ _ (λ h. Memᴰ.head (sym f)) (λ h. absurd (true≢false (sym e ∙ ap (λ z. is_input (kind_of header z)) (sym f) ∙ h)))
@@ -231,6 +232,7 @@ module _ (g kinds : List ℕ) where
 
   by_names : (q : ℕ) (l : List ℕ) → q ∈ l → stops g kinds q ≡ true → get_or g (514 + q) 0 ∈ names_in g kinds l
   unfolding names_in
+  by_names q [] x'' s = elim x'' [ ]
   by_names q (a ∷ l) (Memᴰ.head e) s =
       if_case (λ z. get_or g (514 + q) 0 ∈ z) (stops g kinds a) _ _ (λ h. Memᴰ.head (ap (λ z. get_or g (514 + z) 0) e))
       (λ h. absurd (true≢false (sym s ∙ ap (stops g kinds) e ∙ h)))

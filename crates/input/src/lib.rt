@@ -1,10 +1,12 @@
 // Standard input as a whole. A read that fails is told from the end of the input, so that no part of a text
 // is taken for all of it. No contract can say what is read: these say what an answer means and how much of the buffer it takes.
+#![tactic(auto)]
+
 ghost use Rattle.std.specs.Prelude.{◌≡◌, length};
 ghost use Rattle.input.specs.Input.{Within, answer};
 
 // How many bytes stand at the front of the buffer; or a read failed.
-#[derive(Drop)]
+#[derive(Clone, Copy)]
 pub enum Input {
     Read(usize),
     Failed,

@@ -1,4 +1,6 @@
 // What a collected line adds to the tables of its module's own check.
+#![tactic(auto)]
+
 ghost use Rattle.std.specs.Prelude.{◌≡◌, true, length};
 ghost use Rattle.spec.specs.Bytes.{Bytes};
 ghost use Rattle.spec.specs.Decode.{decode_expr};
@@ -43,7 +45,7 @@ fn number(x: &[u8], before: usize, end: usize) -> u32
 }
 
 // A name and a START, and where they end.
-#[derive(Drop)]
+#[derive(Clone, Copy)]
 struct Named {
     name: u32,
     start: u32,
@@ -80,7 +82,7 @@ fn named_at(x: &[u8], before: usize) -> Named
 }
 
 // A constant: outside INT, known, or missing.
-#[derive(Drop)]
+#[derive(Clone, Copy)]
 struct Constant {
     out: bool,
     known: bool,
@@ -117,7 +119,7 @@ fn constant_at(
     }
 }
 
-#[derive(Drop)]
+#[derive(Clone, Copy)]
 enum Extended {
     Is(Extent),
     Outside,

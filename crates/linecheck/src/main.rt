@@ -1,4 +1,6 @@
 // Is a text well formed? Prints nothing where it is, and else `(refused NUMBER LINE)`; `(unread)` where the text cannot be read.
+#![tactic(auto)]
+
 use input::Input;
 use lines::read::Verdict;
 use report::Put;

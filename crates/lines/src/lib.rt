@@ -1,4 +1,6 @@
 // The line format: character classes, parts of a form, head words, numbers, the grammar of a line, and the reader.
+#![tactic(auto)]
+
 pub mod bytes;
 mod keys;
 pub mod numbers;

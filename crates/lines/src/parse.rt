@@ -16,7 +16,7 @@ const MODS: u64 = 256;
 const NUMBERS: u64 = 2147483648;
 
 // What a part is: a number or a word of a kind, an expression, X, T, LV, C, S, I, `(then ..)` and `(else ..)`, a line, or none.
-#[derive(Drop)]
+#[derive(Clone, Copy)]
 pub(crate) enum Cat {
     Name,
     Start,
@@ -42,7 +42,7 @@ pub(crate) enum Cat {
 }
 
 // The categories of the next four parts and of all behind them, and how many parts are still needed.
-#[derive(Drop)]
+#[derive(Clone, Copy)]
 pub(crate) struct Shape {
     pub need: u8,
     pub a: Cat,
@@ -53,27 +53,27 @@ pub(crate) struct Shape {
 }
 
 // A part that was read: where it ends, whether its numbers are in range (5).
-#[derive(Drop)]
+#[derive(Clone, Copy)]
 pub(crate) enum Parsed {
     Bad,
     Good { next: usize, range: bool },
 }
 
-#[derive(Drop)]
+#[derive(Clone, Copy)]
 pub struct Word {
     pub key: u64,
     pub next: usize,
 }
 
 // A number, where it is too large some number from 2^32 on, and where it ends.
-#[derive(Drop)]
+#[derive(Clone, Copy)]
 pub enum Number {
     None,
     Is { value: u64, next: usize },
 }
 
 // The heads of E.
-#[derive(Drop)]
+#[derive(Clone, Copy)]
 pub(crate) enum Op {
     Name,
     Field,

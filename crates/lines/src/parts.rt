@@ -6,7 +6,7 @@ ghost use Rattle.lines.specs.Parts.{part_end, piece, follows, operands_of, singl
 use crate::bytes::{Class, class_of, is_space};
 
 // The ends of the parts behind a head, where there are at most four.
-#[derive(Drop)]
+#[derive(Clone, Copy)]
 enum Operands {
     Zero,
     One(usize),
@@ -17,19 +17,19 @@ enum Operands {
 }
 
 // The same, where just so many are asked for.
-#[derive(Drop)]
+#[derive(Clone, Copy)]
 pub enum Single {
     Is(usize),
     Not,
 }
 
-#[derive(Drop)]
+#[derive(Clone, Copy)]
 pub enum Pair {
     Are(usize, usize),
     Not,
 }
 
-#[derive(Drop)]
+#[derive(Clone, Copy)]
 pub enum Triple {
     Are(usize, usize, usize),
     Not,

@@ -13,7 +13,7 @@ pub(crate) const MODULES: u32 = 32;
 pub(crate) const DEPTH: u32 = 32;
 
 // What a line is: its lowest fault, or what it adds, with the place of its line feed.
-#[derive(Drop)]
+#[derive(Clone, Copy)]
 pub(crate) enum Step {
     Fault(u32),
     Module(usize),
@@ -184,7 +184,7 @@ pub(crate) fn line_step(s: &[u8], at: usize, modules: u32, items: bool, seen: &[
 }
 
 // The lowest fault of the text on its first faulty line, or how many modules a well formed text has.
-#[derive(Drop)]
+#[derive(Clone, Copy)]
 pub enum Verdict {
     Refused(u32, u32),
     Formed(u32),

@@ -13,7 +13,7 @@ use crate::parse::EACH_NAME;
 use crate::read::{TEXT, Verdict, set_line};
 use crate::tables::{KINDS, MODS, Read, answer, clear_bytes, clear_mods, enter_line, start};
 
-#[derive(Drop)]
+#[derive(Clone, Copy)]
 struct Reader<'a> {
     text: &'a [u8],
     at: usize,

@@ -69,7 +69,7 @@ fn mark(mods: &mut [u32], m: usize, first: u32, end: u32)
 
 // Where the reading stands: where the next line begins and which row it is, how many modules there are, whether the last of them
 // has an item, where its items begin so far, and the fault that ended the reading, or 0.
-#[derive(Drop)]
+#[derive(Clone, Copy)]
 pub(crate) struct Progress {
     pub next: usize,
     pub row: u32,
@@ -214,7 +214,7 @@ pub(crate) fn clear_mods(s: &mut [u32])
 }
 
 // The lent tables are too short, the text is refused with a number and a line, or it is accepted and has so many modules.
-#[derive(Drop)]
+#[derive(Clone, Copy)]
 pub enum Read {
     Short,
     Refused(u32, u32),

@@ -3,7 +3,7 @@ ghost use Rattle.std.specs.Borrow.{Bor};
 ghost use Rattle.std.specs.Prelude.{◌≡◌};
 ghost use Rattle.lines.specs.Words.{key_of, word_of};
 
-#[derive(Drop)]
+#[derive(Clone, Copy)]
 pub enum Word {
     N,
     F,

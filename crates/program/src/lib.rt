@@ -1,4 +1,6 @@
 // What the program prints for a text: its reports, or `(refused NUMBER LINE)`.
+#![tactic(auto)]
+
 ghost use Rattle.std.specs.Prelude.{◌≡◌, take, drop};
 ghost use Rattle.io.specs.Counts.{IsPrefixLen};
 ghost use Rattle.spec.specs.Cases.{Prints};

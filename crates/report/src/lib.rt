@@ -1,17 +1,19 @@
 // Report lines as bytes: for each piece a function that counts its bytes and one that writes it at a place in a lent buffer, where it
 // fits and no other byte. The laws in proofs tie the pieces to `show_report` of the specification.
+#![tactic(auto)]
+
 ghost use Rattle.std.specs.Prelude.{◌≡◌, ◌+◌, ◌≤◌, leb, length};
 ghost use Rattle.spec.specs.Bytes.{show_number};
 ghost use Rattle.report.specs.Line.{code_digit, field, line_head, detail_end, line, index_bytes, output_bytes, walk_head, walk_node, walk_tail, refused_line, Ran, put_by, placed};
 
 // The place behind what was written; or it did not fit, and nothing was written.
-#[derive(Drop)]
+#[derive(Clone, Copy)]
 pub enum Put {
     At(usize),
     Full,
 }
 
-#[derive(Drop)]
+#[derive(Clone, Copy)]
 pub enum Detail {
     Wire,
     Reg,
@@ -25,7 +27,7 @@ pub enum Detail {
     MemBlocks,
 }
 
-#[derive(Drop)]
+#[derive(Clone, Copy)]
 pub struct Report {
     pub number: u32,
     pub start: u32,
@@ -34,7 +36,7 @@ pub struct Report {
 }
 
 // A signal; or an instance output, whose index v, where it has one, is held as v + 2147483648.
-#[derive(Drop)]
+#[derive(Clone, Copy)]
 pub enum Node {
     Signal(u32),
     Output {

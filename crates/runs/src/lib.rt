@@ -1,4 +1,6 @@
 // Runs of items: where the item ends that starts at a place of the text.
+#![tactic(auto)]
+
 ghost use Rattle.std.specs.Prelude.{◌≡◌, ◌+◌, drop};
 ghost use Rattle.runs.specs.Run.{form_length};
 

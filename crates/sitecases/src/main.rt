@@ -1,5 +1,7 @@
 // The cases P3 to P7 through the code: sites are stored as the drives of the case's output, then its conflict and its coverage are
 // reported. Prints each case's name and the lines of its reports.
+#![tactic(auto)]
+
 use report::{Detail, Put, Report};
 use sites::{Cover, Extent, Found, Site};
 

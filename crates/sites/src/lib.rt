@@ -1,5 +1,7 @@
 // What is said of outputs, registers and memories of one module: drive sites, pairs of name and block, and what their lines are.
 // All tables stand in one lent run of numbers, `own`, with a fixed layout: seven counts, then the rows of each table.
+#![tactic(auto)]
+
 mod records;
 
 ghost use Rattle.std.specs.Prelude.{◌≡◌, ◌+◌, ◌-◌, ◌*◌, ◌≤◌, ◌<◌, min, [], ◌∷◌, ◌++◌, length, get_or, take, replicate, leb, false, ◌&&◌};
@@ -35,7 +37,7 @@ const CONFLICTS: usize = MISUSES + 3 * NAMES;
 // How many numbers hold all the tables.
 pub const OWN: usize = CONFLICTS + 2 * SITE_LIMIT;
 
-#[derive(Drop)]
+#[derive(Clone, Copy)]
 pub enum Extent {
     Whole,
     Range { low: u32, high: u32 },
@@ -43,14 +45,14 @@ pub enum Extent {
     Unknown,
 }
 
-#[derive(Drop)]
+#[derive(Clone, Copy)]
 pub struct Site {
     pub name: u32,
     pub extent: Extent,
     pub start: u32,
 }
 
-#[derive(Drop)]
+#[derive(Clone, Copy)]
 pub enum Misuse {
     Wire,
     Reg,
@@ -59,7 +61,7 @@ pub enum Misuse {
 }
 
 // Whether there was room.
-#[derive(Drop)]
+#[derive(Clone, Copy)]
 pub enum Stored {
     Done,
     Full,
@@ -151,7 +153,7 @@ fn push_first(own: &mut [u32], place: usize, base: usize, width: usize, limit: u
 }
 
 // An extent as three numbers.
-#[derive(Drop)]
+#[derive(Clone, Copy)]
 struct Coded {
     code: u32,
     low: u32,
@@ -300,7 +302,7 @@ pub fn add_pair(own: &mut [u32], name: u32, block: u32) -> Stored
 }
 
 // What is looked for, or nothing.
-#[derive(Drop)]
+#[derive(Clone, Copy)]
 pub enum Found {
     At(u32),
     Nothing,
@@ -469,7 +471,7 @@ pub fn range_extent(bound: bool, h: bool, high: u32, l: bool, low: u32) -> Exten
     }
 }
 
-#[derive(Drop)]
+#[derive(Clone, Copy)]
 pub enum Blocks {
     None,
     One,
@@ -514,7 +516,7 @@ pub fn blocks_of(own: &[u32], name: u32) -> Blocks
 }
 
 // What decides an output's coverage.
-#[derive(Drop)]
+#[derive(Clone, Copy)]
 pub enum Cover {
     Never,
     Open,
@@ -814,14 +816,14 @@ pub fn find_conflicts(own: &mut [u32])
 }
 
 // A name and a START.
-#[derive(Drop)]
+#[derive(Clone, Copy)]
 pub struct Line {
     pub name: u32,
     pub start: u32,
 }
 
 // An output's first line; its width stands at from..to of the text.
-#[derive(Drop)]
+#[derive(Clone, Copy)]
 pub struct OutputLine {
     pub name: u32,
     pub start: u32,
@@ -829,7 +831,7 @@ pub struct OutputLine {
     pub to: u32,
 }
 
-#[derive(Drop)]
+#[derive(Clone, Copy)]
 pub struct MisusedLine {
     pub name: u32,
     pub start: u32,

@@ -9,7 +9,7 @@ ghost use Rattle.sites.specs.Run.{extent_in, site_in, sites_in, record_of, Store
 use crate::{Extent, Found, Site, Stored};
 
 // A site in numbers. The code is 0 for Whole, 1 for Range, 2 for Dynamic; every other is Unknown.
-#[derive(Drop)]
+#[derive(Clone, Copy)]
 pub(crate) struct Record {
     name: u32,
     code: u32,

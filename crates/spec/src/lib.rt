@@ -1,1 +1,2 @@
 // The specification is in specs/ and proofs/; it has no code.
+#![tactic(auto)]

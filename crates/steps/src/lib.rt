@@ -1,4 +1,6 @@
 // What the walk over items asks of an item: what it is, how a `repeat` runs, which branch a `constif` takes, where bodies stand.
+#![tactic(auto)]
+
 ghost use Rattle.std.specs.Prelude.{◌≡◌, ◌-◌, ◌||◌};
 ghost use Rattle.spec.specs.Value.{is_outside};
 ghost use Rattle.consteval.specs.Worth.{worth, refused_if, names_of};
@@ -10,7 +12,7 @@ use lines::{numbers, parts};
 pub mod modules;
 
 // What an item is: `Plain` holds no items and asks for no summary.
-#[derive(Drop)]
+#[derive(Clone, Copy)]
 pub enum Head {
     Plain,
     Inst,
@@ -63,7 +65,7 @@ fn inner(depth: u32) -> u32
 
 // How often the body of a `repeat` runs: a bound is outside INT; not at all; once, its variable as it stands; or so many rounds, with
 // its variable, its first value as v + 2147483648, and their number.
-#[derive(Drop)]
+#[derive(Clone, Copy)]
 pub enum Times {
     Outside,
     Never,
@@ -132,7 +134,7 @@ pub fn body_at(x: &[u8]) -> usize
 
 // The branch that a `constif` takes: its condition is outside INT, or the branch's run stands behind the byte at the first place and
 // ends before the second.
-#[derive(Drop)]
+#[derive(Clone, Copy)]
 pub enum Chosen {
     Outside,
     Run(usize, usize),

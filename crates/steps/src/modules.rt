@@ -12,7 +12,7 @@ use consteval::fill::Filled;
 pub const NAMES: usize = 6616;
 
 // The pairs of the table that are used, or a constant is outside INT.
-#[derive(Drop)]
+#[derive(Clone, Copy)]
 pub enum Named {
     Used(usize),
     Outside,

@@ -1,5 +1,7 @@
 // The table of kept summaries: which modules are in progress, and of those that are kept the pairs of output and input. One lent slice;
 // specs/Keeps.antt says what its words are. Every function is safe for any slice.
+#![tactic(auto)]
+
 ghost use Rattle.std.specs.Prelude.{◌≡◌, false, List, [], ◌∷◌, ℕ, ◌<◌, get_or, set};
 ghost use Rattle.spec.specs.Syntax.{Item, Header, Module};
 ghost use Rattle.spec.specs.Refusal.{has_name};
@@ -15,7 +17,7 @@ ghost use Rattle.summary.specs.Pairs.{Grown, Added, OutputAdded, PortIs, pairs_w
 use lines::{numbers, parts};
 
 // A module that no line asked for yet, one that is being summarised, one whose summary is kept.
-#[derive(Drop)]
+#[derive(Clone, Copy)]
 pub enum State {
     New,
     Busy,
@@ -108,7 +110,7 @@ pub fn reset(k: &mut [u32])
 }
 
 // An item: a `port out` line, by its name, or something else.
-#[derive(Drop)]
+#[derive(Clone, Copy)]
 enum Port {
     Out(u32),
     Other,

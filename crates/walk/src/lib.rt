@@ -1,1 +1,2 @@
 // The fused walk: definitions and laws, no code.
+#![tactic(auto)]
