@@ -92,6 +92,7 @@ module _ (hs : List Header) (names : Names) where
 
 in_name : (n : ℕ) (l : List ℕ) → n ∈ l → has_name n l ≡ true
 unfolding has_name
+in_name n [] x' = elim x' [ ]
 in_name n (m ∷ l) (Memᴰ.head e) = rw (eq-eqb n m e)
 in_name n (m ∷ l) (Memᴰ.tail i) = rw (in_name n l i) (go (eqb n m))
   where

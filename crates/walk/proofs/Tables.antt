@@ -150,6 +150,7 @@ module _ {A : Type 0} (same : A → A → Bool) (yes_same : (a b : A) → same a
 
   pub adds_new : {b : A} (xs l : List A) → b ∈ xs → b ∈ add_all same xs l
   unfolding add_all
+  adds_new {b = b} [] l x' = elim x' [ ]
   adds_new (x ∷ xs) l (Memᴰ.head e) = adds_old xs (add_new same x l) (Memᴰ.cast e (new_new x l))
   adds_new (x ∷ xs) l (Memᴰ.tail i) = adds_new xs (add_new same x l) i
 
