@@ -1,6 +1,4 @@
 // A lent run of records, each a drive site in numbers: a site is stored among them, and the first conflict of a name is found.
-// The kit writes no part of the proof of a function over a slice of structs, so those here are few: each is proved by hand, step by step
-// along its compiled code, and leaves making a record and testing two to functions on records by value.
 ghost use Rattle.std.specs.Prelude.{◌≡◌, [], length, set, ltb};
 ghost use Rattle.spec.specs.Site as site;
 ghost use Rattle.sites.specs.Own.{extent_of, site_of, found_of};
