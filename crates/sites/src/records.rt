@@ -32,6 +32,7 @@ fn record_of(s: Site) -> Record
 
 // The extent of a record. Ranges stand first, since a pair of ranges is the common case; then what is past the other codes, so that the compiled loop
 // has no choice among three codes.
+#[tactic(auto, using(crate::proofs::Sites::extent_whole, crate::proofs::Sites::extent_range, crate::proofs::Sites::extent_dynamic, crate::proofs::Sites::extent_unknown))]
 fn extent_in(r: Record) -> Extent
     ensures { extent_of result ≡ extent_in r }
 {
