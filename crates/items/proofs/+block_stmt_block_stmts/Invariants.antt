@@ -12,9 +12,6 @@ use Rattle.items.proofs.+block_stmt_block_stmts.Given as goal
 abbrev pub decreases-block_stmt : goal.decreases-block_stmt
 decreases-block_stmt l = 2 * l.depth
 
-abbrev pub decreases-block_stmt : goal.decreases-block_stmt
-decreases-block_stmt l = 2 * l.kinds + 1
-
 abbrev pub decreases-block_stmts : goal.decreases-block_stmts
 decreases-block_stmts l = 2 * l.depth + 1
 
