@@ -4,13 +4,9 @@ use Rattle.std.specs.Prelude.{◌≡◌, ℕ, ◌≤◌, min, List, length, take
 use Rattle.input.specs.declared.Input.{Input}
 use Rattle.input.specs.declared.Input.TheVariants as input
 
--- n bytes at the front of a buffer lie in it, and there are n of them
-abbrev pub IsPrefixLen : ℕ → List ℕ → Type 0
-IsPrefixLen n xs = (n ≤ length xs) × (n ≡ length (take n xs))
-
 -- what is said to be read lies in the buffer; of a read that failed nothing is said
 abbrev pub Within : Input → List ℕ → Type 0
-Within (input.Read n) buf = IsPrefixLen n buf
+Within (input.Read n) buf = (n ≤ length buf) × (n ≡ length (take n buf))
 Within input.Failed buf = Unit
 
 -- what a read into that many places says by its answer: so many bytes, and no more than there are places; by an error, that it failed
