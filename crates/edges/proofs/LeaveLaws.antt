@@ -31,6 +31,7 @@ reads_then from [] ms g g₁ g' p q = subst (λ z. ReadsLeave from ms z g') p q
 reads_then from (n ∷ ns) ms g g₁ g' p q = (p.0, p.1, p.2, p.3, p.4, reads_then from ns ms p.3 g₁ g' p.5 q)
 
 full_first : (from : ℕ) (ns ms : List Node) (g : List ℕ) → FullAmong from ns g → FullAmong from (ns ++ ms) g
+full_first from [] ms g x' = elim x' [ ]
 full_first from (n ∷ ns) ms g (inl p) = inl p
 full_first from (n ∷ ns) ms g (inr p) = inr (p.0, p.1, p.2, p.3, p.4, full_first from ns ms p.3 p.5)
 

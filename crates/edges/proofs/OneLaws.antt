@@ -59,6 +59,7 @@ module _ (from : ℕ) where
       (subst (λ (z : List ℕ). ReadsLeave from ns z g'') (same_read g (one_node p.1 q.1) p.3 q.3 p.4 q.4) q.5)
 
   not_full : (ns : List Node) (g g' : List ℕ) → ReadsLeave from ns g g' → FullAmong from ns g → ⊥
+  not_full [] g g' p x'' = elim x'' [ ]
   not_full (n ∷ ns) g g' p (inl q) =
       not_read g p.0 from p.2 p.3 p.4 (subst (λ (z : declared.Node). ReadFull g from z) (sym (one_node p.1 q.1)) q.2)
   not_full (n ∷ ns) g g' p (inr q) =
@@ -130,6 +131,7 @@ module _ (q : ℕ → Reads) (v : Value) (x : Bytes) where
       one_outputs os p.0 g' g'' p.2 (subst (λ (z : List ℕ). OutputsLeave q os v x z g'') (same_output o g p.0 k.0 p.1 k.1) k.2)
 
   not_outputs : (os : List ℕ) (g g' : List ℕ) → OutputsLeave q os v x g g' → OutputsRefused q os v x g → ⊥
+  not_outputs [] g g' p x3 = elim x3 [ ]
   not_outputs (o ∷ os) g g' p (inl k) =
       not_head g p.1.0 (inst_start x) (q o) p.0 p.1.2
       (subst (λ (z : declared.Node). HeadRefused (q o) g z (inst_start x)) (one_node k.1 p.1.1) k.2)

@@ -12,6 +12,7 @@ use lib.Seq.{drop-cons}
 use lib.Dec.{T, eqb, ltb}
 use mir.Val.{has_key}
 use types.Run.{OneOf, miss}
+use borrow.Enum.Refused.{Among, opened}
 use denote.Enum.Declared.{tag_of}
 use borrow.Author.Tests.{eq-eqb, ne_eqb, lt-ltb, le-ltb, ltb-true, ltb-false, eqb-true, eqb-false}
 use Rattle.lines.specs.Bytes.{class_of, is_digit, is_word}
@@ -153,9 +154,9 @@ pub class_is : (b : ℕ) (r c : Class) → r ≡ class_of b → r ≡ c → Says
 class_is b r c q e = subst (λ (x : Class). Says x b) (sym q ∙ e) (says b)
 
 -- its last arm, for all classes that have none: what the byte is not
-module _ (ks : List ℕ) (b : ℕ) (r : Class) (q : r ≡ class_of b) (o : OneOf ks (tag_of the_type r)) where
+module _ (ks : List ℕ) (b : ℕ) (r : Class) (q : r ≡ class_of b) (o : Among ks (tag_of the_type r)) where
   pub not_class : (c : Class) → T (not (has_key ks (tag_of the_type c))) → c ≡ class_of b → ⊥
-  not_class c m e = miss ks (tag_of the_type c) m (subst (λ (x : Class). OneOf ks (tag_of the_type x)) (q ∙ sym e) o)
+  not_class c m e = miss ks (tag_of the_type c) m (subst (λ (x : Class). OneOf ks (tag_of the_type x)) (q ∙ sym e) (opened o))
 
   pub not_space : T (not (has_key ks 0)) → b ≡ 32 → ⊥
   not_space m e = not_class Space m (class_space b e)

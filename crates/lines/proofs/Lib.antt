@@ -1,4 +1,3 @@
-pub mod Again
 pub mod Answers
 pub mod Atoms
 pub mod Built

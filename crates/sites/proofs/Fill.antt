@@ -3,12 +3,12 @@ use mathlib.Core.Path.{◌≡◌, refl, sym, ap, subst, ◌∙◌}
 use mathlib.Core.Bool.{Bool, true, false, not}
 use mathlib.Core.List.{List, [], ◌∷◌, ◌++◌}
 use mathlib.Core.Option.{Option, some, none}
-use Prim.Native.Nat.{ℕ, zero, suc, ◌+◌, ◌-◌, ◌*◌, ◌<◌, ◌≤◌, ◌^◌}
+use Prim.Native.Nat.{ℕ, zero, suc, ◌+◌, ◌-◌, ◌<◌, ◌≤◌}
 use native.Mathlib.Omega.{arith}
 use native.Mathlib.Nat.{not-suc-le-zero, le_of_suc-le-suc}
 use native.Mathlib.Numerals.{add-one}
 use lib.Dec.{T as Holds, eqb, eqb→eq, ltb, ltb→lt, nltb→le}
-use lib.ListN.{length, set, take, replicate, length-set, length-take, length-replicate}
+use lib.ListN.{length, set, take, replicate, length-set, length-replicate}
 use borrow.Author.Tests.{eq-eqb}
 use Rattle.spec.specs.Refusal.{has_name}
 use Rattle.spec.specs.Site.{Site, Conflict, sites_of, meets_any, first_conflict}
@@ -127,14 +127,10 @@ none_found (found.At x) e = absurd (differ e)
     differ z = let y : ◌≡◌ {A = ℕ} 1 0 = ap (λ (o : Option ℕ). elim o [ some _ ↦ 1 | none ↦ 0 ]) z in omega arith
 none_found found.Nothing e = refl
 
--- where the walk stands: the row that is next, how many records are stored, and the run, which has N
-pub record Filling (N n : ℕ) (own : List ℕ) : Type 0 where
-  pub at : ℕ
-  pub count : ℕ
+-- where the loop stands: the row that is next is `at`, and `count` records are stored in a run of N
+pub record Filling (N n : ℕ) (own : List ℕ) (at count : ℕ) (all : List Record) : Type 0 where
   pub from : ℕ
-  pub all : List Record
   pub size : length all ≡ N
-  pub at_fits : at < 2 ^ 64
   pub few : count ≤ from
   pub within : from ≤ N
   pub next : NextSite n own from at
@@ -142,91 +138,66 @@ pub record Filling (N n : ℕ) (own : List ℕ) : Type 0 where
   pub empty : ¬ (length own ≡ places) → count ≡ 0
 
 module _ (N : ℕ) (small : N ≤ 1024) (n : ℕ) (own : List ℕ) where
-  pub begun_told : sites_in (take 0 (replicate N blank)) ++ sites_from n own 0 ≡ sites_from n own 0
+  begun_told : sites_in (take 0 (replicate N blank)) ++ sites_from n own 0 ≡ sites_from n own 0
   unfolding sites_in
   begun_told = refl
 
-  abbrev pub begun : (i : ℕ) → i < 2 ^ 64 → NextSite n own 0 i → Filling N n own
-  begun i g h = record { at = i; count = 0; from = 0; all = replicate N blank; size = length-replicate N blank; at_fits = g; few = omega arith; within = omega arith; next = h; told = λ _. begun_told; empty = λ _. refl }
+  pub begun : (i : ℕ) → NextSite n own 0 i → Filling N n own i 0 (replicate N blank)
+  begun i next = record { from = 0; size = length-replicate N blank; few = omega arith; within = omega arith; next = next; told = λ _. begun_told; empty = λ _. refl }
 
-  module _ (w : Filling N n own) where
-    pub below : w.at < N → w.at < 1024
+  module _ (at count : ℕ) (all : List Record) (w : Filling N n own at count all) where
+    below : at < N → at < 1024
     below h = omega (arith, h, small)
 
-    pub room_left : w.at < N → w.count < length w.all
+    pub room_left : at < N → count < length all
     room_left h = omega (arith, w.size, w.few, (w.next.here (below h)).1)
 
-    pub last_fits : w.at < N → w.at + 1 < 2 ^ 64
-    last_fits h = omega (arith, h, small)
+    pub count_few : count ≤ N
+    count_few = omega (arith, w.few, w.within)
 
-    pub count_fits : w.count < 2 ^ 64
-    count_fits = omega (arith, w.few, w.within, small)
-
-    pub more_fits : w.count + 1 < 2 ^ 64
-    more_fits = omega (arith, w.few, w.within, small)
-
-    pub told_more : (h : w.at < N) (s : declared.Site) → site_of s ≡ site_row own w.at → length own ≡ places → sites_in (take (w.count + 1) (set w.all w.count (record_of s))) ++ sites_from n own (w.at + 1) ≡ sites_from n own 0
+    told_more : (h : at < N) (s : declared.Site) → site_of s ≡ site_row own at → length own ≡ places → sites_in (take (count + 1) (set all count (record_of s))) ++ sites_from n own (at + 1) ≡ sites_from n own 0
     told_more h s is e =
-        ap (λ (l : List Site). l ++ sites_from n own (w.at + 1)) (ap (λ (j : ℕ). sites_in (take j (set w.all w.count (record_of s)))) (add-one w.count) ∙ ap sites_in (take_set w.all w.count (record_of s) (room_left h)) ∙ sites_both (take w.count w.all) (record_of s ∷ []) ∙ ap (λ (l : List Site). sites_in (take w.count w.all) ++ l) (one_more s ∙ ap (λ (t : Site). t ∷ []) is))
-        ∙ append_one (sites_in (take w.count w.all)) (site_row own w.at) (sites_from n own (w.at + 1))
-        ∙ ap (λ (l : List Site). sites_in (take w.count w.all) ++ l) (sym (w.next.here (below h)).3) ∙ w.told e
+        ap (λ (l : List Site). l ++ sites_from n own (at + 1)) (ap (λ (j : ℕ). sites_in (take j (set all count (record_of s)))) (add-one count) ∙ ap sites_in (take_set all count (record_of s) (room_left h)) ∙ sites_both (take count all) (record_of s ∷ []) ∙ ap (λ (l : List Site). sites_in (take count all) ++ l) (one_more s ∙ ap (λ (t : Site). t ∷ []) is))
+        ∙ append_one (sites_in (take count all)) (site_row own at) (sites_from n own (at + 1))
+        ∙ ap (λ (l : List Site). sites_in (take count all) ++ l) (sym (w.next.here (below h)).3) ∙ w.told e
 
-    abbrev pub more : (h : w.at < N) (s : declared.Site) → (length own ≡ places → w.at < 1024 → site_of s ≡ site_row own w.at) → (i : ℕ) → i < 2 ^ 64 → NextSite n own (w.at + 1) i → Filling N n own
-    more h s is i g d = record {
-      at = i;
-      count = w.count + 1;
-      from = w.at + 1;
-      all = set w.all w.count (record_of s);
-      size = length-set w.all w.count (record_of s) ∙ w.size;
-      at_fits = g;
+    -- a site more is stored, and the row that is next is another
+    pub more : (h : at < N) (s : declared.Site) → (length own ≡ places → at < 1024 → site_of s ≡ site_row own at) → (i : ℕ) → NextSite n own (at + 1) i → Filling N n own i (count + 1) (set all count (record_of s))
+    more h s is i next = record {
+      from = at + 1;
+      size = length-set all count (record_of s) ∙ w.size;
       few = omega (arith, w.few, (w.next.here (below h)).1);
       within = omega (arith, h);
-      next = d;
+      next = next;
       told = λ e. told_more h s (is e (below h)) e;
       empty = λ z. absurd (z (w.next.here (below h)).0);
     }
 
     -- the row that is next lies further on
-    pub further : w.at < N → (i : ℕ) → NextSite n own (w.at + 1) i → N - i < N - w.at
+    pub further : at < N → (i : ℕ) → NextSite n own (at + 1) i → N - i < N - at
     further h i d = by_test (ltb i N) refl
       where
-        by_test : (z : Bool) → ltb i N ≡ z → N - i < N - w.at
+        by_test : (z : Bool) → ltb i N ≡ z → N - i < N - at
         by_test true e = let l : i < N = ltb→lt i N (subst Holds (sym e) tt) in let g : i < 1024 = omega (arith, l, small) in omega (arith, h, l, (d.here g).1)
         by_test false e = let l : N ≤ i = nltb→le i N (subst (λ (u : Bool). Holds (not u)) (sym e) tt) in omega (arith, h, l)
 
-    -- the part that is stored
-    pub part_length : w.count ≡ length (take w.count w.all)
-    part_length = let e = length-take w.count w.all in omega (arith, e, w.size, w.few, w.within, small)
-
-    pub part_fits : length (take w.count w.all) < 2 ^ 64
-    part_fits = omega (arith, part_length, w.few, w.within, small)
-
-    pub part_room : length (take w.count w.all) * 20 < 2 ^ 63
-    part_room = omega (arith, part_length, w.few, w.within, small)
-
-    pub all_fits : length w.all < 2 ^ 64
-    all_fits = omega (arith, w.size, small)
-
-    pub all_room : length w.all * 20 < 2 ^ 63
-    all_room = omega (arith, w.size, small)
-
     -- no row that is left has a site of the name
-    none_left : ¬ (w.at < N) → length own ≡ places → rows_in site_table own ≤ N → sites_from n own w.from ≡ []
+    none_left : N ≤ at → length own ≡ places → rows_in site_table own ≤ N → sites_from n own w.from ≡ []
     none_left b e r = w.next.none (λ l. no (w.next.here l).2) e
       where
-        no : w.at < rows_in site_table own → ⊥
-        no l = b (omega (arith, l, r))
+        no : at < rows_in site_table own → ⊥
+        no l = omega (arith, l, r, b)
 
-    stored_all : ¬ (w.at < N) → length own ≡ places → rows_in site_table own ≤ N → sites_in (take w.count w.all) ≡ sites_from n own 0
-    stored_all b e r = sym (append_none (sites_in (take w.count w.all))) ∙ ap (λ (l : List Site). sites_in (take w.count w.all) ++ l) (sym (none_left b e r)) ∙ w.told e
+    stored_all : N ≤ at → length own ≡ places → rows_in site_table own ≤ N → sites_in (take count all) ≡ sites_from n own 0
+    stored_all b e r = sym (append_none (sites_in (take count all))) ∙ ap (λ (l : List Site). sites_in (take count all) ++ l) (sym (none_left b e r)) ∙ w.told e
 
     of_own : sites_from n own 0 ≡ sites_of n (own_of own).sites
     unfolding own_of
     of_own = of_all n own
 
-    of_none : (k : ℕ) → k ≡ 0 → Sought (take k w.all) ≡ none
+    of_none : (k : ℕ) → k ≡ 0 → Sought (take k all) ≡ none
     unfolding sites_in first_conflict
-    of_none k e = ap (λ (j : ℕ). Sought (take j w.all)) e
+    of_none k e = ap (λ (j : ℕ). Sought (take j all)) e
 
-    pub finished : ¬ (w.at < N) → (r : Found) → found_of r ≡ Sought (take w.count w.all) → NameConflict N n own r
-    finished b r s = (λ e g. s ∙ ap (first_conflict []) (stored_all b e g ∙ of_own), λ z. none_found r (s ∙ of_none w.count (w.empty z)))
+    pub finished : N ≤ at → (r : Found) → found_of r ≡ Sought (take count all) → NameConflict N n own r
+    finished b r s = (λ e g. s ∙ ap (first_conflict []) (stored_all b e g ∙ of_own), λ z. none_found r (s ∙ of_none count (w.empty z)))

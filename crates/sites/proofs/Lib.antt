@@ -11,7 +11,5 @@ pub mod Kept
 pub mod Reports
 pub mod Room
 pub mod Store
-pub mod Row
 pub mod Search
 pub mod Fill
-pub mod Walk

@@ -1,6 +1,4 @@
 // A lent run of records, each a drive site in numbers: a site is stored among them, and the first conflict of a name is found.
-// The kit writes no part of the proof of a function over a slice of structs, so those here are few: each is proved by hand, step by step
-// along its compiled code, and leaves making a record and testing two to functions on records by value.
 ghost use Rattle.std.specs.Prelude.{◌≡◌, [], length, set, ltb};
 ghost use Rattle.spec.specs.Site as site;
 ghost use Rattle.sites.specs.Own.{extent_of, site_of, found_of};
@@ -34,6 +32,7 @@ fn record_of(s: Site) -> Record
 
 // The extent of a record. Ranges stand first, since a pair of ranges is the common case; then what is past the other codes, so that the compiled loop
 // has no choice among three codes.
+#[tactic(auto, using(crate::proofs::Sites::extent_whole, crate::proofs::Sites::extent_range, crate::proofs::Sites::extent_dynamic, crate::proofs::Sites::extent_unknown))]
 fn extent_in(r: Record) -> Extent
     ensures { extent_of result ≡ extent_in r }
 {

@@ -1,0 +1,12 @@
+use Rattle.consteval.specs.Fill.{vals_of}
+use Rattle.spec.specs.Refusal.{lines}
+use lib.ListN.{length, drop}
+use mathlib.Core.Path.{◌≡◌}
+use Prim.Native.Nat.{◌-◌}
+use Rattle.consteval.proofs.fill.fill_vals.Given as goal
+
+abbrev pub invariant-loop-at : goal.invariant-loop-at
+invariant-loop-at l = (length l.names ≡ length l.initial.names) × (vals_of (lines l.s) l.initial.names 0 ≡ vals_of (lines (drop l.at l.s)) l.names l.used)
+
+abbrev pub decreases-loop-at : goal.decreases-loop-at
+decreases-loop-at l = length l.s - l.at

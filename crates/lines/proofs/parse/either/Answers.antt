@@ -1,0 +1,11 @@
+use borrow.Author.Tests.{eq-eqb, ne_eqb}
+use Rattle.lines.specs.Parse.{either}
+use Rattle.lines.proofs.parse.either.Goals as goal
+
+pub returns-then-key-a : goal.returns-then-key-a
+unfolding either
+returns-then-key-a c = rw (eq-eqb _ _ c.if-key-a.true, either)
+
+pub returns : goal.returns
+unfolding either
+returns c = rw (ne_eqb _ _ c.if-key-a.false, either)

@@ -1,0 +1,35 @@
+use mathlib.Core.Path.{refl}
+use Rattle.lines.specs.declared.read.Verdict.TheVariants.{Refused}
+use Rattle.lines.proofs.Turns.{text_long, text_set}
+use Rattle.lines.proofs.Answers.{numbered, short_kinds, short_mods, read_refused, pass_fitting, pass_refused, pass_accepted}
+use Rattle.lines.proofs.reader.read_text.Goals as goal
+
+pub returns-then-kinds-lt-KINDS : goal.returns-then-kinds-lt-KINDS
+returns-then-kinds-lt-KINDS c =
+    let r = numbered c.args.text.now c.args.kinds.now c.args.mods.now _ _ _ (short_kinds c.args.text.now c.args.kinds.now c.args.mods.now c.if-kinds-lt-KINDS.true) in record { value = r.0; kinds_after = r.1.0; mods_after = r.1.1.0; result_value = r.1.1.1.0; result_value_2 = r.1.1.1.1 }
+
+pub returns-then-mods-lt-MODS : goal.returns-then-mods-lt-MODS
+returns-then-mods-lt-MODS c =
+    let r = numbered c.args.text.now c.args.kinds.now c.args.mods.now _ _ _ (short_mods c.args.text.now c.args.kinds.now c.args.mods.now c.if-kinds-lt-KINDS.false c.if-mods-lt-MODS.true) in record { value = r.0; kinds_after = r.1.0; mods_after = r.1.1.0; result_value = r.1.1.1.0; result_value_2 = r.1.1.1.1 }
+
+pub returns-then-text-gt-TEXT : goal.returns-then-text-gt-TEXT
+returns-then-text-gt-TEXT c =
+    let r = numbered c.args.text.now c.args.kinds.now c.args.mods.now _ _ _ (read_refused c.args.text.now c.args.kinds.now c.args.mods.now c.if-kinds-lt-KINDS.false c.if-mods-lt-MODS.false (Refused 1 0) (text_long c.args.text.now c.if-text-gt-TEXT.true) c.clear_bytes.new.s c.clear_mods.new.s c.clear_bytes.ensures c.clear_mods.ensures 1 0 refl) in record { value = r.0; kinds_after = r.1.0; mods_after = r.1.1.0; result_value = r.1.1.1.0; result_value_2 = r.1.1.1.1 }
+
+pub set_line-bad-requires : goal.set_line-bad-requires
+set_line-bad-requires c = c.if-text-gt-TEXT.false
+
+pub returns-then-bad-ne0 : goal.returns-then-bad-ne0
+returns-then-bad-ne0 c =
+    let r = numbered c.args.text.now c.args.kinds.now c.args.mods.now _ _ _ (read_refused c.args.text.now c.args.kinds.now c.args.mods.now c.if-kinds-lt-KINDS.false c.if-mods-lt-MODS.false (Refused 2 c.set_line-bad.result) (text_set c.args.text.now _ c.if-text-gt-TEXT.false c.set_line-bad.ensures c.if-bad-ne0.true) c.clear_bytes.new.s c.clear_mods.new.s c.clear_bytes.ensures c.clear_mods.ensures 2 c.set_line-bad.result refl) in record { value = r.0; kinds_after = r.1.0; mods_after = r.1.1.0; result_value = r.1.1.1.0; result_value_2 = r.1.1.1.1 }
+
+pub fill-requires : goal.fill-requires
+fill-requires c = (refl, pass_fitting c.args.text.now c.args.kinds.now c.args.mods.now c.if-kinds-lt-KINDS.false c.if-mods-lt-MODS.false c.if-text-gt-TEXT.false _ c.set_line-bad.ensures c.if-bad-ne0.false c.clear_bytes.new.s c.clear_mods.new.s c.clear_bytes.ensures c.clear_mods.ensures)
+
+pub returns-in-Refused : goal.returns-in-Refused
+returns-in-Refused c =
+    let r = numbered c.args.text.now c.args.kinds.now c.args.mods.now _ _ _ (pass_refused c.args.text.now c.args.kinds.now c.args.mods.now c.if-kinds-lt-KINDS.false c.if-mods-lt-MODS.false c.if-text-gt-TEXT.false _ c.set_line-bad.ensures c.if-bad-ne0.false c.clear_bytes.new.s c.clear_mods.new.s c.clear_bytes.ensures c.clear_mods.ensures c.fill.result _ _ c.fill.ensures c.in-Refused.k c.in-Refused.n c.in-Refused.is c.fill.auto.kinds c.fill.auto.mods _ _ c.clear_bytes-in-Refused.ensures c.clear_mods-in-Refused.ensures) in record { value = r.0; kinds_after = r.1.0; mods_after = r.1.1.0; result_value = r.1.1.1.0; result_value_2 = r.1.1.1.1 }
+
+pub returns-in-Formed : goal.returns-in-Formed
+returns-in-Formed c =
+    let r = numbered c.args.text.now c.args.kinds.now c.args.mods.now _ _ _ (pass_accepted c.args.text.now c.args.kinds.now c.args.mods.now c.if-kinds-lt-KINDS.false c.if-mods-lt-MODS.false c.if-text-gt-TEXT.false _ c.set_line-bad.ensures c.if-bad-ne0.false c.clear_bytes.new.s c.clear_mods.new.s c.clear_bytes.ensures c.clear_mods.ensures c.fill.result _ _ c.fill.ensures c.in-Formed.m c.in-Formed.is) in record { value = r.0; kinds_after = r.1.0; mods_after = r.1.1.0; result_value = r.1.1.1.0; result_value_2 = r.1.1.1.1 }
