@@ -54,7 +54,13 @@ fn print_conflicts(rt: &impl Print, own: &[u32]) -> io::Result<()> {
     Ok(())
 }
 
-fn print_coverage(rt: &impl Print, own: &[u32], name: u32, start: u32, width: u32) -> io::Result<()> {
+fn print_coverage(
+    rt: &impl Print,
+    own: &[u32],
+    name: u32,
+    start: u32,
+    width: u32,
+) -> io::Result<()> {
     match sites::cover_of(own, name) {
         Cover::Never => print_report(rt, start, name, Detail::Never),
         Cover::Open => Ok(()),
