@@ -7,8 +7,11 @@ mod run;
 
 ghost use Rattle.std.specs.Prelude.{◌≡◌, length};
 
-use libc::STDOUT_FILENO;
+use input::Input;
 use run::Tally;
+use std::io::Read;
+use std::rt::Files;
+use std::{env, fs, io};
 
 // More than the largest file has.
 const FILE: usize = 1048576;
@@ -27,28 +30,28 @@ fn buffer() -> [u8; FILE]
     [0; FILE]
 }
 
-fn run_open(fd: i32) -> Tally {
-    let mut file = buffer();
-    let n = io::read_full(fd, &mut file);
+fn run_open(rt: &(impl Print + Eprint), path: &str, file: &mut impl Read) -> Tally {
+    let mut bytes = buffer();
+    let Input::Read(n) = input::read_all(file, &mut bytes) else {
+        let _ = eprintln!(rt; "{path}: cannot be read");
+        return unread();
+    };
     if n == FILE {
-        io::write_all(STDOUT_FILENO, b"too long\n");
+        let _ = rt.println("too long");
         return unread();
     }
-    run::run(&file[..n])
+    run::run(rt, &bytes[..n])
 }
 
-// The file that argument i names.
-fn run_file(i: usize) -> Tally {
-    let mut path = io::buffer();
-    let n = os::arg(i, &mut path);
-    let fd = os::open_read(&path[..n]);
-    if fd < 0 {
-        os::fail(&path[..n]);
-        return unread();
+// The file of that name.
+fn run_file(rt: &(impl Files + Print + Eprint), path: &str) -> Tally {
+    match fs::open(rt, path) {
+        Ok(mut file) => run_open(rt, path, &mut file),
+        Err(e) => {
+            let _ = eprintln!(rt; "{path}: {e}");
+            unread()
+        }
     }
-    let t = run_open(fd);
-    libc::close(fd);
-    t
 }
 
 fn plus(a: u64, b: usize) -> u64 {
@@ -59,23 +62,17 @@ fn plus(a: u64, b: usize) -> u64 {
     }
 }
 
-fn print_counts(cases: u64, different: u64) {
-    io::print_decimal(STDOUT_FILENO, cases);
-    io::write_all(STDOUT_FILENO, b" cases, ");
-    io::print_decimal(STDOUT_FILENO, different);
-    io::write_all(STDOUT_FILENO, b" different\n");
+fn print_counts(rt: &impl Print, cases: u64, different: u64) -> io::Result<()> {
+    println!(rt; "{cases} cases, {different} different")
 }
 
-fn main() {
-    let n = os::arg_count();
+fn main(rt: HostRuntime) -> io::Result<()> {
     let mut cases: u64 = 0;
     let mut different: u64 = 0;
-    let mut i = 1;
-    while i < n {
-        let t = run_file(i);
+    for path in env::args(&rt)?.skip(1) {
+        let t = run_file(&rt, path.as_str());
         cases = plus(cases, t.cases);
         different = plus(different, t.different);
-        i += 1;
     }
-    print_counts(cases, different);
+    print_counts(&rt, cases, different)
 }

@@ -6,7 +6,6 @@ ghost use Rattle.cases.specs.Answer.{agrees};
 
 use crate::record;
 use crate::record::Record;
-use libc::STDOUT_FILENO;
 use lines::bytes::at8;
 use lines::parts::{between, rest};
 
@@ -17,35 +16,40 @@ pub struct Tally {
     pub different: usize,
 }
 
-fn print_answer(s: &[u8]) {
-    if s.len() == 0 {
-        io::write_all(STDOUT_FILENO, b"nothing\n");
-        return;
-    }
-    io::write_all(STDOUT_FILENO, s);
+// What cannot be written is left out: it changes no count.
+fn print(rt: &impl Print, s: &[u8]) {
+    let _ = rt.write_all(s);
 }
 
-fn print_different(name: &[u8], wanted: &[u8], answered: &[u8]) {
-    io::write_all(STDOUT_FILENO, b"different: ");
-    io::write_all(STDOUT_FILENO, name);
-    io::write_all(STDOUT_FILENO, b"\nexpected: ");
-    print_answer(wanted);
-    io::write_all(STDOUT_FILENO, b"answered: ");
-    print_answer(answered);
+fn print_answer(rt: &impl Print, s: &[u8]) {
+    if s.len() == 0 {
+        print(rt, b"nothing\n");
+        return;
+    }
+    print(rt, s);
+}
+
+fn print_different(rt: &impl Print, name: &[u8], wanted: &[u8], answered: &[u8]) {
+    print(rt, b"different: ");
+    print(rt, name);
+    print(rt, b"\nexpected: ");
+    print_answer(rt, wanted);
+    print(rt, b"answered: ");
+    print_answer(rt, answered);
 }
 
 // The ten cases of the scope, P1 to P10, are printed with their lists; no other name begins so.
-fn print_worked(name: &[u8], answered: &[u8]) {
+fn print_worked(rt: &impl Print, name: &[u8], answered: &[u8]) {
     if at8(name, 0) != b'P' {
         return;
     }
-    io::write_all(STDOUT_FILENO, name);
-    io::write_all(STDOUT_FILENO, b":\n");
-    print_answer(answered);
+    print(rt, name);
+    print(rt, b":\n");
+    print_answer(rt, answered);
 }
 
-fn print_bad() {
-    io::write_all(STDOUT_FILENO, b"not a case\n");
+fn print_bad(rt: &impl Print) {
+    print(rt, b"not a case\n");
 }
 
 // Whether two runs of bytes are the same.
@@ -66,22 +70,22 @@ fn same(a: &[u8], b: &[u8]) -> bool
 }
 
 // Whether what is printed for a text is the stored answer, byte for byte. Prints it where it is not.
-fn compare(name: &[u8], text: &[u8], stored: &[u8]) -> bool
+fn compare(rt: &impl Print, name: &[u8], text: &[u8], stored: &[u8]) -> bool
     ensures { result ≡ agrees text.now stored.now }
 {
     let mut out = [0u8; program::REPORT];
     let n = program::print_to(text, &mut out);
     let answered = &out[..n];
     if same(answered, stored) {
-        print_worked(name, answered);
+        print_worked(rt, name, answered);
         return true;
     }
-    print_different(name, stored, answered);
+    print_different(rt, name, stored, answered);
     false
 }
 
 // The cases of a file.
-pub fn run(s: &[u8]) -> Tally
+pub fn run(rt: &impl Print, s: &[u8]) -> Tally
     ensures { result ≡ tally (file_of s.now) }
 {
     let mut t = s;
@@ -90,7 +94,7 @@ pub fn run(s: &[u8]) -> Tally
     while 0 < t.len() {
         match record::record_of(t) {
             Record::Bad => {
-                print_bad();
+                print_bad(rt);
                 return Tally {
                     cases,
                     different: different + 1,
@@ -105,6 +109,7 @@ pub fn run(s: &[u8]) -> Tally
                 let next = body + text + answer;
                 cases += 1;
                 if compare(
+                    rt,
                     between(t, 5, name),
                     record::first(rest(t, body), text),
                     record::first(rest(t, body + text), answer),

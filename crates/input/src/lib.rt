@@ -1,9 +1,12 @@
-// Standard input as a whole. A read that fails is told from the end of the input, so that no part of a text
+// Standard input as a whole, from any reader. A read that fails is told from the end of the input, so that no part of a text
 // is taken for all of it. No contract can say what is read: these say what an answer means and how much of the buffer it takes.
 #![tactic(auto)]
 
 ghost use Rattle.std.specs.Prelude.{◌≡◌, length};
 ghost use Rattle.input.specs.Input.{Within, answer};
+
+use std::io;
+use std::io::Read;
 
 // How many bytes stand at the front of the buffer; or a read failed.
 #[derive(Clone, Copy)]
@@ -13,33 +16,33 @@ pub enum Input {
 }
 
 // What a read into the buffer answered.
-fn answered(got: isize, buf: &[u8]) -> Input
+fn answered(got: io::Result<usize>, buf: &[u8]) -> Input
     ensures value { result ≡ answer got (length buf.now) }
     ensures within { Within result buf.now }
 {
-    if got < 0 {
-        return Input::Failed;
+    match got {
+        Ok(n) => Input::Read(n.min(buf.len())),
+        Err(_) => Input::Failed,
     }
-    Input::Read(io::count(got, buf))
 }
 
 // One read: 0 bytes at the end of the input, and where the buffer has no place.
-fn read_some(buf: &mut [u8]) -> Input
+fn read_some<R: Read>(reader: &mut R, buf: &mut [u8]) -> Input
     ensures within { Within result buf.new }
     ensures buf_len_unchanged { length buf.new ≡ length buf.old }
 {
-    let got = libc::read(libc::STDIN_FILENO, buf);
+    let got = reader.read(buf);
     answered(got, buf)
 }
 
 // Reads until the buffer is full or the input ends.
-fn fill(buf: &mut [u8]) -> Input
+fn fill<R: Read>(reader: &mut R, buf: &mut [u8]) -> Input
     ensures within { Within result buf.new }
     ensures buf_len_unchanged { length buf.new ≡ length buf.old }
 {
     let mut done: usize = 0;
     while done < buf.len() {
-        let Input::Read(n) = read_some(&mut buf[done..]) else {
+        let Input::Read(n) = read_some(reader, &mut buf[done..]) else {
             return Input::Failed;
         };
         if n == 0 {
@@ -51,12 +54,12 @@ fn fill(buf: &mut [u8]) -> Input
 }
 
 // Reads what is left and keeps none of it: was the end reached? By fewer than 2^64 reads, since a loop without an end has no proof.
-fn drain() -> bool {
-    let mut rest = io::buffer();
+fn drain<R: Read>(reader: &mut R) -> bool {
+    let mut rest = [0u8; 4096];
     let mut left: u64 = 18446744073709551615;
     while 0 < left {
         left -= 1;
-        let Input::Read(n) = read_some(&mut rest) else {
+        let Input::Read(n) = read_some(reader, &mut rest) else {
             return false;
         };
         if n == 0 {
@@ -67,17 +70,17 @@ fn drain() -> bool {
 }
 
 // Reads standard input to its end, so that whoever writes it is not cut off, and keeps what the buffer holds of it.
-pub fn read_all(buf: &mut [u8]) -> Input
+pub fn read_all<R: Read>(reader: &mut R, buf: &mut [u8]) -> Input
     ensures within { Within result buf.new }
     ensures buf_len_unchanged { length buf.new ≡ length buf.old }
 {
-    let Input::Read(n) = fill(buf) else {
+    let Input::Read(n) = fill(reader, buf) else {
         return Input::Failed;
     };
     if n < buf.len() {
         return Input::Read(n);
     }
-    if drain() {
+    if drain(reader) {
         return Input::Read(n);
     }
     Input::Failed

@@ -4,34 +4,35 @@
 use input::Input;
 use lines::read::Verdict;
 use report::Put;
+use std::io;
 
 // Longer than any such line: 10 digits for each number.
-fn print_refused(number: u32, line: u32) {
+fn print_refused(rt: &impl Print, number: u32, line: u32) -> io::Result<()> {
     let mut out = [0u8; 40];
     match report::put_refused(&mut out, 0, number, line) {
         Put::At(n) => {
             if n <= 40 {
-                io::write_all(libc::STDOUT_FILENO, &out[..n]);
+                rt.write_all(&out[..n])?;
             }
         }
         Put::Full => {}
     }
+    Ok(())
 }
 
-fn print_verdict(text: &[u8]) {
+fn print_verdict(rt: &impl Print, text: &[u8]) -> io::Result<()> {
     match lines::reader::read(text) {
-        Verdict::Refused(number, line) => print_refused(number, line),
-        Verdict::Formed(_) => {}
+        Verdict::Refused(number, line) => print_refused(rt, number, line),
+        Verdict::Formed(_) => Ok(()),
     }
 }
 
 // The buffer holds more than the longest text, so that one that is too long is seen to be.
-fn main() {
-    let mut text = io::large_buffer();
-    match input::read_all(&mut text) {
-        Input::Read(n) => print_verdict(&text[..n]),
-        Input::Failed => {
-            io::write_all(libc::STDOUT_FILENO, b"(unread)\n");
-        }
+fn main(rt: HostRuntime) -> io::Result<()> {
+    let mut text = [0u8; 65536];
+    let mut reader = rt.stdin();
+    match input::read_all(&mut reader, &mut text) {
+        Input::Read(n) => print_verdict(&rt, &text[..n]),
+        Input::Failed => rt.write_all(b"(unread)\n"),
     }
 }

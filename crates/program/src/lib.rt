@@ -1,8 +1,7 @@
 // What the program prints for a text: its reports, or `(refused NUMBER LINE)`.
 #![tactic(auto)]
 
-ghost use Rattle.std.specs.Prelude.{◌≡◌, take, drop};
-ghost use Rattle.io.specs.Counts.{IsPrefixLen};
+ghost use Rattle.std.specs.Prelude.{◌≡◌, ◌≤◌, length, take, drop};
 ghost use Rattle.spec.specs.Cases.{Prints};
 ghost use Rattle.report.specs.Line.{refused_line};
 
@@ -14,7 +13,7 @@ pub const REPORT: usize = 65536;
 // A refusal at the front of the buffer: how many bytes it has; the others stay.
 fn put_refused(number: u32, line: u32, out: &mut [u8; REPORT]) -> usize
     ensures out_after { take result out.new ≡ refused_line number line }
-    ensures prefix_len { IsPrefixLen result out.new }
+    ensures prefix_len { (result ≤ length out.new) × (result ≡ length (take result out.new)) }
     ensures out_unchanged { drop result out.new ≡ drop result out.old }
 {
     let n = report::count_refused(number, line);
@@ -26,7 +25,7 @@ fn put_refused(number: u32, line: u32, out: &mut [u8; REPORT]) -> usize
 // for, and the graph 1,024 more, for hints.
 pub fn print_to(text: &[u8], out: &mut [u8; REPORT]) -> usize
     ensures prints { Prints text.now (take result out.new) }
-    ensures prefix_len { IsPrefixLen result out.new }
+    ensures prefix_len { (result ≤ length out.new) × (result ≡ length (take result out.new)) }
     ensures out_unchanged { drop result out.new ≡ drop result out.old }
 {
     let mut kinds = [0u8; 8192];

@@ -4,6 +4,7 @@
 
 use report::{Detail, Put, Report};
 use sites::{Cover, Extent, Found, Site};
+use std::io;
 
 // The output's name and the START of its line, the same in all of these cases.
 const NAME: u32 = 2;
@@ -13,7 +14,7 @@ const LINE: u32 = 10;
 // A value v of a constant is held as v + 2147483648.
 const ZERO: u32 = 2147483648;
 
-fn print_report(start: u32, name: u32, detail: Detail) {
+fn print_report(rt: &impl Print, start: u32, name: u32, detail: Detail) -> io::Result<()> {
     let mut out = [0u8; 60];
     let x = Report {
         number: 0,
@@ -24,11 +25,12 @@ fn print_report(start: u32, name: u32, detail: Detail) {
     match report::put_report(&mut out, 0, x) {
         Put::At(n) => {
             if n <= 60 {
-                io::write_all(libc::STDOUT_FILENO, &out[..n]);
+                rt.write_all(&out[..n])?;
             }
         }
         Put::Full => {}
     }
+    Ok(())
 }
 
 fn drive(own: &mut [u32], extent: Extent, start: u32) {
@@ -41,41 +43,49 @@ fn drive(own: &mut [u32], extent: Extent, start: u32) {
 }
 
 // The conflicts, in order.
-fn print_conflicts(own: &[u32]) {
+fn print_conflicts(rt: &impl Print, own: &[u32]) -> io::Result<()> {
     let n = sites::conflict_count(own);
     let mut i: usize = 0;
     while i < n {
         let c = sites::conflict_at(own, i);
-        print_report(c.start, c.name, Detail::Many);
+        print_report(rt, c.start, c.name, Detail::Many)?;
         i += 1;
     }
+    Ok(())
 }
 
-fn print_coverage(own: &[u32], name: u32, start: u32, width: u32) {
+fn print_coverage(
+    rt: &impl Print,
+    own: &[u32],
+    name: u32,
+    start: u32,
+    width: u32,
+) -> io::Result<()> {
     match sites::cover_of(own, name) {
-        Cover::Never => print_report(start, name, Detail::Never),
-        Cover::Open => {}
+        Cover::Never => print_report(rt, start, name, Detail::Never),
+        Cover::Open => Ok(()),
         Cover::Ranges => match sites::first_gap(own, name, width) {
-            Found::At(b) => print_report(start, name, Detail::Gap(b)),
-            Found::Nothing => {}
+            Found::At(b) => print_report(rt, start, name, Detail::Gap(b)),
+            Found::Nothing => Ok(()),
         },
     }
 }
 
-fn print_reports(own: &mut [u32], width: u32) {
+fn print_reports(rt: &impl Print, own: &mut [u32], width: u32) -> io::Result<()> {
     sites::find_conflicts(own);
-    print_conflicts(own);
+    print_conflicts(rt, own)?;
     let o = sites::output_at(own, 0);
     if sites::poisoned(own, o.name) {
-        return;
+        return Ok(());
     }
-    print_coverage(own, o.name, o.start, width);
+    print_coverage(rt, own, o.name, o.start, width)
 }
 
-fn begin(own: &mut [u32], name: &[u8]) {
-    io::write_all(libc::STDOUT_FILENO, name);
+fn begin(rt: &impl Print, own: &mut [u32], name: &[u8]) -> io::Result<()> {
+    rt.write_all(name)?;
     sites::clear(own);
     sites::add_output(own, NAME, LINE, 0, 0);
+    Ok(())
 }
 
 // The bits from high to low, both known.
@@ -83,24 +93,24 @@ fn bits(high: u16, low: u16) -> Extent {
     sites::range_extent(true, true, ZERO + high as u32, true, ZERO + low as u32)
 }
 
-fn main() {
+fn main(rt: HostRuntime) -> io::Result<()> {
     let mut own = [0u32; 11016];
-    begin(&mut own, b"P3\n");
+    begin(&rt, &mut own, b"P3\n")?;
     drive(&mut own, bits(3, 0), 20);
     drive(&mut own, bits(5, 3), 30);
-    print_reports(&mut own, 6);
-    begin(&mut own, b"P4\n");
+    print_reports(&rt, &mut own, 6)?;
+    begin(&rt, &mut own, b"P4\n")?;
     drive(&mut own, bits(3, 0), 20);
     drive(&mut own, bits(5, 4), 30);
-    print_reports(&mut own, 6);
-    begin(&mut own, b"P5\n");
+    print_reports(&rt, &mut own, 6)?;
+    begin(&rt, &mut own, b"P5\n")?;
     drive(&mut own, sites::bit_extent(false, false, 0), 20);
     drive(&mut own, Extent::Whole, 30);
-    print_reports(&mut own, 6);
-    begin(&mut own, b"P6\n");
+    print_reports(&rt, &mut own, 6)?;
+    begin(&rt, &mut own, b"P6\n")?;
     drive(&mut own, bits(4094, 0), 20);
-    print_reports(&mut own, 4097);
-    begin(&mut own, b"P7\n");
+    print_reports(&rt, &mut own, 4097)?;
+    begin(&rt, &mut own, b"P7\n")?;
     drive(&mut own, bits(4095, 0), 20);
-    print_reports(&mut own, 5000);
+    print_reports(&rt, &mut own, 5000)
 }
