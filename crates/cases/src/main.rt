@@ -5,9 +5,8 @@
 mod record;
 mod run;
 
-ghost use Rattle.std.specs.Prelude.{◌≡◌, length};
+ghost use Rattle.std.specs.Prelude.{◌≡◌, ◌≤◌, length, IfOk};
 
-use input::Input;
 use run::Tally;
 use std::io::Read;
 use std::rt::Files;
@@ -30,26 +29,38 @@ fn buffer() -> [u8; FILE]
     [0; FILE]
 }
 
-fn run_open(rt: &(impl Print + Eprint), path: &str, file: &mut impl Read) -> Tally {
+// Reads until the buffer is full or the file ends: how many bytes it has.
+fn read_whole<R: Read>(file: &mut R, bytes: &mut [u8]) -> io::Result<usize>
+    ensures { IfOk result (λ n. n ≤ length bytes.new) }
+{
+    let mut done: usize = 0;
+    while done < bytes.len() {
+        let n = file.read(&mut bytes[done..])?;
+        if n == 0 {
+            return Ok(done);
+        }
+        done += n.min(bytes.len() - done);
+    }
+    Ok(done)
+}
+
+fn run_open<R: Read>(rt: &impl Print, file: &mut R) -> io::Result<Tally> {
     let mut bytes = buffer();
-    let Input::Read(n) = input::read_all(file, &mut bytes) else {
-        let _ = eprintln!(rt; "{path}: cannot be read");
-        return unread();
-    };
+    let n = read_whole(file, &mut bytes)?;
     if n == FILE {
         let _ = rt.println("too long");
-        return unread();
+        return Ok(unread());
     }
-    run::run(rt, &bytes[..n])
+    Ok(run::run(rt, &bytes[..n]))
 }
 
 // The file of that name.
-fn run_file(rt: &(impl Files + Print + Eprint), path: &str) -> Tally {
+fn run_file(rt: &(impl Files + Print + Eprint), path: &str) -> io::Result<Tally> {
     match fs::open(rt, path) {
-        Ok(mut file) => run_open(rt, path, &mut file),
+        Ok(mut file) => run_open(rt, &mut file),
         Err(e) => {
             let _ = eprintln!(rt; "{path}: {e}");
-            unread()
+            Ok(unread())
         }
     }
 }
@@ -70,7 +81,7 @@ fn main(rt: HostRuntime) -> io::Result<()> {
     let mut cases: u64 = 0;
     let mut different: u64 = 0;
     for path in env::args(&rt)?.skip(1) {
-        let t = run_file(&rt, path.as_str());
+        let t = run_file(&rt, path.as_str())?;
         cases = plus(cases, t.cases);
         different = plus(different, t.different);
     }

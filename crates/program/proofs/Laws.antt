@@ -20,11 +20,13 @@ use Rattle.spec.proofs.Numbers.{if_case}
 use Rattle.report.specs.Line.{Written, put_by, placed, refused_line}
 use Rattle.report.specs.declared.Put.{Put}
 use Rattle.report.specs.declared.Put.TheVariants as put
-use Rattle.io.specs.Counts.{IsPrefixLen}
 use Rattle.drivers.specs.Check.{answer_of, slices, exit_of}
 use Rattle.drivers.specs.declared.check.Answer.{Answer}
 
 -- ---- the written bytes lie in the buffer
+
+abbrev pub IsPrefixLen : ℕ → Bytes → Type 0
+IsPrefixLen n xs = (n ≤ length xs) × (n ≡ length (take n xs))
 
 module _ (text buf : Bytes) where
   abbrev Fits : check.Answer → Type 0
