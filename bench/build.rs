@@ -3,8 +3,8 @@
 use std::path::{Path, PathBuf};
 use std::{env, process};
 
-/// Where the archives are looked for, seen from this folder, if DRIVERCHECK_ARCHIVES names no other.
-const DEFAULT_ARCHIVES: &str = "../target/staticlib";
+/// Where the crates are whose archives are looked for, seen from this folder, if DRIVERCHECK_ARCHIVES names no folder with the archives.
+const CRATES_FOLDER: &str = "../crates";
 
 /// The crates whose archives are linked: the parts that are timed by themselves, and the whole check.
 const CRATES: [&str; 2] = ["bench_c", "drivers_c"];
@@ -20,13 +20,16 @@ fn link() -> Result<(), String> {
     println!("cargo::rerun-if-changed=build.rs");
     println!("cargo::rerun-if-env-changed=DRIVERCHECK_ARCHIVES");
     let here = env::var_os("CARGO_MANIFEST_DIR").ok_or("CARGO_MANIFEST_DIR is not set")?;
-    let named = env::var_os("DRIVERCHECK_ARCHIVES").unwrap_or_else(|| DEFAULT_ARCHIVES.into());
-    let folder = PathBuf::from(here).join(named);
-    println!("cargo::rustc-link-search=native={}", folder.display());
-    CRATES.iter().try_for_each(|name| link_one(&folder, name))
+    let here = PathBuf::from(here);
+    let named = env::var_os("DRIVERCHECK_ARCHIVES").map(|folder| here.join(folder));
+    CRATES.iter().try_for_each(|name| {
+        let folder = named.clone().unwrap_or_else(|| here.join(CRATES_FOLDER).join(name).join("out"));
+        link_one(&folder, name)
+    })
 }
 
 fn link_one(folder: &Path, name: &str) -> Result<(), String> {
+    println!("cargo::rustc-link-search=native={}", folder.display());
     let archive = folder.join(format!("lib{name}.a"));
     println!("cargo::rerun-if-changed={}", archive.display());
     if !archive.is_file() {
@@ -39,9 +42,9 @@ fn link_one(folder: &Path, name: &str) -> Result<(), String> {
 fn missing(archive: &Path, name: &str) -> String {
     format!(
         "The archive {} is missing.\n\
-         Make it with `rt staticlib {name}` in the folder above this one, or set \
+         Make it with `rt lib` in crates/{name}, or set \
          DRIVERCHECK_ARCHIVES to the folder that holds it (a relative path starts at bench/).\n\
-         Without DRIVERCHECK_ARCHIVES it is looked for in {DEFAULT_ARCHIVES}, seen from bench/.",
+         Without DRIVERCHECK_ARCHIVES it is looked for in {CRATES_FOLDER}/{name}/out, seen from bench/.",
         archive.display()
     )
 }
