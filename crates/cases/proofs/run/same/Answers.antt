@@ -1,5 +1,4 @@
 use mathlib.Core.Path.{refl, sym, ◌∙◌}
-use Prim.Native.Nat.{◌-◌}
 use native.Mathlib.Omega.{arith}
 use Rattle.cases.proofs.Laws.{same_not_long, same_end, same_step, same_not}
 use Rattle.cases.proofs.run.same.Goals as goal
