@@ -20,7 +20,6 @@ use Rattle.spec.proofs.Parts.{Part, word_part}
 use Rattle.spec.proofs.Shown.{expr_shown}
 use Rattle.lines.specs.Parts.{part_end, piece, next_end, follows}
 use Rattle.runs.proofs.Inside.{placed}
-use Rattle.consteval.specs.declared.Value.TheVariants.{Outside}
 use Rattle.consteval.specs.Worth.{signed}
 use Rattle.consteval.proofs.ArithLaws.{signed_low, signed_high}
 use Rattle.sites.specs.declared.Cover.{Cover}

@@ -5,6 +5,7 @@ use mathlib.Core.Bool.{Bool, true, false, true≢false}
 use mathlib.Core.List.{List, [], ◌∷◌}
 use Prim.Native.Nat.{ℕ, zero, suc, ◌-◌, ◌≤◌, max}
 use native.Mathlib.Omega.{arith}
+use borrow.Author.Tests.{eq-eqb, ne_eqb}
 use lib.ListN.{drop, get_or}
 use Rattle.spec.specs.Bytes.{Bytes, show_rest, show_form}
 use Rattle.spec.specs.Syntax.{neg, not, clog2, add, sub, mul, eq, ne, lt, le, gt, ge, and, or, shl, shr, band, bor, bxor, Expr, lit, truth, name, field, index, if_else, unary, binary, all, Header}
@@ -14,16 +15,16 @@ use Rattle.spec.specs.Edge.{is_inst, FieldOf, an_inst, an_inst_at, no_inst, fiel
 use Rattle.spec.proofs.Nodes.{and_parts}
 use Rattle.spec.proofs.Numbers.{if_case}
 use Rattle.spec.proofs.Shown.{expr_shown}
-use Rattle.lines.specs.Parts.{part_end, piece, next_end, follows}
+use Rattle.lines.specs.Parts.{part_end, piece, next_end}
 use Rattle.edges.specs.declared.Named as N
 use Rattle.edges.specs.declared.Named.TheVariants as named
 use Rattle.edges.specs.declared.FieldOf as F
 use Rattle.edges.specs.declared.FieldOf.TheVariants as of
 use Rattle.edges.specs.Reads.{KindsOf}
-use Rattle.edges.specs.Shows.{ShowsExpr, begins, name_of, indexed_name, inst_by, NamedBy, IndexedBy, FieldOfIs}
+use Rattle.edges.specs.Shows.{ShowsExpr, opens, begins, name_of, indexed_name, inst_by, NamedBy, IndexedBy, FieldOfIs}
 use Rattle.edges.specs.Total.{index_by, inner_by, field_by}
 use Rattle.runs.proofs.Inside.{placed}
-use Rattle.edges.proofs.ExprLaws.{number_first, begins_parts, name_is}
+use Rattle.edges.proofs.ExprLaws.{number_first, begins_parts, begins_not, begins_by, name_is}
 
 pub get_or_drop_here : (l : Bytes) (i : ℕ) → get_or (drop i l) 0 0 ≡ get_or l i 0
 get_or_drop_here [] zero = refl
@@ -99,6 +100,18 @@ module _ (x : Bytes) {b : Bool} (qb : b ≡ begins x 105 120) where
   pub index_name : b ≡ true → {a : ℕ} → a ≡ part_end x 4 → {u : Bytes} → u ≡ piece x 3 a → {v : N.Named} → v ≡ name_of u → v ≡ indexed_name x
   unfolding indexed_name
   index_name e qa qu qv = qv ∙ rw (sym qb ∙ e, qu, qa, indexed_name)
+
+-- the same by the bytes that are read
+module _ (x : Bytes) {r : Bool} (q : r ≡ opens x 105) where
+  pub no_form : r ≡ false → named.Not ≡ indexed_name x
+  no_form f = no_index x (begins_not x 105 120 q f) refl
+
+  module _ (f : r ≡ true) {c : ℕ} (qc : c ≡ get_or x 2 0) where
+    pub no_x : (c ≡ 120 → ⊥) → named.Not ≡ indexed_name x
+    no_x h = no_index x (begins_by x 105 120 q f qc (sym (ne_eqb c 120 h))) refl
+
+    pub index_here : c ≡ 120 → {a : ℕ} → a ≡ part_end x 4 → {u : Bytes} → u ≡ piece x 3 a → {v : N.Named} → v ≡ name_of u → v ≡ indexed_name x
+    index_here h qa qu qv = index_name x (begins_by x 105 120 q f qc (sym (eq-eqb c 120 h))) refl qa qu qv
 
 -- the name that bytes show an index of
 index_begins : (a b : Expr) → begins (show_expr (index a b)) 105 120 ≡ true

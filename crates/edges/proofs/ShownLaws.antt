@@ -16,7 +16,7 @@ use Rattle.spec.specs.Site.{kind_of}
 use Rattle.spec.specs.Edge.{Reads, inst_out, name_reads, and_reads, indexed_reads, FieldOf, field_reads, expr_reads, exprs_reads, no_reads, Summary, reaches, conn_reads}
 use Rattle.spec.proofs.Parts.{number_part}
 use Rattle.spec.proofs.Shown.{expr_shown}
-use Rattle.lines.specs.Parts.{part_end, piece, next_end, follows}
+use Rattle.lines.specs.Parts.{part_end, piece, next_end}
 use Rattle.runs.proofs.Inside.{placed}
 use Rattle.edges.specs.declared.Named as N
 use Rattle.edges.specs.declared.Named.TheVariants as named

@@ -73,6 +73,7 @@ fn name_of(x: &[u8]) -> Named
 }
 
 // The name that the expression x is an index of, if it is one of a name. By the first bytes of a form.
+#[tactic(auto, using(crate::proofs::FieldLaws::no_form, crate::proofs::FieldLaws::no_x, crate::proofs::FieldLaws::index_here))]
 fn indexed_name(x: &[u8]) -> Named
     ensures { result ≡ indexed_name x.now }
 {
@@ -87,6 +88,7 @@ fn indexed_name(x: &[u8]) -> Named
 }
 
 // Is the name i an inst?
+#[tactic(auto, using(crate::proofs::InstLaws::inst_not, crate::proofs::InstLaws::inst_here))]
 fn is_inst(kinds: &[u8], i: u32) -> bool
     ensures { result ≡ inst_by kinds.now i }
 {
@@ -318,6 +320,7 @@ pub fn wire_heads(
 
 // The `drive` line x heads its signal, an output or a wire by its kind (2, 3): it reads the expression, then the indexes. The LV stands
 // behind the 6 bytes of `(drive`, its name behind the 3 of `(lv`. Where it says false the graph is cleared.
+#[tactic(auto, using(crate::proofs::LeaveLaws::drive_past))]
 pub fn drive_heads(
     x: &[u8],
     depth: u32,

@@ -1,7 +1,7 @@
 -- What the code says of a collected line and of the parts of one. 01: The line; The value; The site; The block; Refused because
 -- of the state.
 -- To a reader: definitions that contracts of this and other crates cite; each such contract is proved; check_drivers' own promise cites none of them.
-use Rattle.std.specs.Prelude.{◌≡◌, Bool, true, false, ◌&&◌, List, [], ◌∷◌, ℕ, ◌+◌, ◌≤◌, ◌<◌, length, get_or, take, drop, replicate, eqb, ltb}
+use Rattle.std.specs.Prelude.{◌≡◌, Bool, true, false, ◌&&◌, List, ◌∷◌, ℕ, ◌+◌, ◌≤◌, ◌<◌, length, get_or, take, drop, replicate, eqb, ltb}
 use Rattle.std.proofs.Math.Option.{some}
 use Rattle.std.proofs.lemmas.List.Edits.{sets}
 use Rattle.spec.specs.Bytes.{Bytes, number, show_number, show_rest}
@@ -9,7 +9,7 @@ use Rattle.spec.specs.Syntax.{name_bound, number_bound, out_kind, Expr, Width, I
 use Rattle.spec.specs.Show.{show_index, show_lvalue, show_stmt, show_stmts}
 use Rattle.spec.specs.Decode.{decode_expr}
 use Rattle.spec.specs.Refusal.{index_depth, stmt_depth, stmts_depth, stmt_in_range, stmts_in_range}
-use Rattle.spec.specs.Value.{Value, Names, value, is_outside}
+use Rattle.spec.specs.Value.{Value, Names, is_outside}
 use Rattle.spec.specs.Site.{kind_of, lvalue_extent, index_constants, line_constants, any_outside, Misused, stmt_misuses, stmts_misuses}
 use Rattle.spec.specs.Block.{Pair, stmt_pairs, stmts_pairs}
 use Rattle.spec.specs.Check.{pair_limit}

@@ -1,7 +1,6 @@
 use native.Mathlib.Omega.{arith}
 use mathlib.Core.Path.{refl, sym, ◌∙◌}
 use mathlib.Core.Bool.{true, false}
-use Prim.Native.Nat.{◌-◌}
 use Rattle.consteval.specs.Worth.{names_of}
 use Rattle.lines.proofs.Laws.{byte_is, byte_not}
 use Rattle.lines.proofs.PartLaws.{follows_in}

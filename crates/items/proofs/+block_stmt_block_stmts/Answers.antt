@@ -1,6 +1,5 @@
 use mathlib.Core.Path.{refl, sym, ◌∙◌}
 use mathlib.Core.Bool.{true, false}
-use Prim.Native.Nat.{◌-◌}
 use native.Mathlib.Omega.{arith}
 use Rattle.lines.proofs.PartLaws.{follows_in}
 use Rattle.items.proofs.BlockLaws.{stmt_shut, stmt_set, stmt_default, stmt_loop, when_alone, when_stops, when_both, stmts_end, stmts_stop, stmts_step}

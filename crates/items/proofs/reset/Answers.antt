@@ -1,6 +1,5 @@
 use mathlib.Core.Path.{refl}
 use Rattle.items.proofs.LineLaws.{zeros_step, zeros_seven, zeros_short, emptied_held}
-use Prim.Native.Nat.{◌-◌}
 use lib.ListN.{length-set}
 use native.Mathlib.Omega.{arith}
 use Rattle.items.proofs.reset.Goals as goal

@@ -1,5 +1,4 @@
 use native.Mathlib.Omega.{arith}
-use Prim.Native.Nat.{◌-◌}
 use Rattle.graph.proofs.Sorting.{zeroed_none}
 use Rattle.summary.proofs.Table.{zeroed_next, emptied_is}
 use Rattle.summary.proofs.reset.Goals as goal

@@ -1,5 +1,5 @@
 use mathlib.Core.Path.{refl, ◌∙◌, ap}
-use Prim.Native.Nat.{ℕ, ◌-◌}
+use Prim.Native.Nat.{ℕ}
 use lib.ListN.{replicate, length-set, length-replicate}
 use Rattle.walk.proofs.Alike.{reach_by}
 use Rattle.summary.proofs.Pairs.{written_none, written_then, written_of}

@@ -1,6 +1,5 @@
 use native.Mathlib.Omega.{arith}
 use mathlib.Core.Path.{refl, ◌∙◌}
-use Prim.Native.Nat.{◌-◌}
 use Rattle.drivers.proofs.TurnLaws.{not_more, enough_same, few_taken, turn_start, turn_end, turn_full, turn_on}
 use Rattle.drivers.proofs.check.check_modules.Goals as goal
 

@@ -1,6 +1,5 @@
 use native.Mathlib.Omega.{arith}
 use mathlib.Core.Path.{refl, ◌∙◌}
-use Prim.Native.Nat.{◌-◌}
 use lib.ListN.{length-set}
 use Rattle.lines.proofs.Tabled.{clear_step, clear_end}
 use Rattle.drivers.proofs.check.clear_bytes.Goals as goal

@@ -1,6 +1,5 @@
 use native.Mathlib.Omega.{arith}
 use mathlib.Core.Path.{refl, ◌∙◌}
-use Prim.Native.Nat.{◌-◌}
 use Rattle.drivers.proofs.EmitLaws.{emitting_start}
 use Rattle.drivers.proofs.GroupLaws.{conflicts_then, conflicts_end}
 use Rattle.drivers.proofs.groups.report_conflicts.Goals as goal

@@ -1,6 +1,5 @@
 use native.Mathlib.Omega.{arith}
 use mathlib.Core.Path.{refl, ◌∙◌}
-use Prim.Native.Nat.{◌-◌}
 use Rattle.consteval.specs.Worth.{names_of}
 use Rattle.drivers.proofs.CoverLaws.{cover_start, cover_then, cover_outside, cover_end}
 use Rattle.drivers.proofs.groups.report_coverage.Goals as goal

@@ -1,6 +1,5 @@
 use native.Mathlib.Omega.{arith}
 use mathlib.Core.Path.{refl, ◌∙◌}
-use Prim.Native.Nat.{◌-◌}
 use Rattle.drivers.proofs.EmitLaws.{emitting_start}
 use Rattle.drivers.proofs.GroupLaws.{misuses_then, misuses_end}
 use Rattle.drivers.proofs.groups.report_misuses.Goals as goal

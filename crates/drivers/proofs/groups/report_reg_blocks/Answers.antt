@@ -1,6 +1,5 @@
 use native.Mathlib.Omega.{arith}
 use mathlib.Core.Path.{refl, ◌∙◌}
-use Prim.Native.Nat.{◌-◌}
 use Rattle.spec.specs.Check.{reg_report}
 use Rattle.sites.specs.Own.{reg_table}
 use Rattle.drivers.proofs.EmitLaws.{emitting_start}

@@ -1,5 +1,4 @@
 use mathlib.Core.Path.{refl, ◌∙◌}
-use Prim.Native.Nat.{◌-◌}
 use native.Mathlib.Omega.{arith}
 use Rattle.drivers.proofs.LoopLaws.{line_node, line_whole}
 use Rattle.drivers.proofs.loops.report_loop.Goals as goal
