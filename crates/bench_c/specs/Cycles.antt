@@ -82,7 +82,7 @@ abbrev pub Told : C.Cycle → ℕ → List ℕ → List ℕ → List ℕ → Typ
 Told (cycles.Found p d) r w ns ns' = (p < d → Copied w p (d - p) ns ns' r) × (d ≤ p → (r ≡ 0) × (ns' ≡ ns))
 Told cycles.Done r w ns ns' = (r ≡ 0) × (ns' ≡ ns)
 
--- 01, The walk; Worthless checks: what asking for the next report gives and leaves of any words: every word of `w` as Search.next-report of graph has
+-- 01, The walk; Worthless checks: what asking for the next report gives and leaves of any words: every word of `w` as Search.next_report of graph has
 -- it, and what is told of its answer; from these follow the others: fewer steps left where a report is told, the words before 2050 as they were, and
 -- those from 3589 on where w awaits reports
 pub record NextTold (r : ℕ) (g w w' ns ns' : List ℕ) : Type 0 where

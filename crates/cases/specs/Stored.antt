@@ -1,5 +1,5 @@
 -- A file of stored cases, and what is counted over it. 01: The report. compare/README.md: Stored cases.
--- To a reader: definitions to believe; the promise of run, which counts the cases and those that differ, cites file-of and tally.
+-- To a reader: definitions to believe; the promise of run, which counts the cases and those that differ, cites file_of and tally.
 use Rattle.std.specs.Prelude.{Bool, true, false, List, [], ◌∷◌, ℕ, zero, suc, ◌+◌, ◌-◌, eqb, ltb, length, get_or, take, drop}
 use Rattle.spec.specs.Bytes.{Bytes, bytes}
 use Rattle.lines.specs.Parse.{key, word_at}

@@ -1,6 +1,6 @@
 -- The whole check over the lent slices: what a module's check needs of them, what it leaves, and the answer.
 -- 01: The collected item; Refused because of the state; The report.
--- To a reader: definitions to believe (exit-of and slices, in check_drivers' promise; they only gather), and definitions that other contracts of this crate cite.
+-- To a reader: definitions to believe (exit_of and slices, in check_drivers' promise; they only gather), and definitions that other contracts of this crate cite.
 use Rattle.std.specs.Prelude.{◌≡◌, Bool, false, List, [], ◌∷◌, ℕ, ◌*◌, ◌≤◌, length}
 use Rattle.std.proofs.Math.Option.{some}
 use Rattle.std.proofs.Math.ListN.{get_elem?}

@@ -1,7 +1,7 @@
 -- What heading and reading leave of any words, also where the bytes show no line and the words stand for no graph.
 -- 01: The line; The site; The edge; The walk; Refused because of the state; Worthless checks.
 -- To a reader: definitions that contracts of this and other crates cite; each such contract is proved; OneWire, OneDrive and OneInst are statements,
--- proved in proofs/OneLaws (one-wire, one-drive, one-inst); check_drivers' own promise cites none of them.
+-- proved in proofs/OneLaws (one_wire, one_drive, one_inst); check_drivers' own promise cites none of them.
 use Rattle.std.specs.Prelude.{◌≡◌, Bool, true, false, ◌⊎◌, List, [], ◌∷◌, ℕ, ◌<◌, ◌≤◌, length, get_or, replicate}
 use Rattle.spec.specs.Bytes.{Bytes}
 use Rattle.spec.specs.Value.{Value, Names}

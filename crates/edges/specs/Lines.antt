@@ -1,6 +1,6 @@
 -- What the heads of a collected line leave in the graph of a module. 01: The line; The edge; Refused because of the state.
 -- To a reader: definitions that contracts of this and other crates cite; each such contract is proved; IndexIs and ModuleIs are statements, proved in
--- proofs/OutputLaws (index-is, module-is); check_drivers' own promise cites none of them.
+-- proofs/OutputLaws (index_is, module_is); check_drivers' own promise cites none of them.
 use Rattle.std.specs.Prelude.{◌≡◌, Bool, true, false, List, [], ◌∷◌, ℕ, zero, suc, ◌+◌, ◌-◌, ◌≤◌, min, length, get_or, eqb, ltb}
 use Rattle.spec.specs.Bytes.{Bytes, bytes, number, show_number, show_rest, show_form}
 use Rattle.spec.specs.Syntax.{Expr, LValue, Conn, Inst, wire, drive, inst, Header}

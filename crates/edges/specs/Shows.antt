@@ -1,7 +1,7 @@
 -- Expressions as the code reads them: by the first bytes of a form, and then part by part. 01: The line; The edge; Refused because of the
 -- state.
 -- To a reader: definitions that the contracts of this crate cite; each such contract is proved; NamedBy, IndexedBy and FieldOfIs are
--- statements, proved in proofs/ExprLaws (name-is) and proofs/FieldLaws (indexed-is, field-is); check_drivers' own promise cites none of them.
+-- statements, proved in proofs/ExprLaws (name_is) and proofs/FieldLaws (indexed_is, field_is); check_drivers' own promise cites none of them.
 use Rattle.std.specs.Prelude.{◌≡◌, Bool, true, false, ◌&&◌, List, [], ◌∷◌, ℕ, suc, ◌≤◌, get_or, eqb, ltb}
 use Rattle.spec.specs.Bytes.{Bytes, number, show_rest}
 use Rattle.spec.specs.Syntax.{Expr, Exprs, name, field, index, Header}

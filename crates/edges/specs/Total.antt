@@ -1,7 +1,7 @@
 -- What any bytes read, also where they show no expression and no line: the nodes, one after the other, and whether an index is outside INT.
 -- 01: The line; The edge.
 -- To a reader: definitions that contracts of this and other crates cite; each such contract is proved; ReadAsShown, WireAsShown, DriveAsShown and
--- InstAsShown are statements, proved in proofs/ShownLaws (read-shown, wire-shown, drive-shown, inst-shown); check_drivers' own promise cites none of them.
+-- InstAsShown are statements, proved in proofs/ShownLaws (read_shown, wire_shown, drive_shown, inst_shown); check_drivers' own promise cites none of them.
 use Rattle.std.specs.Prelude.{◌≡◌, true, false, List, [], ◌∷◌, ℕ, zero, suc, ◌+◌, ◌-◌, drop, get_or, eqb}
 use Rattle.std.proofs.Math.Option.{none}
 use Rattle.spec.specs.Bytes.{Bytes, parts_from}

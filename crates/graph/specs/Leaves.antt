@@ -1,7 +1,7 @@
 -- What the functions give back and leave of any words, also of words that stand for no graph.
 -- 01: The edge; The walk; Refused because of the state; Worthless checks.
 -- To a reader: definitions that contracts of this and other crates cite; each such contract is proved; OneHead and OneRead are statements, proved in
--- proofs/Leaving (one-head, one-read); check_drivers' own promise cites none of them.
+-- proofs/Leaving (one_head, one_read); check_drivers' own promise cites none of them.
 use Rattle.std.specs.Prelude.{◌≡◌, Bool, true, false, ◌⊎◌, List, ℕ, suc, ◌+◌, ◌<◌, ◌≤◌, length, get_or, set, replicate, eqb, ltb}
 use Rattle.spec.specs.Edge.{Node, Head}
 use Rattle.graph.specs.Table.{node_of, count, edge_total, node_at, headed_at, edge_there, pushed, stored, slot_of, number_in}
@@ -95,7 +95,7 @@ OneHead g n start = (a b : A.Added) (g' g'' : List ℕ) → HeadLeaves a g n sta
 abbrev pub OneRead : List ℕ → ℕ → declared.Node → Type 0
 OneRead g from n = (a b : A.Added) (g' g'' : List ℕ) → ReadLeaves a g from n g' → ReadLeaves b g from n g'' → (a ≡ b) × (g' ≡ g'')
 
--- 01, The edge; Worthless checks: what the search for inputs gives and leaves of any words, as Reach.reach-inputs has it; and what follows: at most 512
+-- 01, The edge; Worthless checks: what the search for inputs gives and leaves of any words, as Reach.reach_inputs has it; and what follows: at most 512
 -- names, the first two words as they were, and every word behind the 1,538 where g stands for a graph and no node is marked
 pub record ReachLeaves (g kinds w : List ℕ) (o : ℕ) (w' : List ℕ) (r : ℕ) : Type 0 where
   pub all : (r, w') ≡ reach_inputs g kinds o w
@@ -125,7 +125,7 @@ pub record BeginLeaves (g w w' : List ℕ) : Type 0 where
   pub behind : (hs : List Head) → Stands g hs → Roomy w → (j : ℕ) → 29190 ≤ j → get_or w' j 0 ≡ get_or w j 0
 
 -- 01, The walk; Worthless checks: which words a step of the search keeps; every word from 3589 on only where the slice holds the state of a search.
--- What it gives and what becomes of every word, of any words, Search.search-step says
+-- What it gives and what becomes of every word, of any words, Search.search_step says
 pub record StepLeaves (g w w' : List ℕ) : Type 0 where
   pub before : Keeps (Below 2050) w w'
   pub behind : (ps : List (List ℕ)) (m : ℕ) → Pending g w (suc m) ps → (j : ℕ) → 3589 ≤ j → get_or w' j 0 ≡ get_or w j 0
@@ -136,7 +136,7 @@ Stretch (cycles.Found p d) w w' = (d ≡ get_or w' 3586 0) × (get_or w' 3588 0 
 Stretch cycles.Done w w' = Unit {0}
 
 -- 01, The walk; Worthless checks: that a report is a stretch, and which words asking for the next one keeps: the words of `reach` and the order of the
--- nodes; every word from 3589 on only where w awaits reports. What it gives and what becomes of every word, of any words, Search.next-report says
+-- nodes; every word from 3589 on only where w awaits reports. What it gives and what becomes of every word, of any words, Search.next_report says
 pub record NextLeaves (r : C.Cycle) (g w w' : List ℕ) : Type 0 where
   pub stretch : Stretch r w w'
   pub before : Keeps (Below 2050) w w'

@@ -1,6 +1,6 @@
 -- The heads for which a graph's slice stands. 01: The edge; The walk; Refused because of the state;
 -- Worthless checks; Forms for specific places.
--- To a reader: definitions that contracts of this and other crates cite; each such contract is proved; check_drivers' own promise needs only graph-places.
+-- To a reader: definitions that contracts of this and other crates cite; each such contract is proved; check_drivers' own promise needs only graph_places.
 use Rattle.std.specs.Prelude.{◌≡◌, true, false, List, [], ◌∷◌, ◌++◌, ℕ, ◌<◌, ◌≤◌, length, eqb, ltb}
 use Rattle.spec.specs.Graph.{◌∈◌, Once}
 use Rattle.spec.specs.DepthFirst.{among}

@@ -46,7 +46,7 @@ fault_line well_formed = 0
 fault_line (refused k n) = n
 
 -- 01, Forms for specific places; Refused because of the text: 01's number of a part as it was parsed, `at` being behind the line's opening
--- bracket: 3 or 4 where it is badly written, 5 where a number in it is out of range, else 0; a form behind which the line goes on is told by notWritten
+-- bracket: 3 or 4 where it is badly written, 5 where a number in it is out of range, else 0; a form behind which the line goes on is told by not_written
 abbrev pub parsed_number : Parsed → Bytes → ℕ → ℕ
 parsed_number Bad t at = not_written t at
 parsed_number (Good j true) t at = 0

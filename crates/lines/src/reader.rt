@@ -1,6 +1,5 @@
 // The reader holds the text and its position, and goes from line to line. What a line is and what it adds to the tables is told by
-// `enter_line` on the slice and the number, since a function over such a struct is proved by hand, step by step along its compiled code:
-// there is one, `fill`. Those that call it lend plain slices and need no such proof.
+// `enter_line` on the slice and the number.
 ghost use Rattle.std.specs.Prelude.{◌≡◌, length, replicate};
 ghost use Rattle.spec.specs.Syntax.{name_bound};
 ghost use Rattle.spec.specs.Refusal.{refusal, decode};

@@ -285,7 +285,7 @@ add_mem x o = record { sites = o.sites; pairs = o.pairs; outputs = o.outputs; re
 unfoldable pub add_misuse : Misused → Own → Own
 add_misuse x o = record { sites = o.sites; pairs = o.pairs; outputs = o.outputs; regs = o.regs; mems = o.mems; misuses = first_kept (λ p. p.name) x o.misuses; conflicts = o.conflicts }
 
--- 01, The site: an extent as three numbers, code, low and high, as extent-from reads them
+-- 01, The site: an extent as three numbers, code, low and high, as extent_from reads them
 abbrev pub extent_numbers : Extent → List ℕ
 extent_numbers extent.Whole = 0 ∷ 0 ∷ 0 ∷ []
 extent_numbers (extent.Range l h) = 1 ∷ l ∷ h ∷ []
@@ -296,7 +296,7 @@ extent_numbers extent.Unknown = 3 ∷ 0 ∷ 0 ∷ []
 abbrev pub site_numbers : Site → List ℕ
 site_numbers s = s.name ∷ extent_numbers s.extent ++ s.start ∷ []
 
--- 01, The site: a misuse as a number, as misuse-from reads it
+-- 01, The site: a misuse as a number, as misuse_from reads it
 abbrev pub misuse_number : Misuse → ℕ
 misuse_number misuse.Wire = 0
 misuse_number misuse.Reg = 1
@@ -405,7 +405,7 @@ site_row own i = site_from (row site_table own i)
 abbrev pub misuse_poison : List ℕ → List ℕ
 misuse_poison own = misused_names (items misused_from misuse_table own)
 
--- 01, The site: conflicts as the numbers of their rows, one row behind the other: name, START, as conflict-from reads them
+-- 01, The site: conflicts as the numbers of their rows, one row behind the other: name, START, as conflict_from reads them
 unfoldable pub conflict_numbers : List Conflict → List ℕ
 conflict_numbers [] = []
 conflict_numbers (c ∷ cs) = c.name ∷ c.start ∷ conflict_numbers cs

@@ -1,5 +1,5 @@
 -- Whole numbers as two's complement of unlimited width. 02: U1.
--- To a reader: shift-up and bit are to believe; TwosComplement pins the others. It and Closed are statements, proved in proofs/Bits.
+-- To a reader: shift_up and bit are to believe; TwosComplement pins the others. It and Closed are statements, proved in proofs/Bits.
 use Rattle.std.specs.Prelude.{◌≡◌, true, ℕ, ◌+◌, ◌-◌, ◌/◌, ◌%◌, ◌^◌, ◌<◌, min, max, ℤ, pos, negsuc, ◌+ℤ◌, ◌*ℤ◌}
 use Rattle.std.specs.Int.Bits.{bit_and, bit_or, bit_xor}
 use Rattle.spec.specs.Refusal.{in_int}
@@ -47,7 +47,7 @@ parity (negsuc m) = 1 - m % 2
 unfoldable pub bit : ℤ → ℕ → ℕ
 bit z i = parity (shift_down z i)
 
--- The theorem. 02, U1: two's complement of unlimited width. `floor`: z is shift-down z n times 2 to the n, plus a rest from 0 to below 2 to
+-- The theorem. 02, U1: two's complement of unlimited width. `floor`: z is shift_down z n times 2 to the n, plus a rest from 0 to below 2 to
 -- the n. `halves`: z is twice its half rounded down, plus its parity, 0 or 1. `and_bits`, `or_bits`, `xor_bits`: bit i of a result is and, or,
 -- xor of bit i of the operands, for every i. `by_bits`: numbers with the same bits are equal, so that these laws say what the three operators
 -- are.

@@ -1,5 +1,5 @@
 -- Blocks: who sets registers and memories. 01: The block.
--- To a reader: definitions to believe; pairs, block-count, regs and mems are pinned by Meaning.Meaning (proved in proofs/Meaning).
+-- To a reader: definitions to believe; pairs, block_count, regs and mems are pinned by Meaning.Meaning (proved in proofs/Meaning).
 use Rattle.std.specs.Prelude.{Bool, true, false, ◌&&◌, ◌||◌, List, [], ◌∷◌, ◌++◌, ℕ, suc, eqb}
 use Rattle.std.proofs.Math.Option.{Option, some, none}
 use Rattle.spec.specs.Syntax.{Kind, in_kind, out_kind, wire_kind, reg_kind, mem_kind, inst_kind, Stmt, Stmts, set, default, loop, when, Item, port, wire, reg, mem, const, drive, on, inst, repeat, const_if, Header}

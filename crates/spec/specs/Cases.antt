@@ -1,5 +1,5 @@
 -- The ten worked cases P1 to P10, gathered into one table, and what it means that a case holds. 01: The report.
--- To a reader: definitions to believe (the texts, and Prints, which print_to's promise cites), and a statement, Ten-cases, proved in proofs/Cases.
+-- To a reader: definitions to believe (the texts, and Prints, which print_to's promise cites), and a statement, TenCases, proved in proofs/Cases.
 use Rattle.std.specs.Prelude.{◌≡◌, false, List, [], ◌∷◌, ◌++◌, ℕ, length, take, drop}
 use Prim.Native.String.{String}
 use Rattle.spec.specs.Bytes.{Bytes, bytes}

@@ -74,7 +74,7 @@ value_where five names (all es) = value names (all es)
 -- The theorem. 02, U1. `in_range`: what has a value under a table of INT has one in INT; that a result outside it is 20 is Refusals.Refusals,
 -- fields `outside_is` and `twenty`. `vals`, `own`, `collected`: in a text without a fault every table is one: the values of `val` lines are INT,
 -- and over such values a module's own table and that of each collected line. `given`, `meant`: what `five` says is taken, and with the meaning
--- that the five have value-where is the value. `unchanged`: under one table the value of a constant without the five does not depend on what
+-- that the five have value_where is the value. `unchanged`: under one table the value of a constant without the five does not depend on what
 -- they mean. Where they have no value, `five` being missing, it is the value from before they had one.
 pub record Constants : Type 0 where
   pub in_range : (names : Names) → AllInInt names → (e : Expr) → InInt (value names e)

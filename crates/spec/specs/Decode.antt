@@ -1,6 +1,6 @@
 -- Bytes as a tree, for all bytes: by the parts of a form and its head word, with the depth of brackets as fuel. Bytes that show
 -- no tree give some tree; Refusal tells them apart. 01: The line.
--- To a reader: definitions, pinned by Reading.Reading (proved in proofs/Reading); depth-limit is to believe.
+-- To a reader: definitions, pinned by Reading.Reading (proved in proofs/Reading); depth_limit is to believe.
 use Rattle.std.specs.Prelude.{true, false, List, [], ◌∷◌, ℕ, zero, suc}
 use Rattle.spec.specs.Bytes.{Bytes, bytes, lookup_word, number, integer, is_form, parts}
 use Rattle.spec.specs.Syntax.{Kind, in_kind, out_kind, wire_kind, reg_kind, mem_kind, inst_kind, Unary, neg, not, clog2, Binary, add, sub, mul, eq, ne, lt, le, gt, ge, and, or, shl, shr, band, bor, bxor, Expr, Exprs, lit, truth, name, field, index, if_else, unary, binary, all, Width, bit, opaque, bits, signed, Index, whole, at_bit, high_low, LValue, Stmt, Stmts, set, default, loop, when, Dir, input, output, Place, single, at, Conn, Item, Items, port, wire, reg, mem, const, drive, on, inst, repeat, const_if, kind, val, Line, module_line, header_line, item_line}

@@ -1,5 +1,5 @@
 -- Nodes, what an expression reads, and what a collected line heads. 01: The edge.
--- To a reader: definitions to believe; all-nodes and edge_count are pinned by Counts.Counts (proved in proofs/Counts).
+-- To a reader: definitions to believe; all_nodes and edge_count are pinned by Counts.Counts (proved in proofs/Counts).
 use Rattle.std.specs.Prelude.{Bool, true, false, ◌&&◌, ◌||◌, List, [], ◌∷◌, ◌++◌, ℕ, ◌+◌, length, eqb, ltb, ℤ}
 use Rattle.std.proofs.Math.Option.{Option, some, none}
 use Rattle.spec.specs.Syntax.{Kind, in_kind, out_kind, wire_kind, reg_kind, mem_kind, inst_kind, Expr, Exprs, lit, truth, name, field, index, if_else, unary, binary, all, Index, whole, at_bit, high_low, LValue, Place, single, at, Conn, Inst, Item, port, wire, reg, mem, const, drive, on, inst, repeat, const_if, Header}

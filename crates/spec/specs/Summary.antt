@@ -1,5 +1,5 @@
 -- Which inputs a module's outputs reach, through instances too. 01: The edge.
--- To a reader: definitions to believe; where no module contains itself, comb-summary is pinned by Summaries.Summaries (proved in proofs/Summaries).
+-- To a reader: definitions to believe; where no module contains itself, comb_summary is pinned by Summaries.Summaries (proved in proofs/Summaries).
 use Rattle.std.specs.Prelude.{Bool, true, false, ◌||◌, List, [], ◌∷◌, ◌++◌, ℕ, zero, suc, ◌+◌, length, eqb, ltb}
 use Rattle.std.proofs.Math.Option.{Option, some, none}
 use Rattle.std.proofs.Math.ListN.{get_elem?}

@@ -1,6 +1,6 @@
 -- The name table of a module, filled from its lines of an accepted text. 01: The line; The value; Refused because of the state;
 -- Worthless checks.
--- To a reader: definitions that contracts of this and other crates cite; each such contract is proved; check_drivers' own promise needs only name-places.
+-- To a reader: definitions that contracts of this and other crates cite; each such contract is proved; check_drivers' own promise needs only name_places.
 use Rattle.std.specs.Prelude.{◌≡◌, List, ℕ, ◌+◌, ◌-◌, ◌*◌, ◌/◌, ◌≤◌, length, get_or, take, drop}
 use Rattle.spec.specs.Bytes.{Bytes}
 use Rattle.spec.specs.Value.{Table}

@@ -1,6 +1,6 @@
 -- The table of summaries as the code holds it. 01: The edge; Refused because of the state.
 -- To a reader: definitions that contracts of this and other crates cite; each such contract is proved; Says is a statement, proved in
--- proofs/Table (state-says); check_drivers' own promise needs only kept-places.
+-- proofs/Table (state_says); check_drivers' own promise needs only kept_places.
 use Rattle.std.specs.Prelude.{◌≡◌, Bool, true, false, List, ◌∷◌, ℕ, zero, suc, ◌+◌, ◌*◌, ◌≤◌, ◌<◌, length, get_or, set, ltb}
 use Rattle.std.proofs.Math.Option.{some, none}
 use Rattle.spec.specs.Syntax.{Module}

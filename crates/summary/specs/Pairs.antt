@@ -43,7 +43,7 @@ pub record Reaching (header : List Header) (heads : List Head) (o : ℕ) (is : L
   pub found : (i : ℕ) → i ∈ is → i ∈ inputs_reached header heads o
   pub all : (i : ℕ) → i ∈ inputs_reached header heads o → i ∈ is
 
--- 01, The edge; Worthless checks: the pairs of the output o, whatever the words: with each name that the search for its inputs finds (Reach.reach-inputs,
+-- 01, The edge; Worthless checks: the pairs of the output o, whatever the words: with each name that the search for its inputs finds (Reach.reach_inputs,
 -- at most 512), the last first; w is the work slice before the search
 unfoldable pub output_pairs : (kinds g : List ℕ) → ℕ → List ℕ → Summary
 output_pairs kinds g o w = let search = reach_inputs g kinds o w in paired o (found search.1 search.0)
