@@ -11,7 +11,7 @@ use lib.Seq.{get_or-set_same, get_or-set_other}
 use lib.Dec.{ltb}
 use borrow.Author.Tests.{lt-ltb, ltb-true, ltb-false}
 use Rattle.spec.specs.Bytes.{Bytes}
-use Rattle.spec.specs.Syntax.{eq, Item, Items, port, wire, reg, mem, const, drive, on, inst, repeat, const_if, Header, kind, val, Line, module_line, header_line, item_line}
+use Rattle.spec.specs.Syntax.{Item, Items, port, wire, reg, mem, const, drive, on, inst, repeat, const_if, Header, kind, val, Line, module_line, header_line, item_line}
 use Rattle.spec.specs.Decode.{decode_line}
 use Rattle.spec.specs.Refusal.{lines, decode_lines, in_int, line_in_range, item_in_range, expr_in_range}
 use Rattle.spec.specs.Value.{Value, known, missing, outside, Names, within, value, is_outside, Table, val_names, with_value, const_names, name_table, own_vals}

@@ -10,7 +10,7 @@ use borrow.Author.Tests.{eqb-true}
 use Rattle.lines.proofs.Laws.{if_case}
 use Rattle.lines.proofs.Spelled.{all_wordly, word_fine}
 use Rattle.spec.specs.Bytes.{Bytes, bytes}
-use Rattle.spec.specs.Syntax.{Unary, neg, not, clog2, Binary, add, sub, mul, eq, ne, lt, le, gt, ge, and, or, shl, shr, band, bor, bxor, name, field, index, if_else, unary, binary, all, bits, signed, Index, set, default, loop, when, at, port, wire, reg, mem, const, drive, on, const_if, kind, val, module_line, header_line, item_line}
+use Rattle.spec.specs.Syntax.{Unary, neg, not, clog2, Binary, add, sub, mul, eq, ne, lt, le, gt, ge, and, or, shl, shr, band, bor, bxor, name, field, index, if_else, unary, binary, all, bits, signed, set, default, loop, when, at, port, wire, reg, mem, const, drive, on, const_if, kind, val, module_line, header_line, item_line}
 use Rattle.spec.specs.Show.{show_unary, show_binary, show_place, show_line}
 use Rattle.spec.specs.Refusal.{place_in_range, line_in_range, place_depth, line_depth}
 use Rattle.lines.specs.Bytes.{class_of}
@@ -19,7 +19,6 @@ use Rattle.lines.specs.declared.parse.Cat.{Cat}
 use Rattle.lines.specs.declared.parse.Cat.TheVariants.{Name, Start, Mod, Count, Int, Kind, Dir, Bound, E, X, T, Lv, C, S, I, ThenS, ElseS, ThenI, ElseI, L, Nothing}
 use Rattle.lines.specs.declared.parse.Shape.{Shape}
 use Rattle.lines.specs.declared.parse.Op.{Op}
-use Rattle.lines.specs.declared.parse.Op.TheVariants as Op
 use Rattle.lines.proofs.Trees.{Tree, Walk, Made}
 use Rattle.lines.proofs.Made.{on1, on2, on3, on4, no_walk, many, made_name, made_field, made_index, made_if, made_unary, made_binary, exprs_of, made_all}
 use Rattle.lines.proofs.MadeItems.{made_bits, made_signed, lv_shape, made_lv0, made_lv1, made_lv2, made_conn, stmts_of, items_of, made_then_s, made_else_s, made_then_i, made_else_i, made_set, made_default, made_loop, made_when, made_port, made_wire, made_reg, made_mem, made_const, made_drive, made_on, made_inst, made_repeat, made_const_if, made_module, made_kind, made_val}

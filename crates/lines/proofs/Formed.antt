@@ -15,7 +15,6 @@ use Rattle.lines.specs.declared.parse.Cat.{Cat}
 use Rattle.lines.specs.declared.parse.Cat.TheVariants.{Name, Start, Mod, Count, Int, Kind, Dir, Bound, E, X, T, Lv, C, S, I, ThenS, ElseS, ThenI, ElseI, L, Nothing}
 use Rattle.lines.specs.declared.parse.Shape.{Shape}
 use Rattle.lines.specs.declared.parse.Op.{Op}
-use Rattle.lines.specs.declared.parse.Op.TheVariants as Op
 use Rattle.lines.proofs.Trees.{Tree, Walk, Made}
 use Rattle.lines.proofs.Made.{many, made_name, made_field, made_index, made_if, made_unary, made_binary, exprs_of, made_all}
 use Rattle.lines.proofs.MadeItems.{made_bits, made_signed, lv_shape, made_lv0, made_lv1, made_lv2, made_conn, conns_of, stmts_of, items_of, made_then_s, made_else_s, made_then_i, made_else_i, made_set, made_default, made_loop, made_when, made_port, made_wire, made_reg, made_mem, made_const, made_drive, made_on, made_inst, made_repeat, made_const_if, made_module, made_kind, made_val}

@@ -14,7 +14,6 @@ use Rattle.lines.specs.declared.parse.Word.{Word}
 use Rattle.lines.specs.declared.parse.Number.{Number}
 use Rattle.lines.specs.declared.parse.Number.TheVariants.{None, Is}
 use Rattle.lines.specs.declared.parse.Op.{Op}
-use Rattle.lines.specs.declared.parse.Op.TheVariants as Op
 
 -- ---- words and numbers
 

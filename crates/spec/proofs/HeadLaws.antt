@@ -15,7 +15,7 @@ use borrow.Author.Tests.{eqb-true, eqb-false, eq-eqb}
 use Rattle.spec.specs.Value.{Names}
 use Rattle.spec.specs.Syntax.{Conn, Inst, Item, Header, port, wire, reg, mem, const, drive, on, inst, repeat, const_if, Module, Design}
 use Rattle.spec.specs.Collect.{Collected}
-use Rattle.spec.specs.Edge.{Node, signal, inst_out, Reads, expr_reads, Head, Heads, Summary, reaches, conn_reads, has_output, output_heads, inst_edges, line_heads, inst_of}
+use Rattle.spec.specs.Edge.{Node, inst_out, Reads, expr_reads, Head, Heads, Summary, reaches, conn_reads, has_output, output_heads, inst_edges, line_heads, inst_of}
 use Rattle.spec.specs.Graph.{◌∈◌}
 use Rattle.spec.specs.Hierarchy.{Instance}
 use Rattle.spec.specs.Opened.{connections_to}

@@ -3,7 +3,6 @@ use Rattle.runs.proofs.Ends.{length_end, length_open, length_plain, length_last,
 use Rattle.lines.proofs.Laws.{class_is, not_open, not_close}
 use Rattle.lines.specs.declared.bytes.Class.TheVariants.{Open, Close}
 use mathlib.Core.List.{[], ◌∷◌}
-use Prim.Native.Nat.{◌-◌}
 use Rattle.runs.proofs.form_end.Goals as goal
 
 pub loop-i-init : goal.loop-i-init

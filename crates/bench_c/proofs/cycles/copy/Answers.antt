@@ -1,5 +1,4 @@
 use native.Mathlib.Omega.{arith}
-use Prim.Native.Nat.{◌-◌}
 use Rattle.bench_c.proofs.CyclesLaws.{copying_none, copying_more, copied}
 use Rattle.bench_c.proofs.cycles.copy.Goals as goal
 

@@ -3,7 +3,6 @@ use Rattle.consteval.proofs.FillLaws.{feed_end, feed_here, feed_more}
 use Rattle.lines.proofs.Laws.{class_is, not_feed}
 use Rattle.lines.specs.declared.bytes.Class.TheVariants.{Feed}
 use mathlib.Core.List.{[], ◌∷◌}
-use Prim.Native.Nat.{◌-◌}
 use Rattle.consteval.proofs.fill.end_of.Goals as goal
 
 pub loop-i-init : goal.loop-i-init

@@ -7,7 +7,7 @@ use borrow.Author.Tests.{ltb-true}
 use lib.ListN.{length, drop}
 use mathlib.Core.List.{List}
 use mathlib.Core.Path.{refl, sym, ap, ◌∙◌}
-use Prim.Native.Nat.{ℕ, ◌+◌, ◌-◌, ◌/◌}
+use Prim.Native.Nat.{ℕ, ◌+◌, ◌/◌}
 use Rattle.consteval.proofs.fill.fill_vals.Goals as goal
 
 pub loop-at-init : goal.loop-at-init

@@ -2,7 +2,7 @@ use Rattle.consteval.specs.Worth.{pairs, names_of}
 use Rattle.spec.specs.Value.{value_of_name}
 use lib.ListN.{length}
 use mathlib.Core.Path.{◌≡◌}
-use Prim.Native.Nat.{◌-◌, ◌/◌, ◌≤◌}
+use Prim.Native.Nat.{◌/◌, ◌≤◌}
 use Rattle.consteval.proofs.names.look_up.Given as goal
 
 abbrev pub invariant-loop-i : goal.invariant-loop-i

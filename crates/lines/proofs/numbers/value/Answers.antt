@@ -2,7 +2,7 @@ use native.Mathlib.Omega.{arith}
 use Rattle.lines.proofs.NumberLaws.{value_start, value_step, value_end, value_grows}
 use lib.ListN.{drop}
 use mathlib.Core.Path.{◌∙◌}
-use Prim.Native.Nat.{◌+◌, ◌*◌, ◌-◌}
+use Prim.Native.Nat.{◌+◌, ◌*◌}
 use Rattle.lines.proofs.numbers.value.Goals as goal
 
 pub loop-i-init : goal.loop-i-init

@@ -3,7 +3,7 @@ use Rattle.lines.specs.Parse.{digits_from}
 use lib.ListN.{drop}
 use native.Mathlib.Omega.{arith}
 use mathlib.Core.Path.{refl, sym, ap, ◌∙◌}
-use Prim.Native.Nat.{◌-◌, ◌+◌}
+use Prim.Native.Nat.{◌+◌}
 use Rattle.lines.proofs.parse.digits.Goals as goal
 
 pub loop-i-init : goal.loop-i-init

@@ -2,7 +2,6 @@ use Rattle.lines.proofs.Laws.{inside, word_range, cap_step, cap_below, word_stop
 use Rattle.lines.specs.Parse.{word_at}
 use native.Mathlib.Omega.{arith}
 use mathlib.Core.Path.{refl, sym, ◌∙◌}
-use Prim.Native.Nat.{◌-◌}
 use Rattle.lines.proofs.parse.word_at.Goals as goal
 
 pub loop-k-init : goal.loop-k-init

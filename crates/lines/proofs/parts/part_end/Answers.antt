@@ -3,7 +3,6 @@ use Rattle.lines.proofs.Laws.{class_is, not_open, not_close, not_space}
 use Rattle.lines.specs.declared.bytes.Class.TheVariants.{Open, Close, Space}
 use native.Mathlib.Omega.{arith}
 use mathlib.Core.List.{[], ◌∷◌}
-use Prim.Native.Nat.{◌-◌}
 use Rattle.lines.proofs.parts.part_end.Goals as goal
 
 pub loop-i-init : goal.loop-i-init

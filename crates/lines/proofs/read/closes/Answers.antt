@@ -2,7 +2,7 @@ use Rattle.lines.proofs.ReadLaws.{closes_end, closes_feed, closes_deep, closes_o
 use Rattle.lines.proofs.Laws.{class_is, not_open, not_close, not_feed}
 use Rattle.lines.specs.declared.bytes.Class.TheVariants.{Open, Close, Feed}
 use lib.Dec.{eqb}
-use Prim.Native.Nat.{ℕ, ◌-◌}
+use Prim.Native.Nat.{ℕ}
 use mathlib.Core.Path.{refl, sym, ap, ◌∙◌}
 use mathlib.Core.List.{[], ◌∷◌}
 use native.Mathlib.Omega.{arith}

@@ -1,7 +1,6 @@
 use Rattle.lines.proofs.ReadLaws.{set_feed, feeds_feed, feeds_plain, set_refused, set_plain, ends_byte, line_out, line_none, line_open, none_fault, none_feeds, empty_ends}
 use Rattle.lines.proofs.Laws.{class_is, not_feed, not_low, not_high}
 use Rattle.lines.specs.declared.bytes.Class.TheVariants.{Feed, Refused}
-use Prim.Native.Nat.{◌-◌}
 use mathlib.Core.Path.{refl, sym, ◌∙◌}
 use mathlib.Core.List.{[], ◌∷◌}
 use native.Mathlib.Omega.{arith}

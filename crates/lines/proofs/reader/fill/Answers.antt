@@ -1,4 +1,4 @@
-use Rattle.std.proofs.Common.{◌≡◌, ◌-◌, ◌<◌, length, refl, arith}
+use Rattle.std.proofs.Common.{refl}
 use Rattle.lines.proofs.Filling.{reading_start, standing, reading_next, reading_further, reading_end}
 use Rattle.lines.proofs.reader.fill.Goals as goal
 

@@ -1,6 +1,5 @@
 use Rattle.lines.proofs.Tabled.{clear_step, clear_end}
 use lib.ListN.{length-set}
-use Prim.Native.Nat.{◌-◌}
 use mathlib.Core.Path.{refl, ◌∙◌}
 use native.Mathlib.Omega.{arith}
 use Rattle.lines.proofs.tables.clear_mods.Goals as goal
