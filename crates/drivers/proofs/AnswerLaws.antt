@@ -155,9 +155,9 @@ module _ (d : Design) (buf buf' : Bytes) (k : List ℕ) (r : Checked) (R : Talli
 
 -- ---- of the slices' lengths and the text
 
-or-false : (a : Bool) → a ≡ a || false
-or-false true = refl
-or-false false = refl
+or_false : (a : Bool) → a ≡ a || false
+or_false true = refl
+or_false false = refl
 
 or_none : (a b : Bool) → a || b ≡ false → (a ≡ false) × (b ≡ false)
 or_none true b e = absurd (true≢false e)
@@ -197,7 +197,7 @@ module _ (kinds mods names own g w k : ℕ) where
   pub short_kept : 32 * name_bound ≤ kinds → 128 ≤ mods → name_places ≤ names → places ≤ own → graph_places ≤ g → work_places ≤ w → ltb k kept_places ≡ too_short working
   unfolding too_short
   short_kept a b c d e f =
-      rw (le-ltb kinds 8192 a, le-ltb mods 128 b, le-ltb names 6616 c, le-ltb own 11016 d, le-ltb g 15874 e, le-ltb w 29190 f) (or-false (ltb k kept_places))
+      rw (le-ltb kinds 8192 a, le-ltb mods 128 b, le-ltb names 6616 c, le-ltb own 11016 d, le-ltb g 15874 e, le-ltb w 29190 f) (or_false (ltb k kept_places))
 
   pub long_enough : false ≡ too_short working → Long
   unfolding too_short

@@ -192,9 +192,9 @@ output_cons m ns poison ss o os = go (has_name o.name poison) refl
         rw (e, output_reports)
         (ap (λ (l : List Report). l ++ output_reports m ns poison ss os) (sym (append-nil (coverage_report m o (coverage ns (sites_of o.name ss) o.width)))))
 
-or-false : (a b : Bool) → (a || b) ≡ ((a || false) || b)
-or-false true b = refl
-or-false false b = refl
+or_false : (a b : Bool) → (a || b) ≡ ((a || false) || b)
+or_false true b = refl
+or_false false b = refl
 
 width_cons : (ns : Names) (poison : List ℕ) (ss : List Site) (o : Output) (os : List Output)
     → widths_out ns poison ss (o ∷ os) ≡ (widths_out ns poison ss (o ∷ []) || widths_out ns poison ss os)
@@ -203,7 +203,7 @@ width_cons ns poison ss o os = go (has_name o.name poison) refl
   where
     go : (b : Bool) → has_name o.name poison ≡ b → widths_out ns poison ss (o ∷ os) ≡ (widths_out ns poison ss (o ∷ []) || widths_out ns poison ss os)
     go true e = rw (e, widths_out)
-    go false e = rw (e, widths_out) (or-false (is_outside (deciding_width ns (sites_of o.name ss) o.width)) (widths_out ns poison ss os))
+    go false e = rw (e, widths_out) (or_false (is_outside (deciding_width ns (sites_of o.name ss) o.width)) (widths_out ns poison ss os))
 
 abbrev pub port_row : List ℕ → ℕ → Port
 port_row own i = port_from (row port_table own i)

@@ -74,8 +74,8 @@ and_second : (a : Bool) {b : Bool} → b ≡ false → a && b ≡ false
 and_second true e = e
 and_second false e = refl
 
-and-true : {a b : Bool} → a ≡ true → b ≡ true → a && b ≡ true
-and-true {a} {b} e f = ap (λ (z : Bool). z && b) e ∙ f
+and_true : {a b : Bool} → a ≡ true → b ≡ true → a && b ≡ true
+and_true {a} {b} e f = ap (λ (z : Bool). z && b) e ∙ f
 
 -- ---- `reg` and `mem`: a row of a name and a START
 
@@ -131,7 +131,7 @@ module _ (x : Bytes) (base : ℕ) (own : List ℕ) where
           ∙ ap (λ (n : ℕ). first_added port_table own (number_at x 9 a ∷ n ∷ (base + (a + 1)) ∷ (base + b) ∷ [])) (hv ∙ ap (number_at x b) qc)
           ∙ ap (λ (n : ℕ). first_added port_table own (output_row x base n b)) qa
           ∙ ap (λ (n : ℕ). first_added port_table own (output_row x base (part_end x 10) n)) width_end
-          ∙ port_by true (and-true (eq-eqb (get_or x 6 0) 111 d) (and-true f (and-true (at_name g) (and-true (at_width h)
+          ∙ port_by true (and_true (eq-eqb (get_or x 6 0) 111 d) (and_true f (and_true (at_name g) (and_true (at_width h)
           (le-leb (next_end x (next_end x 9)) (4294967295 - base) (omega (arith, width_end)))))))
 
 -- ---- the drive of an output

@@ -72,9 +72,9 @@ number_means x b e p n q l =
 
 -- ---- a name and a START
 
-and-false : (b : Bool) → b && false ≡ false
-and-false true = refl
-and-false false = refl
+and_false : (b : Bool) → b && false ≡ false
+and_false true = refl
+and_false false = refl
 
 module _ (x : Bytes) (b : ℕ) where
   by_follows : (s : Bool) → follows x b && follows x (next_end x b) ≡ s
@@ -96,7 +96,7 @@ module _ (x : Bytes) (b : ℕ) where
     second_follows f = ap (λ (n : ℕ). follows x n) (sym qa) ∙ f
 
     pub named_alone : follows x a ≡ false → record { name = 0; start = 0; end = b } ≡ named_at x b
-    named_alone f = by_follows false (ap (λ (z : Bool). follows x b && z) (second_follows f) ∙ and-false (follows x b))
+    named_alone f = by_follows false (ap (λ (z : Bool). follows x b && z) (second_follows f) ∙ and_false (follows x b))
 
     pub named_two : follows x b ≡ true → follows x a ≡ true → {c : ℕ} → c ≡ part_end x (a + 1) → {u v : ℕ} → u ≡ number_at x b a → v ≡ number_at x a c
         → record { name = u; start = v; end = c } ≡ named_at x b

@@ -49,9 +49,9 @@ sound b l ls h = go (line_in_range l) refl (in_place b l) refl (first_kind b l) 
 
 -- ---- kinds
 
-or-true : (x : Bool) → x || true ≡ true
-or-true true = refl
-or-true false = refl
+or_true : (x : Bool) → x || true ≡ true
+or_true true = refl
+or_true false = refl
 
 -- a name that has a kind gets no second
 not_again : (hs : List Header) (ls : List Line) (b : Before) (n : ℕ) → lines_in_range b (header_lines hs ls) ≡ true → has_name n b.kinds ≡ true → kind_of hs n ≡ none
@@ -59,7 +59,7 @@ unfolding header_lines kind_of after_line first_kind has_name
 not_again [] ls b n h e = refl
 not_again (kind m k ∷ hs) ls b n h e =
     let s = sound b (header_line (kind m k)) (header_lines hs ls) h in
-    go s (not_again hs ls (after_line b (header_line (kind m k))) n s.rest (rw e (or-true (eqb n m)))) (eqb m n) refl
+    go s (not_again hs ls (after_line b (header_line (kind m k))) n s.rest (rw e (or_true (eqb n m)))) (eqb m n) refl
   where
     go : Sound b (header_line (kind m k)) (header_lines hs ls) → kind_of hs n ≡ none → (x : Bool) → eqb m n ≡ x → kind_of (kind m k ∷ hs) n ≡ none
     go s later true q =

@@ -4,7 +4,7 @@ ghost use Rattle.std.specs.Prelude.{◌≡◌, length, replicate};
 ghost use Rattle.spec.specs.Syntax.{name_bound};
 ghost use Rattle.spec.specs.Refusal.{refusal, decode};
 ghost use Rattle.lines.specs.Read.{fault_number, fault_line};
-ghost use Rattle.lines.specs.Verdict.{told, number_of as verdict-number, line_of as verdict-line};
+ghost use Rattle.lines.specs.Verdict.{told, number_of as verdict_number, line_of as verdict_line};
 ghost use Rattle.lines.specs.Reader.{number_of, line_of, by_room, read_as, kinds_after, mods_after};
 ghost use Rattle.lines.specs.Pass.{Fitting, Fills};
 
@@ -78,8 +78,8 @@ pub fn read_text(text: &[u8], kinds: &mut [u8], mods: &mut [u32]) -> Read
 // What a text is refused with, or how many modules it has: for callers that lend no tables.
 pub fn read(text: &[u8]) -> Verdict
     ensures value { result ≡ told (refusal text.now) (length (decode text.now)) }
-    ensures result_value { verdict-number result ≡ fault_number (refusal text.now) }
-    ensures result_value_2 { verdict-line result ≡ fault_line (refusal text.now) }
+    ensures result_value { verdict_number result ≡ fault_number (refusal text.now) }
+    ensures result_value_2 { verdict_line result ≡ fault_line (refusal text.now) }
 {
     let mut kinds = [0u8; KINDS];
     let mut mods = [0u32; MODS];

@@ -167,13 +167,13 @@ same_gap m ss limit b (suc k) h q = go (covered ss b) refl (same_gap m ss limit 
 pub fresh : (n b : ℕ) → b < n → eqb (get_or (replicate n 0) b 0) 1 ≡ false
 fresh n b h = ap (λ (x : ℕ). eqb x 1) (get_or-replicate n b 0 0 h)
 
-or-false : (t : Bool) → (t || false) ≡ t
-or-false true = refl
-or-false false = refl
+or_false : (t : Bool) → (t || false) ≡ t
+or_false true = refl
+or_false false = refl
 
 pub gap_found : (m₀ m : List ℕ) (ss : List Site) (width limit : ℕ) → limit ≡ min width 4096 → ((b : ℕ) → b < limit → eqb (get_or m₀ b 0) 1 ≡ false)
     → Marked limit (covered ss) m₀ m → unmarked_from m 0 limit ≡ first_gap ss width
 unfolding first_gap
 gap_found m₀ m ss width limit e z k =
-    same_gap m ss limit 0 limit (omega arith) (λ j p. k.at j p ∙ ap (λ (t : Bool). covered ss j || t) (z j p) ∙ or-false (covered ss j))
+    same_gap m ss limit 0 limit (omega arith) (λ j p. k.at j p ∙ ap (λ (t : Bool). covered ss j || t) (z j p) ∙ or_false (covered ss j))
     ∙ ap (λ (l : ℕ). gap_from ss 0 l) e

@@ -33,18 +33,18 @@ unfolding extent_from
 extent_unknown l h z y x = sym (rw (ne_eqb _ _ z, ne_eqb _ _ y, ne_eqb _ _ x, extent_from))
 
 pub ranges_below : (l h l' h' : ℕ) → h < l' → (leb l h' && leb l' h) ≡ false
-ranges_below l h l' h' e = rw (lt-leb l' h e) (and-false (leb l h'))
+ranges_below l h l' h' e = rw (lt-leb l' h e) (and_false (leb l h'))
   where
-    and-false : (b : Bool) → (b && false) ≡ false
-    and-false true = refl
-    and-false false = refl
+    and_false : (b : Bool) → (b && false) ≡ false
+    and_false true = refl
+    and_false false = refl
 
 pub ranges_from : (l h l' h' : ℕ) → l' ≤ h → (leb l h' && leb l' h) ≡ ltb l (h' + 1)
-ranges_from l h l' h' e = rw (le-leb l' h e) (and-true (leb l h') ∙ sym (leb-suc-suc l h') ∙ ap (ltb l) (sym (add-one h')))
+ranges_from l h l' h' e = rw (le-leb l' h e) (and_true (leb l h') ∙ sym (leb-suc-suc l h') ∙ ap (ltb l) (sym (add-one h')))
   where
-    and-true : (b : Bool) → (b && true) ≡ b
-    and-true true = refl
-    and-true false = refl
+    and_true : (b : Bool) → (b && true) ≡ b
+    and_true true = refl
+    and_true false = refl
 
 -- the sites of a name from a row on
 module _ (n : ℕ) (f : ℕ → Site) where

@@ -1,14 +1,22 @@
 -- A record is stored, or there is no room. Assumes nothing.
 use mathlib.Core.Path.{◌≡◌, refl, ap}
-use mathlib.Core.Bool.{true, false}
+use mathlib.Core.Bool.{Bool, true, false, not}
 use mathlib.Core.List.{List, [], ◌∷◌}
 use Prim.Native.Nat.{ℕ, zero, suc, ◌<◌, ◌≤◌}
 use native.Mathlib.Nat.{not-suc-le-zero, le_of_suc-le-suc}
-use lib.Dec.{ltb}
+use lib.Dec.{T, ltb}
 use Rattle.std.proofs.lemmas.Bool.{lt-ltb, le-ltb}
 use lib.ListN.{length, set}
 use Rattle.sites.specs.declared.Stored.TheVariants as stored
 use Rattle.sites.specs.Run.{StoredBy}
+
+pub done : (t : Bool) → T t → StoredBy t stored.Done
+done true _ = (refl, refl)
+done false z = absurd z
+
+pub full : (t : Bool) → T (not t) → StoredBy t stored.Full
+full true z = absurd z
+full false _ = (refl, refl)
 
 -- past the end nothing changes
 pub set_past : {A : Type 0} (l : List A) (i : ℕ) (a : A) → length l ≤ i → l ≡ set l i a

@@ -23,9 +23,9 @@ use Rattle.spec.proofs.Shown.{decode_show_line, show_line_form, show_line_set}
 clash : {b : Bool} → b ≡ true → b ≡ false → ⊥
 clash t f = true≢false (sym t ∙ f)
 
-not-false : (b : Bool) → (b ≡ false → ⊥) → b ≡ true
-not-false true h = refl
-not-false false h = absurd (h refl)
+not_false : (b : Bool) → (b ≡ false → ⊥) → b ≡ true
+not_false true h = refl
+not_false false h = absurd (h refl)
 
 both : (a b : Bool) → a && b ≡ true → (a ≡ true) × (b ≡ true)
 both a b e = (and-eq-true_iff a b).0 e
@@ -90,13 +90,13 @@ module _ (b : Before) (s : Bytes) where
 
   line_clean : ((k : ℕ) → Fault b s k → ⊥) → (one_form s ≡ true) × (written s ≡ true) × Sound b (decode_line s)
   line_clean h =
-      let w : written s ≡ true = not-false _ (λ e. h 4 (badly_written e)) in (
-        not-false _ (λ e. h 3 (not_one_form e)),
+      let w : written s ≡ true = not_false _ (λ e. h 4 (badly_written e)) in (
+        not_false _ (λ e. h 3 (not_one_form e)),
         w,
         record {
-          range = not-false _ (λ e. h 5 (out_of_range w e));
-          place = not-false _ (λ e. h 6 (out_of_place w e));
-          first = not-false _ (λ e. h 7 (one_too_many w e));
+          range = not_false _ (λ e. h 5 (out_of_range w e));
+          place = not_false _ (λ e. h 6 (out_of_place w e));
+          first = not_false _ (λ e. h 7 (one_too_many w e));
         },
       )
 
@@ -107,13 +107,13 @@ module _ (b : Before) (s : Bytes) where
   -- a line's lowest fault is the one that is named
   module _ (k : ℕ) (h : (j : ℕ) → j < k → Fault b s j → ⊥) where
     form_of : 3 < k → one_form s ≡ true
-    form_of l = not-false _ (λ e. h 3 l (not_one_form e))
+    form_of l = not_false _ (λ e. h 3 l (not_one_form e))
 
     range_of : 5 < k → written s ≡ true → line_in_range (decode_line s) ≡ true
-    range_of l w = not-false _ (λ e. h 5 l (out_of_range w e))
+    range_of l w = not_false _ (λ e. h 5 l (out_of_range w e))
 
     place_of : 6 < k → written s ≡ true → in_place b (decode_line s) ≡ true
-    place_of l w = not-false _ (λ e. h 6 l (out_of_place w e))
+    place_of l w = not_false _ (λ e. h 6 l (out_of_place w e))
 
   line_bad : (k : ℕ) → Fault b s k → ((j : ℕ) → j < k → Fault b s j → ⊥) → (k ≡ suc (k - 1)) × (line_fault b s ≡ k)
   unfolding line_fault tree_fault
