@@ -185,15 +185,15 @@ module _ (x : Bytes) {b : Bool} (qb : b ≡ begins x 110 32) where
   no_name e = rw (sym qb ∙ e, name_of)
 
   module _ (e : b ≡ true) {a : ℕ} (qa : a ≡ part_end x 3) {t : Bytes} (qt : t ≡ piece x 2 a) {v : ℕ} (qv : v ≡ min (number t) 4294967296) where
-    ByNumber : name_of x ≡ as_name (number t)
+    by_number : name_of x ≡ as_name (number t)
     unfolding name_of
-    ByNumber = rw (sym qb ∙ e, qt, qa, name_of)
+    by_number = rw (sym qb ∙ e, qt, qa, name_of)
 
     pub no_word : 4294967295 < v → named.Not ≡ name_of x
-    no_word l = sym (ByNumber ∙ name_large (number t) (omega arith))
+    no_word l = sym (by_number ∙ name_large (number t) (omega arith))
 
     pub a_word : v ≤ 4294967295 → named.Is v ≡ name_of x
-    a_word l = let h : v ≡ number t = omega arith in ap named.Is h ∙ sym (ByNumber ∙ name_small (number t) (omega arith))
+    a_word l = let h : v ≡ number t = omega arith in ap named.Is h ∙ sym (by_number ∙ name_small (number t) (omega arith))
 
 -- the name that bytes show
 name_begins : (m : ℕ) → begins (show_expr (name m)) 110 32 ≡ true

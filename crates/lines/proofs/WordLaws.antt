@@ -139,14 +139,14 @@ limit_one n = let z : n - n ≡ 0 = omega arith in rw z
 
 -- ---- `word_of`: one law for each arm, and for the default
 module _ (w : Bytes) (p : InBytes w) {k : ℕ} (q : k ≡ key_of w) where
-  ByNumber : lookup_key words Other k ≡ word_of w
+  by_number : lookup_key words Other k ≡ word_of w
   unfolding key_of word_of
-  ByNumber = rw q (if_case (λ n. lookup_key words Other n ≡ lookup_word words Other w) (ltb 7 (length w)) _ _
+  by_number = rw q (if_case (λ n. lookup_key words Other n ≡ lookup_word words Other w) (ltb 7 (length w)) _ _
       (λ l. zero_none ∙ sym (too_long words Other w (ltb-true 7 (length w) l) words_table))
       (λ l. by_key words Other w p words_table))
 
   pub arm : {n : ℕ} → k ≡ n → lookup_key words Other n ≡ word_of w
-  arm e = rw (← e) ByNumber
+  arm e = rw (← e) by_number
 
 -- what the default knows: the number is none of the table's
 abbrev pub Nots : Type 0 → List (Bytes × Word) → ℕ → Type 0
@@ -163,7 +163,7 @@ none_of T [] k n = refl
 none_of T (e ∷ t) k n = rw (ne_eqb k (key e.0) (nots_first (T × (k ≡ key e.0 → ⊥)) t k n).1, lookup_key) (none_of (T × (k ≡ key e.0 → ⊥)) t k n)
 
 pub default_arm : (w : Bytes) → InBytes w → {k : ℕ} → k ≡ key_of w → Nots (Unit {0}) words k → Other ≡ word_of w
-default_arm w p {k} q n = sym (none_of (Unit {0}) words k n) ∙ ByNumber w p q
+default_arm w p {k} q n = sym (none_of (Unit {0}) words k n) ∙ by_number w p q
 
 -- ---- the tables of the specification
 
