@@ -3,19 +3,13 @@
 
 use input::Input;
 use lines::read::Verdict;
-use report::Put;
 use std::io;
 
 // Longer than any such line: 10 digits for each number.
 fn print_refused(rt: &impl Print, number: u32, line: u32) -> io::Result<()> {
     let mut out = [0u8; 40];
-    match report::put_refused(&mut out, 0, number, line) {
-        Put::At(n) => {
-            if n <= 40 {
-                rt.write_all(&out[..n])?;
-            }
-        }
-        Put::Full => {}
+    if let Some(n) = report::put_refused(&mut out, 0, number, line) {
+        rt.write_all(&out[..n.min(40)])?;
     }
     Ok(())
 }
