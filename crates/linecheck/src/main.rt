@@ -1,7 +1,6 @@
 // Is a text well formed? Prints nothing where it is, and else `(refused NUMBER LINE)`; `(unread)` where the text cannot be read.
 #![tactic(auto)]
 
-use input::Input;
 use lines::read::Verdict;
 use std::io;
 
@@ -26,7 +25,7 @@ fn main(rt: HostRuntime) -> io::Result<()> {
     let mut text = [0u8; 65536];
     let mut reader = rt.stdin();
     match input::read_all(&mut reader, &mut text) {
-        Input::Read(n) => print_verdict(&rt, &text[..n]),
-        Input::Failed => rt.write_all(b"(unread)\n"),
+        Ok(n) => print_verdict(&rt, &text[..n]),
+        Err(_) => rt.write_all(b"(unread)\n"),
     }
 }
