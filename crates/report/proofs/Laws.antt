@@ -77,6 +77,49 @@ digit_small l at n i h e =
     let w : i - 1 ≡ at = omega arith in
     ap (λ (k : ℕ). set l k (48 + n)) w ∙ ap (λ (s : List ℕ). sets l at s) (sym (number_small n h))
 
+-- at the place i all from i on is written: the number's digits before it are still to come, and at the first place none is
+pub record Digits (l l' : List ℕ) (at n i m : ℕ) : Type 0 where
+  pub from : at ≤ i
+  pub still : at < i → (at + length (show_number m) ≡ i) × (sets l' at (show_number m) ≡ sets l at (show_number n))
+  pub done : i ≡ at → l' ≡ sets l at (show_number n)
+
+some_digit : (n : ℕ) → 0 < length (show_number n)
+some_digit n = go (ltb n 10) refl
+  where
+    go : (b : Bool) → ltb n 10 ≡ b → 0 < length (show_number n)
+    go true e = omega (arith, count_small n (ltb-true n 10 e))
+    go false e = omega (arith, count_large n (ltb-false n 10 e))
+
+pub digits_start : (l : List ℕ) (at n : ℕ) {c : ℕ} → c ≡ length (show_number n) → Digits l l at n (at + c) n
+digits_start l at n e =
+    let s = some_digit n in
+    record { from = omega arith; still = λ _. (omega arith, refl); done = λ z. absurd (omega arith) }
+
+pub digits_step : (l l' : List ℕ) (at n i m : ℕ) → at < i → Digits l l' at n i m → Digits l (set l' (i - 1) (48 + m % 10)) at n (i - 1) (m / 10)
+digits_step l l' at n i m p d = go (ltb m 10) refl
+  where
+    go : (b : Bool) → ltb m 10 ≡ b → Digits l (set l' (i - 1) (48 + m % 10)) at n (i - 1) (m / 10)
+    go true e =
+        let h = ltb-true m 10 e in
+        let s = d.still p in
+        let c = count_small m h in
+        let r : m % 10 ≡ m = omega arith in
+        record {
+          from = omega arith;
+          still = λ z. absurd (omega arith);
+          done = λ _. rw r (digit_small l' at m i h s.0 ∙ s.1);
+        }
+    go false e =
+        let h = ltb-false m 10 e in
+        let s = d.still p in
+        let c = count_large m h in
+        let o = some_digit (m / 10) in
+        record {
+          from = omega arith;
+          still = λ _. (omega arith, digit_large l' at m i h s.0 ∙ s.1);
+          done = λ z. absurd (omega arith);
+        }
+
 -- how many digits a number has, by its order of magnitude
 pub count_power : (k n : ℕ) → 10 ^ k ≤ n → n < 10 * 10 ^ k → length (show_number n) ≡ k + 1
 count_power zero n p q = count_small n (omega arith)

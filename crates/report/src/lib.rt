@@ -146,15 +146,11 @@ fn write_number(buf: &mut [u8], at: usize, n: u32) -> usize
     ensures { Ran buf.old at (show_number n) result buf.new }
 {
     let end = at + count_number(n);
-    let mut i = end;
     let mut m = n;
-    while 10 <= m {
-        i -= 1;
+    for i in (at..end).rev() {
         buf[i] = (48 + m % 10) as u8;
-        m = m / 10;
+        m /= 10;
     }
-    i -= 1;
-    buf[i] = (48 + m) as u8;
     end
 }
 
