@@ -13,18 +13,18 @@ use Rattle.spec.proofs.Numbers.{if_case}
 use Rattle.lines.specs.Parts.{part_end}
 use Rattle.lines.specs.Read.{number_after}
 use Rattle.lines.specs.declared.parse.Number.{Number}
-use Rattle.lines.specs.declared.parse.Number.TheVariants.{None, Is}
+use Rattle.lines.specs.declared.parse.Number.TheVariants as parsed
 use Rattle.cases.specs.Answer.{agrees}
 use Rattle.cases.specs.Stored.{case_key, sized, closed, answered, texted, named, record_of, Case, File, case_at, more_of, file_behind, file_within, file_of, differing, tally}
 use Rattle.cases.specs.declared.record.Record.{Record}
-use Rattle.cases.specs.declared.record.Record.TheVariants as stored
+use Rattle.std.specs.Prelude.{Option, Some, None}
 use Rattle.cases.specs.declared.run.Tally.{Tally}
 
 -- ---- where a record lies
 
-abbrev Within : Bytes → Record → Type 0
-Within s stored.Bad = Unit {0}
-Within s (stored.Is name body text answer) = (body + text + answer ≤ length s) × (2 ≤ body)
+abbrev Within : Bytes → Option Record → Type 0
+Within s None = Unit {0}
+Within s (Some r) = (r.body + r.text + r.answer ≤ length s) × (2 ≤ r.body)
 
 module _ (s : Bytes) (name at text answer : ℕ) where
   sized_within : Within s (sized s name (at + 2) text answer)
@@ -45,12 +45,12 @@ module _ (s : Bytes) (name at text answer : ℕ) where
       (λ _. tt)
 
 answered_within : (s : Bytes) (name text : ℕ) (n : Number) → Within s (answered s name text n)
-answered_within s name text None = tt
-answered_within s name text (Is answer at) = closed_within s name at text answer
+answered_within s name text parsed.None = tt
+answered_within s name text (parsed.Is answer at) = closed_within s name at text answer
 
 texted_within : (s : Bytes) (name : ℕ) (n : Number) → Within s (texted s name n)
-texted_within s name None = tt
-texted_within s name (Is text at) = answered_within s name text (number_after s at)
+texted_within s name parsed.None = tt
+texted_within s name (parsed.Is text at) = answered_within s name text (number_after s at)
 
 named_within : (s : Bytes) (name : ℕ) → Within s (named s name)
 unfolding named
@@ -60,8 +60,8 @@ record_within : (s : Bytes) → Within s (record_of s)
 unfolding record_of
 record_within s = if_case (Within s) (case_key s) _ _ (λ _. named_within s (part_end s 6)) (λ _. tt)
 
-pub within : (s : Bytes) (name body text answer : ℕ) → record_of s ≡ stored.Is name body text answer → (body + text + answer ≤ length s) × (2 ≤ body)
-within s name body text answer e = subst (Within s) e (record_within s)
+pub within : (s : Bytes) (r : Record) → record_of s ≡ Some r → (r.body + r.text + r.answer ≤ length s) × (2 ≤ r.body)
+within s r e = subst (Within s) e (record_within s)
 
 -- ---- what is counted
 
@@ -104,7 +104,7 @@ module _ (s t : Bytes) (cases different : ℕ) where
   unfolding file_within
   front fuel l p = rw (ne_eqb (length t) 0 (λ e. omega arith), file_within)
 
-  pub ahead_bad : Ahead s t cases different → 0 < length t → record_of t ≡ stored.Bad → record { cases = cases; different = different + 1 } ≡ tally (file_of s)
+  pub ahead_bad : Ahead s t cases different → 0 < length t → record_of t ≡ None → record { cases = cases; different = different + 1 } ≡ tally (file_of s)
   unfolding file_behind differing
   ahead_bad h p e = go h.fuel h.enough h.counted
     where
@@ -120,25 +120,25 @@ differs : (c : Case) (cs : List Case) → agrees c.text c.answer ≡ false → d
 unfolding differing
 differs c cs e = rw (e, differing)
 
-module _ (s t : Bytes) (cases different : ℕ) (name body text answer : ℕ) (e : record_of t ≡ stored.Is name body text answer) (p : 0 < length t) where
+module _ (s t : Bytes) (cases different : ℕ) (r : Record) (e : record_of t ≡ Some r) (p : 0 < length t) where
   behind : ℕ → File
-  behind f = file_within f (drop (body + text + answer) t)
+  behind f = file_within f (drop (r.body + r.text + r.answer) t)
 
-  opened : (f : ℕ) → length t ≤ suc f → file_within (suc f) t ≡ more_of (case_at t name body text answer) (behind f)
+  opened : (f : ℕ) → length t ≤ suc f → file_within (suc f) t ≡ more_of (case_at t r) (behind f)
   unfolding file_behind behind
   opened f l = front t t cases different f l p ∙ ap (file_behind (file_within f) t) e
 
   -- the case in front adds d to those that differ
-  added : (d : ℕ) → ((cs : List Case) → differing (case_at t name body text answer ∷ cs) ≡ d + differing cs) → d ≤ 1 → Ahead s t cases different
-      → Ahead s (drop (body + text + answer) t) (cases + 1) (different + d)
+  added : (d : ℕ) → ((cs : List Case) → differing (case_at t r ∷ cs) ≡ d + differing cs) → d ≤ 1 → Ahead s t cases different
+      → Ahead s (drop (r.body + r.text + r.answer) t) (cases + 1) (different + d)
   unfolding behind
   added d g one h = go h.fuel h.enough h.counted
     where
-      go : (fuel : ℕ) → length t ≤ fuel → tally (file_of s) ≡ plus cases different (tally (file_within fuel t)) → Ahead s (drop (body + text + answer) t) (cases + 1) (different + d)
+      go : (fuel : ℕ) → length t ≤ fuel → tally (file_of s) ≡ plus cases different (tally (file_within fuel t)) → Ahead s (drop (r.body + r.text + r.answer) t) (cases + 1) (different + d)
       go zero l q = absurd (omega arith)
       go (suc f) l q =
-          let w = within t name body text answer e in
-          let r = length-drop (body + text + answer) t in
+          let w = within t r e in
+          let ld = length-drop (r.body + r.text + r.answer) t in
           let k = h.few in
           let n = h.fewer in
           let x = g (behind f).cases in
@@ -150,8 +150,8 @@ module _ (s t : Bytes) (cases different : ℕ) (name body text answer : ℕ) (e 
             fewer = omega arith;
           }
 
-  pub ahead_same : agrees (take text (drop body t)) (take answer (drop (body + text) t)) ≡ true → Ahead s t cases different → Ahead s (drop (body + text + answer) t) (cases + 1) different
-  ahead_same g h = let z : different + 0 ≡ different = omega arith in subst (λ n. Ahead s (drop (body + text + answer) t) (cases + 1) n) z (added 0 (λ cs. differs_not _ cs g ∙ omega arith) (omega arith) h)
+  pub ahead_same : agrees (take r.text (drop r.body t)) (take r.answer (drop (r.body + r.text) t)) ≡ true → Ahead s t cases different → Ahead s (drop (r.body + r.text + r.answer) t) (cases + 1) different
+  ahead_same g h = let z : different + 0 ≡ different = omega arith in subst (λ n. Ahead s (drop (r.body + r.text + r.answer) t) (cases + 1) n) z (added 0 (λ cs. differs_not _ cs g ∙ omega arith) (omega arith) h)
 
-  pub ahead_differs : agrees (take text (drop body t)) (take answer (drop (body + text) t)) ≡ false → Ahead s t cases different → Ahead s (drop (body + text + answer) t) (cases + 1) (different + 1)
+  pub ahead_differs : agrees (take r.text (drop r.body t)) (take r.answer (drop (r.body + r.text) t)) ≡ false → Ahead s t cases different → Ahead s (drop (r.body + r.text + r.answer) t) (cases + 1) (different + 1)
   ahead_differs g h = added 1 (λ cs. differs _ cs g ∙ omega arith) (omega arith) h

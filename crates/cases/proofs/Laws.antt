@@ -1,12 +1,13 @@
 -- Laws of the definitions of specs/, one for each way through the code.
 -- Assumes nothing.
 use mathlib.Core.Path.{◌≡◌, refl, sym, ap}
-use mathlib.Core.Bool.{Bool, true, false}
+use mathlib.Core.Bool.{Bool, true, false, ◌&&◌}
 use mathlib.Core.List.{[], ◌∷◌}
 use Prim.Native.Nat.{ℕ, suc, ◌+◌, ◌-◌, ◌≤◌, ◌<◌}
 use native.Mathlib.Omega.{arith}
 use native.Mathlib.Numerals.{add-one}
 use lib.Dec.{eqb}
+use lib.Pointwise.{pointwise}
 use lib.ListN.{length, drop, get_or, replicate, length-replicate, drop_of_length-le}
 use lib.Seq.{drop-cons}
 use borrow.Author.Tests.{eq-eqb, ne_eqb, lt-ltb, le-ltb}
@@ -17,34 +18,21 @@ use Rattle.lines.specs.Parse.{code_after, key, word_at}
 use Rattle.lines.specs.Parts.{part_end}
 use Rattle.cases.specs.Answer.{answer_to}
 use Rattle.cases.specs.Stored.{case_key, sized, closed, named, record_of}
-use Rattle.cases.specs.declared.record.Record.TheVariants as stored
+use Rattle.std.specs.Prelude.{Some, None}
+use Rattle.cases.specs.declared.record.Record.{Record}
 
 -- ---- two runs of bytes
 
-pub same_not_long : (a b : Bytes) → (length a ≡ length b → ⊥) → false ≡ same_bytes a b
+pub same_pointwise : (a b : Bytes) → pointwise eqb a b ≡ same_bytes a b
 unfolding same_bytes
-same_not_long [] [] f = absurd (f refl)
-same_not_long [] (y ∷ b) f = refl
-same_not_long (x ∷ a) [] f = refl
-same_not_long (x ∷ a) (y ∷ b) f = go (eqb x y) (same_not_long a b (λ e. f (ap suc e)))
+same_pointwise [] [] = refl
+same_pointwise [] (y ∷ b) = refl
+same_pointwise (x ∷ a) [] = refl
+same_pointwise (x ∷ a) (y ∷ b) = go (eqb x y) (same_pointwise a b)
   where
-    go : (t : Bool) → false ≡ same_bytes a b → false ≡ (elim t as (λ _. Bool) [ true ↦ same_bytes a b | false ↦ false ])
+    go : (t : Bool) → pointwise eqb a b ≡ same_bytes a b → (t && pointwise eqb a b) ≡ (elim t as (λ _. Bool) [ true ↦ same_bytes a b | false ↦ false ])
     go true h = h
     go false h = refl
-
-module _ (a b : Bytes) (i : ℕ) where
-  pub same_end : length a ≤ i → length a ≡ length b → true ≡ same_bytes (drop i a) (drop i b)
-  unfolding same_bytes
-  same_end h e = let z : length b ≤ i = omega arith in rw (drop_of_length-le a h, drop_of_length-le b z)
-
-  module _ (h : i < length a) (e : length a ≡ length b) where
-    pub same_step : get_or a i 0 ≡ get_or b i 0 → same_bytes (drop i a) (drop i b) ≡ same_bytes (drop (i + 1) a) (drop (i + 1) b)
-    unfolding same_bytes
-    same_step q = let z : i < length b = omega arith in rw (add-one i, drop-cons a i 0 h, drop-cons b i 0 z, eq-eqb (get_or a i 0) (get_or b i 0) q, same_bytes)
-
-    pub same_not : (get_or a i 0 ≡ get_or b i 0 → ⊥) → false ≡ same_bytes (drop i a) (drop i b)
-    unfolding same_bytes
-    same_not q = let z : i < length b = omega arith in rw (drop-cons a i 0 h, drop-cons b i 0 z, ne_eqb (get_or a i 0) (get_or b i 0) q, same_bytes)
 
 -- ---- the record at the head of some bytes
 
@@ -58,31 +46,31 @@ module _ (s : Bytes) where
   case_not f = rw (ne_eqb (get_or s 0 0) 40 f, case_key)
 
   module _ (name body text answer : ℕ) where
-    pub sized_short : length s < body → stored.Bad ≡ sized s name body text answer
+    pub sized_short : length s < body → None ≡ sized s name body text answer
     unfolding sized
     sized_short h = rw (lt-ltb _ _ h, sized)
 
     module _ (b : body ≤ length s) where
-      pub sized_no_text : length s - body < text → stored.Bad ≡ sized s name body text answer
+      pub sized_no_text : length s - body < text → None ≡ sized s name body text answer
       unfolding sized
       sized_no_text h = rw (le-ltb _ _ b, lt-ltb _ _ h, sized)
 
       module _ (t : text ≤ length s - body) where
-        pub sized_no_answer : length s - body - text < answer → stored.Bad ≡ sized s name body text answer
+        pub sized_no_answer : length s - body - text < answer → None ≡ sized s name body text answer
         unfolding sized
         sized_no_answer h = rw (le-ltb _ _ b, le-ltb _ _ t, lt-ltb _ _ h, sized)
 
-        pub sized_in : answer ≤ length s - body - text → stored.Is name body text answer ≡ sized s name body text answer
+        pub sized_in : answer ≤ length s - body - text → Some (record { name = name; body = body; text = text; answer = answer }) ≡ sized s name body text answer
         unfolding sized
         sized_in h = rw (le-ltb _ _ b, le-ltb _ _ t, le-ltb _ _ h, sized)
 
   module _ (name at text answer : ℕ) where
-    pub closed_not : (get_or s at 0 ≡ 41 → ⊥) → stored.Bad ≡ closed s name at text answer
+    pub closed_not : (get_or s at 0 ≡ 41 → ⊥) → None ≡ closed s name at text answer
     unfolding closed
     closed_not f = rw (ne_eqb _ _ f, closed)
 
     module _ (e : get_or s at 0 ≡ 41) where
-      pub closed_no_feed : (get_or s (at + 1) 0 ≡ 10 → ⊥) → stored.Bad ≡ closed s name at text answer
+      pub closed_no_feed : (get_or s (at + 1) 0 ≡ 10 → ⊥) → None ≡ closed s name at text answer
       unfolding closed
       closed_no_feed f = rw (eq-eqb _ _ e, ne_eqb _ _ f, closed)
 
@@ -90,7 +78,7 @@ module _ (s : Bytes) where
       unfolding closed
       closed_here f = rw (eq-eqb _ _ e, eq-eqb _ _ f, closed)
 
-  pub record_not : case_key s ≡ false → stored.Bad ≡ record_of s
+  pub record_not : case_key s ≡ false → None ≡ record_of s
   unfolding record_of
   record_not e = rw (e, record_of)
 

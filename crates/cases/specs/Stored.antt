@@ -1,15 +1,14 @@
 -- A file of stored cases, and what is counted over it. 01: The report. compare/README.md: Stored cases.
 -- To a reader: definitions to believe; the promise of run, which counts the cases and those that differ, cites file_of and tally.
-use Rattle.std.specs.Prelude.{Bool, true, false, List, [], ◌∷◌, ℕ, zero, suc, ◌+◌, ◌-◌, eqb, ltb, length, get_or, take, drop}
+use Rattle.std.specs.Prelude.{Bool, true, false, List, [], ◌∷◌, ℕ, zero, suc, ◌+◌, ◌-◌, eqb, ltb, length, get_or, take, drop, Option, Some, None}
 use Rattle.spec.specs.Bytes.{Bytes, bytes}
 use Rattle.lines.specs.Parse.{key, word_at}
 use Rattle.lines.specs.Parts.{part_end, piece}
 use Rattle.lines.specs.Read.{number_after}
 use Rattle.lines.specs.declared.parse.Number.{Number}
-use Rattle.lines.specs.declared.parse.Number.TheVariants.{None, Is}
+use Rattle.lines.specs.declared.parse.Number.TheVariants as parsed
 use Rattle.cases.specs.Answer.{agrees}
 use Rattle.cases.specs.declared.record.Record.{Record}
-use Rattle.cases.specs.declared.record.Record.TheVariants as stored
 use Rattle.cases.specs.declared.run.Tally.{Tally}
 
 -- a stored case: its name, its text, the stored answer. In a file it is a line `(case NAME TEXTLEN ANSWERLEN)`, the text, the answer, and
@@ -24,41 +23,41 @@ unfoldable pub case_key : Bytes → Bool
 case_key s = elim (eqb (get_or s 0 0) 40) [ true ↦ eqb (word_at s 1).key (key (bytes "case")) | false ↦ false ]
 
 -- a record whose name ends at `name` and whose text begins at `body`, where so many bytes of text and of answer lie in the bytes; else bad
-unfoldable pub sized : Bytes → ℕ → ℕ → ℕ → ℕ → Record
+unfoldable pub sized : Bytes → ℕ → ℕ → ℕ → ℕ → Option Record
 sized s name body text answer =
     elim (ltb (length s) body) [
-      | true ↦ stored.Bad
+      | true ↦ None
       | false ↦ elim (ltb (length s - body) text) [
-        | true ↦ stored.Bad
-        | false ↦ elim (ltb (length s - body - text) answer) [ true ↦ stored.Bad | false ↦ stored.Is name body text answer ]
+        | true ↦ None
+        | false ↦ elim (ltb (length s - body - text) answer) [ true ↦ None | false ↦ Some (record { name = name; body = body; text = text; answer = answer }) ]
       ]
     ]
 
 -- a record whose line is closed at `at`, by a bracket and a line feed; else bad
-unfoldable pub closed : Bytes → ℕ → ℕ → ℕ → ℕ → Record
+unfoldable pub closed : Bytes → ℕ → ℕ → ℕ → ℕ → Option Record
 closed s name at text answer =
     elim (eqb (get_or s at 0) 41) [
-      | true ↦ elim (eqb (get_or s (at + 1) 0) 10) [ true ↦ sized s name (at + 2) text answer | false ↦ stored.Bad ]
-      | false ↦ stored.Bad
+      | true ↦ elim (eqb (get_or s (at + 1) 0) 10) [ true ↦ sized s name (at + 2) text answer | false ↦ None ]
+      | false ↦ None
     ]
 
 -- a record with that number as ANSWERLEN; without one it is bad
-abbrev pub answered : Bytes → ℕ → ℕ → Number → Record
-answered s name text None = stored.Bad
-answered s name text (Is answer at) = closed s name at text answer
+abbrev pub answered : Bytes → ℕ → ℕ → Number → Option Record
+answered s name text parsed.None = None
+answered s name text (parsed.Is answer at) = closed s name at text answer
 
 -- a record with that number as TEXTLEN; without one it is bad
-abbrev pub texted : Bytes → ℕ → Number → Record
-texted s name None = stored.Bad
-texted s name (Is text at) = answered s name text (number_after s at)
+abbrev pub texted : Bytes → ℕ → Number → Option Record
+texted s name parsed.None = None
+texted s name (parsed.Is text at) = answered s name text (number_after s at)
 
 -- a record whose name ends at `name`, with two numbers behind it, each behind one space
-unfoldable pub named : Bytes → ℕ → Record
+unfoldable pub named : Bytes → ℕ → Option Record
 named s name = texted s name (number_after s name)
 
 -- the record at the head of these bytes; its name begins one byte behind `case`, whatever that byte is
-unfoldable pub record_of : Bytes → Record
-record_of s = elim (case_key s) [ true ↦ named s (part_end s 6) | false ↦ stored.Bad ]
+unfoldable pub record_of : Bytes → Option Record
+record_of s = elim (case_key s) [ true ↦ named s (part_end s 6) | false ↦ None ]
 
 -- what a file has: cases, and whether there is nothing else behind them
 pub record File : Type 0 where
@@ -71,13 +70,13 @@ more_of c f = record { cases = c ∷ f.cases; whole = f.whole }
 
 -- the case whose record is at the head of these bytes: its name, behind six bytes and up to `name`, its text, from `body` on, and behind it its
 -- answer
-abbrev pub case_at : Bytes → ℕ → ℕ → ℕ → ℕ → Case
-case_at s name body text answer = record { name = piece s 5 name; text = take text (drop body s); answer = take answer (drop (body + text) s) }
+abbrev pub case_at : Bytes → Record → Case
+case_at s r = record { name = piece s 5 r.name; text = take r.text (drop r.body s); answer = take r.answer (drop (r.body + r.text) s) }
 
 -- the file at whose head that record is, `rest` giving the file behind it; a bad one is no case and ends it
-unfoldable pub file_behind : (Bytes → File) → Bytes → Record → File
-file_behind rest s stored.Bad = record { cases = []; whole = false }
-file_behind rest s (stored.Is name body text answer) = more_of (case_at s name body text answer) (rest (drop (body + text + answer) s))
+unfoldable pub file_behind : (Bytes → File) → Bytes → Option Record → File
+file_behind rest s None = record { cases = []; whole = false }
+file_behind rest s (Some r) = more_of (case_at s r) (rest (drop (r.body + r.text + r.answer) s))
 
 -- at most `fuel` cases, of which a file has no more than bytes
 unfoldable pub file_within : ℕ → Bytes → File

@@ -12,15 +12,12 @@ use lines::read::number_after;
 const CASE: u64 = 0x636173654;
 
 // A record at the head of some bytes: where its name ends, where its text begins, how many bytes text and answer have.
-#[derive(Clone, Copy)]
-pub enum Record {
-    Is {
-        name: usize,
-        body: usize,
-        text: usize,
-        answer: usize,
-    },
-    Bad,
+#[derive(Clone, Copy, Debug, PartialEq, Eq)]
+pub struct Record {
+    pub name: usize,
+    pub body: usize,
+    pub text: usize,
+    pub answer: usize,
 }
 
 // The first n bytes, all where there are fewer.
@@ -42,53 +39,53 @@ fn is_case(s: &[u8]) -> bool
 }
 
 // A record whose text and answer lie in the bytes.
-fn sized(s: &[u8], name: usize, body: usize, text: u64, answer: u64) -> Record
+fn sized(s: &[u8], name: usize, body: usize, text: u64, answer: u64) -> Option<Record>
     ensures { result ≡ sized s.now name body text answer }
 {
     if s.len() < body {
-        return Record::Bad;
+        return None;
     }
     let left = (s.len() - body) as u64;
     if left < text {
-        return Record::Bad;
+        return None;
     }
     if left - text < answer {
-        return Record::Bad;
+        return None;
     }
-    Record::Is {
+    Some(Record {
         name,
         body,
         text: text as usize,
         answer: answer as usize,
-    }
+    })
 }
 
 // A record whose line is closed here.
-fn closed(s: &[u8], name: usize, at: usize, text: u64, answer: u64) -> Record
+fn closed(s: &[u8], name: usize, at: usize, text: u64, answer: u64) -> Option<Record>
     ensures { result ≡ closed s.now name at text answer }
 {
     match class_of(at8(s, at)) {
         Class::Close => {
             if !is_feed(at8(s, at + 1)) {
-                return Record::Bad;
+                return None;
             }
             sized(s, name, at + 2, text, answer)
         }
-        _ => Record::Bad,
+        _ => None,
     }
 }
 
 // A record whose name ends here.
-fn named(s: &[u8], name: usize) -> Record
+fn named(s: &[u8], name: usize) -> Option<Record>
     ensures { result ≡ named s.now name }
 {
     match number_after(s, name) {
-        Number::None => Record::Bad,
+        Number::None => None,
         Number::Is {
             value: text,
             next: i,
         } => match number_after(s, i) {
-            Number::None => Record::Bad,
+            Number::None => None,
             Number::Is {
                 value: answer,
                 next: j,
@@ -98,12 +95,12 @@ fn named(s: &[u8], name: usize) -> Record
 }
 
 // The record that these bytes begin with.
-pub fn record_of(s: &[u8]) -> Record
+pub fn record_of(s: &[u8]) -> Option<Record>
     ensures { result ≡ record_of s.now }
 {
     if is_case(s) {
         named(s, part_end(s, 6))
     } else {
-        Record::Bad
+        None
     }
 }

@@ -1,11 +1,9 @@
 // The cases of a file, one after the other: what differs is printed and counted.
 ghost use Rattle.std.specs.Prelude.{◌≡◌};
 ghost use Rattle.cases.specs.Stored.{tally, file_of};
-ghost use Rattle.spec.specs.Bytes.{same_bytes};
 ghost use Rattle.cases.specs.Answer.{agrees};
 
 use crate::record;
-use crate::record::Record;
 use lines::bytes::at8;
 use lines::parts::{between, rest};
 
@@ -52,23 +50,6 @@ fn print_bad(rt: &impl Print) {
     print(rt, b"not a case\n");
 }
 
-// Whether two runs of bytes are the same.
-fn same(a: &[u8], b: &[u8]) -> bool
-    ensures { result ≡ same_bytes a.now b.now }
-{
-    if a.len() != b.len() {
-        return false;
-    }
-    let mut i = 0;
-    while i < a.len() {
-        if a[i] != b[i] {
-            return false;
-        }
-        i += 1;
-    }
-    true
-}
-
 // Whether what is printed for a text is the stored answer, byte for byte. Prints it where it is not.
 fn compare(rt: &impl Print, name: &[u8], text: &[u8], stored: &[u8]) -> bool
     ensures { result ≡ agrees text.now stored.now }
@@ -76,7 +57,7 @@ fn compare(rt: &impl Print, name: &[u8], text: &[u8], stored: &[u8]) -> bool
     let mut out = [0u8; program::REPORT];
     let n = program::print_to(text, &mut out);
     let answered = &out[..n];
-    if same(answered, stored) {
+    if answered == stored {
         print_worked(rt, name, answered);
         return true;
     }
@@ -92,35 +73,24 @@ pub fn run(rt: &impl Print, s: &[u8]) -> Tally
     let mut cases: usize = 0;
     let mut different: usize = 0;
     while 0 < t.len() {
-        match record::record_of(t) {
-            Record::Bad => {
-                print_bad(rt);
-                return Tally {
-                    cases,
-                    different: different + 1,
-                };
-            }
-            Record::Is {
-                name,
-                body,
-                text,
-                answer,
-            } => {
-                let next = body + text + answer;
-                cases += 1;
-                if compare(
-                    rt,
-                    between(t, 5, name),
-                    record::first(rest(t, body), text),
-                    record::first(rest(t, body + text), answer),
-                ) {
-                    t = &t[next..];
-                    continue;
-                }
-                different += 1;
-                t = &t[next..];
-            }
+        let Some(r) = record::record_of(t) else {
+            print_bad(rt);
+            return Tally {
+                cases,
+                different: different + 1,
+            };
+        };
+        let answer = r.body + r.text;
+        cases += 1;
+        if !compare(
+            rt,
+            between(t, 5, r.name),
+            record::first(rest(t, r.body), r.text),
+            record::first(rest(t, answer), r.answer),
+        ) {
+            different += 1;
         }
+        t = &t[answer + r.answer..];
     }
     Tally { cases, different }
 }

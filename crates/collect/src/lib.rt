@@ -427,10 +427,9 @@ fn make_summary(text: &[u8], kinds: &[u8], mods: &[u32], m: u32, pass: Pass, k: 
     ) else {
         return Asked::Full;
     };
-    if summary::summarise(run, ks, &g, k, m) {
-        Asked::Kept
-    } else {
-        Asked::Full
+    match summary::summarise(run, ks, &g, k, m) {
+        Ok(()) => Asked::Kept,
+        Err(_) => Asked::Full,
     }
 }
 

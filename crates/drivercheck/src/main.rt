@@ -1,8 +1,6 @@
 // Prints the reports of the text on standard input, or `(refused NUMBER LINE)`; `(unread)` where the text cannot be read.
 #![tactic(auto)]
 
-use input::Input;
-
 // All of it to standard output; where that fails, one line on standard error says so.
 fn print(rt: &(impl Print + Eprint), lines: &[u8]) {
     if rt.write_all(lines).is_err() {
@@ -21,7 +19,7 @@ fn main(rt: HostRuntime) {
     let mut text = [0u8; 65536];
     let mut reader = rt.stdin();
     match input::read_all(&mut reader, &mut text) {
-        Input::Read(n) => print_list(&rt, &text[..n]),
-        Input::Failed => print(&rt, b"(unread)\n"),
+        Ok(n) => print_list(&rt, &text[..n]),
+        Err(_) => print(&rt, b"(unread)\n"),
     }
 }

@@ -11,7 +11,7 @@ use Rattle.spec.specs.Bytes.{Bytes}
 use Rattle.spec.specs.Report.{Report, show_reports, show_report}
 use Rattle.report.specs.Line.{line, report_of, Written, put_by, placed}
 use Rattle.report.specs.declared.Report as report
-use Rattle.report.specs.declared.Put.TheVariants as put
+use Rattle.std.specs.Prelude.{Some}
 use Rattle.report.proofs.Laws.{sets_append, line_length}
 use Rattle.drivers.specs.declared.emit.Place.{Place}
 use Rattle.drivers.specs.Emits.{Within, Appended, Appends, Emits}
@@ -22,7 +22,7 @@ pub record Emitting (write : Bool) (old : Bytes) (p : Place) (all rest : List Re
   pub split : before ++ rest ≡ all
   pub emitted : Emits write old p before new q
 
-placed_fits : (l s : Bytes) (at : ℕ) → at + length s ≤ length l → placed l at s ≡ put_by (put.At (at + length s)) (take at l ++ s ++ drop (at + length s) l)
+placed_fits : (l s : Bytes) (at : ℕ) → at + length s ≤ length l → placed l at s ≡ put_by (Some (at + length s)) (take at l ++ s ++ drop (at + length s) l)
 unfolding placed
 placed_fits l s at h = rw (le-leb (at + length s) (length l) h, placed)
 

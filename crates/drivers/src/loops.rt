@@ -25,14 +25,12 @@ fn walk_node(n: graph::Node) -> report::Node
         graph::Node::Signal(a) => report::Node::Signal(a),
         graph::Node::Output(i, o) => report::Node::Output {
             inst: i,
-            indexed: false,
-            index: 0,
+            index: None,
             out: o,
         },
         graph::Node::OutputAt(i, x, o) => report::Node::Output {
             inst: i,
-            indexed: true,
-            index: x,
+            index: Some(x),
             out: o,
         },
     }

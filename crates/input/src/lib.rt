@@ -8,26 +8,17 @@ ghost use Rattle.input.specs.Input.{Within, answer};
 use std::io;
 use std::io::Read;
 
-// How many bytes stand at the front of the buffer; or a read failed.
-#[derive(Clone, Copy)]
-pub enum Input {
-    Read(usize),
-    Failed,
-}
-
-// What a read into the buffer answered.
-fn answered(got: io::Result<usize>, buf: &[u8]) -> Input
+// What a read into the buffer answered: so many bytes, no more than it has places; or the read failed.
+fn answered(got: io::Result<usize>, buf: &[u8]) -> io::Result<usize>
     ensures value { result ≡ answer got (length buf.now) }
     ensures within { Within result buf.now }
 {
-    match got {
-        Ok(n) => Input::Read(n.min(buf.len())),
-        Err(_) => Input::Failed,
-    }
+    let n = got?;
+    Ok(n.min(buf.len()))
 }
 
 // One read: 0 bytes at the end of the input, and where the buffer has no place.
-fn read_some<R: Read>(reader: &mut R, buf: &mut [u8]) -> Input
+fn read_some<R: Read>(reader: &mut R, buf: &mut [u8]) -> io::Result<usize>
     ensures within { Within result buf.new }
     ensures buf_len_unchanged { length buf.new ≡ length buf.old }
 {
@@ -36,52 +27,41 @@ fn read_some<R: Read>(reader: &mut R, buf: &mut [u8]) -> Input
 }
 
 // Reads until the buffer is full or the input ends.
-fn fill<R: Read>(reader: &mut R, buf: &mut [u8]) -> Input
+fn fill<R: Read>(reader: &mut R, buf: &mut [u8]) -> io::Result<usize>
     ensures within { Within result buf.new }
     ensures buf_len_unchanged { length buf.new ≡ length buf.old }
 {
     let mut done: usize = 0;
     while done < buf.len() {
-        let Input::Read(n) = read_some(reader, &mut buf[done..]) else {
-            return Input::Failed;
-        };
+        let n = read_some(reader, &mut buf[done..])?;
         if n == 0 {
-            return Input::Read(done);
+            return Ok(done);
         }
         done += n;
     }
-    Input::Read(done)
+    Ok(done)
 }
 
-// Reads what is left and keeps none of it: was the end reached? By fewer than 2^64 reads, since a loop without an end has no proof.
-fn drain<R: Read>(reader: &mut R) -> bool {
+// Reads what is left and keeps none of it. By fewer than 2^64 reads, since a loop without an end has no proof.
+fn drain<R: Read>(reader: &mut R) -> io::Result<()> {
     let mut rest = [0u8; 4096];
-    let mut left: u64 = 18446744073709551615;
-    while 0 < left {
-        left -= 1;
-        let Input::Read(n) = read_some(reader, &mut rest) else {
-            return false;
-        };
-        if n == 0 {
-            return true;
+    for _ in 0..u64::MAX {
+        if read_some(reader, &mut rest)? == 0 {
+            return Ok(());
         }
     }
-    false
+    Err(io::Error::other("the input has no end"))
 }
 
-// Reads standard input to its end, so that whoever writes it is not cut off, and keeps what the buffer holds of it.
-pub fn read_all<R: Read>(reader: &mut R, buf: &mut [u8]) -> Input
+// Reads standard input to its end, so that whoever writes it is not cut off, and keeps what the buffer holds of it: how many bytes stand
+// at its front.
+pub fn read_all<R: Read>(reader: &mut R, buf: &mut [u8]) -> io::Result<usize>
     ensures within { Within result buf.new }
     ensures buf_len_unchanged { length buf.new ≡ length buf.old }
 {
-    let Input::Read(n) = fill(reader, buf) else {
-        return Input::Failed;
-    };
-    if n < buf.len() {
-        return Input::Read(n);
+    let n = fill(reader, buf)?;
+    if n == buf.len() {
+        drain(reader)?;
     }
-    if drain(reader) {
-        return Input::Read(n);
-    }
-    Input::Failed
+    Ok(n)
 }

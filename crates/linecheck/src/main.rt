@@ -1,21 +1,14 @@
 // Is a text well formed? Prints nothing where it is, and else `(refused NUMBER LINE)`; `(unread)` where the text cannot be read.
 #![tactic(auto)]
 
-use input::Input;
 use lines::read::Verdict;
-use report::Put;
 use std::io;
 
 // Longer than any such line: 10 digits for each number.
 fn print_refused(rt: &impl Print, number: u32, line: u32) -> io::Result<()> {
     let mut out = [0u8; 40];
-    match report::put_refused(&mut out, 0, number, line) {
-        Put::At(n) => {
-            if n <= 40 {
-                rt.write_all(&out[..n])?;
-            }
-        }
-        Put::Full => {}
+    if let Some(n) = report::put_refused(&mut out, 0, number, line) {
+        rt.write_all(&out[..n.min(40)])?;
     }
     Ok(())
 }
@@ -32,7 +25,7 @@ fn main(rt: HostRuntime) -> io::Result<()> {
     let mut text = [0u8; 65536];
     let mut reader = rt.stdin();
     match input::read_all(&mut reader, &mut text) {
-        Input::Read(n) => print_verdict(&rt, &text[..n]),
-        Input::Failed => rt.write_all(b"(unread)\n"),
+        Ok(n) => print_verdict(&rt, &text[..n]),
+        Err(_) => rt.write_all(b"(unread)\n"),
     }
 }

@@ -18,8 +18,7 @@ use Rattle.spec.specs.Cases.{program_prints, Prints}
 use Rattle.spec.proofs.Cases.{computed_print, program_print}
 use Rattle.spec.proofs.Numbers.{if_case}
 use Rattle.report.specs.Line.{Written, put_by, placed, refused_line}
-use Rattle.report.specs.declared.Put.{Put}
-use Rattle.report.specs.declared.Put.TheVariants as put
+use Rattle.std.specs.Prelude.{Option, Some}
 use Rattle.drivers.specs.Check.{answer_of, slices, exit_of}
 use Rattle.drivers.specs.declared.check.Answer.{Answer}
 
@@ -117,12 +116,12 @@ module _ (kinds mods names own g w k : List ℕ) (l1 : 8192 ≤ length kinds) (l
         subst (Prints text) (r ∙ sym q) prints
 
 -- a piece that fits, written at the front of a buffer
-module _ (p buf buf' : Bytes) (r : Put) (m : ℕ) (e : m ≡ length p) (l : m ≤ length buf) (q : put_by r buf' ≡ placed buf 0 p) where
+module _ (p buf buf' : Bytes) (r : Option ℕ) (m : ℕ) (e : m ≡ length p) (l : m ≤ length buf) (q : put_by r buf' ≡ placed buf 0 p) where
   front : buf' ≡ p ++ drop (length p) buf
   unfolding placed
   front =
       let z : 0 + length p ≡ length p = omega arith in
-      let w : placed buf 0 p ≡ put_by (put.At (0 + length p)) (take 0 buf ++ p ++ drop (0 + length p) buf) = rw (le-leb (0 + length p) (length buf) (omega arith), placed) in
+      let w : placed buf 0 p ≡ put_by (Some (0 + length p)) (take 0 buf ++ p ++ drop (0 + length p) buf) = rw (le-leb (0 + length p) (length buf) (omega arith), placed) in
       ap (λ (w : Written). w.buffer) (q ∙ w) ∙ ap (λ (k : ℕ). p ++ drop k buf) z
 
   pub put_front : (take m buf' ≡ p) × IsPrefixLen m buf' × (drop m buf' ≡ drop m buf)

@@ -2,19 +2,20 @@
 use mathlib.Core.Path.{◌≡◌, refl, sym, ap, ◌∙◌}
 use mathlib.Core.List.{List, [], ◌∷◌, ◌++◌, append_assoc}
 use mathlib.Core.Bool.{Bool, true, false}
-use Prim.Native.Nat.{ℕ, zero, suc, ◌+◌, ◌-◌, ◌*◌, ◌/◌, ◌%◌, ◌<◌, ◌≤◌}
+use Prim.Native.Nat.{ℕ, zero, suc, ◌+◌, ◌-◌, ◌*◌, ◌/◌, ◌%◌, ◌^◌, ◌<◌, ◌≤◌}
 use native.Mathlib.Omega.{arith}
 use native.Mathlib.Numerals.{add-one}
 use lib.ListN.{length, get_or, set, take, drop, length-append}
-use lib.Seq.{sets, set_comm, drop-cons, length-sets, sets-eq}
+use lib.Seq.{sets, set_comm, drop-cons, length-sets, sets-eq, drop-drop}
 use lib.Dec.{ltb, leb, lit≤}
 use borrow.Author.Tests.{lt-ltb, le-ltb, ltb-true, ltb-false, leb-true, leb-false, le-leb, lt-leb}
 use lib.IntN.{pos, negsuc}
+use borrow.Rule.Slice.PartMut.{put_mid}
 use Rattle.spec.specs.Bytes.{Bytes, digits, show_number, show_int, show_rest, show_form}
 use Rattle.spec.specs.Edge as edge
 use Rattle.spec.specs.Report.{loop_report, show_report, show_node, show_nodes}
 use Rattle.report.specs.Line.{Ran, code_digit, unbiased, field, line_head, detail_end, line, index_bytes, node_bytes, output_bytes, put_by, placed, walk_head, walk_node, walk_tail, refused_line, node_of}
-use Rattle.report.specs.declared.Put.TheVariants as put
+use Rattle.std.specs.Prelude.{Option, Some, None}
 use Rattle.report.specs.declared.Detail.{Detail}
 use Rattle.report.specs.declared.Detail.TheVariants as detail
 use Rattle.report.specs.declared.Report.{Report}
@@ -76,22 +77,59 @@ digit_small l at n i h e =
     let w : i - 1 ≡ at = omega arith in
     ap (λ (k : ℕ). set l k (48 + n)) w ∙ ap (λ (s : List ℕ). sets l at s) (sym (number_small n h))
 
--- a word's bytes in order
-pub word_more : (l : List ℕ) (i : ℕ) (w : List ℕ) (j : ℕ) → j < length w → sets (set l i (get_or w j 0)) (i + 1) (drop (j + 1) w) ≡ sets l i (drop j w)
-word_more l i w j h = sym (rw (drop-cons w j 0 h, add-one i, add-one j))
+-- at the place i all from i on is written: the number's digits before it are still to come, and at the first place none is
+pub record Digits (l l' : List ℕ) (at n i m : ℕ) : Type 0 where
+  pub from : at ≤ i
+  pub still : at < i → (at + length (show_number m) ≡ i) × (sets l' at (show_number m) ≡ sets l at (show_number n))
+  pub done : i ≡ at → l' ≡ sets l at (show_number n)
 
--- numbers below 2 ^ 32 have at most ten digits
-short : (b k : ℕ) → 1 ≤ k → ((m : ℕ) → m < b → length (show_number m) ≤ k) → (n : ℕ) → n < 10 * b → length (show_number n) ≤ k + 1
-short b k g f n h = go (ltb n 10) refl
+some_digit : (n : ℕ) → 0 < length (show_number n)
+some_digit n = go (ltb n 10) refl
   where
-    go : (t : Bool) → ltb n 10 ≡ t → length (show_number n) ≤ k + 1
+    go : (b : Bool) → ltb n 10 ≡ b → 0 < length (show_number n)
     go true e = omega (arith, count_small n (ltb-true n 10 e))
-    go false e = omega (arith, count_large n (ltb-false n 10 e), f (n / 10) (omega arith))
+    go false e = omega (arith, count_large n (ltb-false n 10 e))
 
-pub ten_digits : (n : ℕ) → n < 10000000000 → length (show_number n) ≤ 10
-ten_digits =
-    short 1000000000 9 (lit≤ tt) (short 100000000 8 (lit≤ tt) (short 10000000 7 (lit≤ tt) (short 1000000 6 (lit≤ tt) (short 100000 5 (lit≤ tt)
-    (short 10000 4 (lit≤ tt) (short 1000 3 (lit≤ tt) (short 100 2 (lit≤ tt) (short 10 1 (lit≤ tt) (λ m h. omega (arith, count_small m h))))))))))
+pub digits_start : (l : List ℕ) (at n : ℕ) {c : ℕ} → c ≡ length (show_number n) → Digits l l at n (at + c) n
+digits_start l at n e =
+    let s = some_digit n in
+    record { from = omega arith; still = λ _. (omega arith, refl); done = λ z. absurd (omega arith) }
+
+pub digits_step : (l l' : List ℕ) (at n i m : ℕ) → at < i → Digits l l' at n i m → Digits l (set l' (i - 1) (48 + m % 10)) at n (i - 1) (m / 10)
+digits_step l l' at n i m p d = go (ltb m 10) refl
+  where
+    go : (b : Bool) → ltb m 10 ≡ b → Digits l (set l' (i - 1) (48 + m % 10)) at n (i - 1) (m / 10)
+    go true e =
+        let h = ltb-true m 10 e in
+        let s = d.still p in
+        let c = count_small m h in
+        let r : m % 10 ≡ m = omega arith in
+        record {
+          from = omega arith;
+          still = λ z. absurd (omega arith);
+          done = λ _. rw r (digit_small l' at m i h s.0 ∙ s.1);
+        }
+    go false e =
+        let h = ltb-false m 10 e in
+        let s = d.still p in
+        let c = count_large m h in
+        let o = some_digit (m / 10) in
+        record {
+          from = omega arith;
+          still = λ _. (omega arith, digit_large l' at m i h s.0 ∙ s.1);
+          done = λ z. absurd (omega arith);
+        }
+
+-- how many digits a number has, by its order of magnitude
+pub count_power : (k n : ℕ) → 10 ^ k ≤ n → n < 10 * 10 ^ k → length (show_number n) ≡ k + 1
+count_power zero n p q = count_small n (omega arith)
+count_power (suc k) n p q = omega (arith, count_large n (omega arith), count_power k (n / 10) (omega arith) (omega arith))
+
+-- a word copied to its place
+pub word_ran : (l w : Bytes) (at : ℕ) {w' : Bytes} → at + length w ≤ length l → w' ≡ w → Ran l at w (at + length w) (put_mid at (at + length w - at) l w')
+word_ran l w at {w'} h e =
+    let k : at + (at + length w - at) ≡ at + length w = omega arith in
+    record { to = refl; left = rw (e, drop-drop (at + length w - at) at l, k) (sym (sets-eq w l at h ∙ append_assoc (take at l) w (drop (at + length w) l))) }
 
 -- pieces written one behind the other
 pub then : {l l' l'' p q : Bytes} {at i r : ℕ} → Ran l at p i l' → Ran l' i q r l'' → Ran l at (p ++ q) r l''
@@ -159,13 +197,13 @@ unbiased_high : (v : ℕ) → 2147483648 ≤ v → unbiased v ≡ pos (v - 21474
 unfolding unbiased
 unbiased_high v h = rw (le-ltb v 2147483648 h, unbiased)
 
-pub index_low : (v : ℕ) → v < 2147483648 → index_bytes true v ≡ 45 ∷ show_number (2147483648 - v)
+pub index_low : (v : ℕ) → v < 2147483648 → index_bytes (Some v) ≡ 45 ∷ show_number (2147483648 - v)
 unfolding show_int
 index_low v h =
     let e : suc (2147483647 - v) ≡ 2147483648 - v = omega arith in
     ap show_int (unbiased_low v h) ∙ ap (λ (k : ℕ). 45 ∷ show_number k) e
 
-pub index_high : (v : ℕ) → 2147483648 ≤ v → index_bytes true v ≡ show_number (v - 2147483648)
+pub index_high : (v : ℕ) → 2147483648 ≤ v → index_bytes (Some v) ≡ show_number (v - 2147483648)
 unfolding show_int
 index_high v h = ap show_int (unbiased_high v h)
 
@@ -174,13 +212,13 @@ pub signal_bytes : (n : ℕ) → walk_node (node.Signal n) ≡ field n
 unfolding walk_node node_bytes show_node field
 signal_bytes n = refl
 
-pub node_output : (i : ℕ) (b : Bool) (x o : ℕ) → walk_node (node.Output i b x o) ≡ output_bytes i b x o
+pub node_output : (i : ℕ) (x : Option ℕ) (o : ℕ) → walk_node (node.Output i x o) ≡ output_bytes i x o
 unfolding walk_node node_bytes show_node output_bytes field show_form show_rest
-node_output i b x o = refl
+node_output i x o = refl
 
-pub output_length : (i : ℕ) (b : Bool) (x o : ℕ) → length (output_bytes i b x o) ≡ 7 + length (show_number i) + length (index_bytes b x) + length (show_number o)
+pub output_length : (i : ℕ) (x : Option ℕ) (o : ℕ) → length (output_bytes i x o) ≡ 7 + length (show_number i) + length (index_bytes x) + length (show_number o)
 unfolding output_bytes field
-output_length i b x o = simp length-append (omega arith)
+output_length i x o = simp length-append (omega arith)
 
 pub walk_head_length : (m start : ℕ) → length (walk_head m start) ≡ 14 + length (show_number m) + length (show_number start)
 unfolding walk_head field
@@ -198,16 +236,16 @@ pub refused_length : (a b : ℕ) → length (refused_line a b) ≡ 12 + length (
 refused_length a b = ap length (refused_pieces a b) ∙ omega (arith, refused_rest a b)
 
 -- what a writer leaves is what the definition says
-placed_true : (l p : Bytes) (at : ℕ) → leb (at + length p) (length l) ≡ true → placed l at p ≡ put_by (put.At (at + length p)) (take at l ++ p ++ drop (at + length p) l)
+placed_true : (l p : Bytes) (at : ℕ) → leb (at + length p) (length l) ≡ true → placed l at p ≡ put_by (Some (at + length p)) (take at l ++ p ++ drop (at + length p) l)
 unfolding placed
 placed_true l p at t = rw (t, placed)
 
-pub put_fits : {l l' p : Bytes} {at r : ℕ} (n : ℕ) → n ≡ length p → leb (at + n) (length l) ≡ true → Ran l at p r l' → put_by (put.At r) l' ≡ placed l at p
+pub put_fits : {l l' p : Bytes} {at r : ℕ} (n : ℕ) → n ≡ length p → leb (at + n) (length l) ≡ true → Ran l at p r l' → put_by (Some r) l' ≡ placed l at p
 put_fits {l} {l'} {p} {at} {r} n e f a =
     let t : leb (at + length p) (length l) ≡ true = ap (λ (k : ℕ). leb (at + k) (length l)) (sym e) ∙ f in
     rw (a.to, a.left, sets-eq p l at (leb-true (at + length p) (length l) t)) (sym (placed_true l p at t))
 
-pub put_full : (l p : Bytes) (at n : ℕ) → n ≡ length p → leb (at + n) (length l) ≡ false → put_by put.Full l ≡ placed l at p
+pub put_full : (l p : Bytes) (at n : ℕ) → n ≡ length p → leb (at + n) (length l) ≡ false → put_by None l ≡ placed l at p
 unfolding placed
 put_full l p at n e f =
     let t : leb (at + length p) (length l) ≡ false = ap (λ (k : ℕ). leb (at + k) (length l)) (sym e) ∙ f in

@@ -1,14 +1,12 @@
 -- Report lines in pieces, what the code's records mean, and what writing a piece does to a lent buffer. 01: The report; Refused because of the state.
 -- To a reader: definitions that contracts of this and other crates cite; each such contract is proved; check_drivers' own promise cites none of them.
-use Rattle.std.specs.Prelude.{◌≡◌, Bool, true, false, [], ◌∷◌, ◌++◌, ℕ, ◌+◌, ◌-◌, ltb, leb, ℤ, pos, negsuc, length, take, drop}
-use Rattle.std.proofs.Math.Option.{Option, some, none}
+use Rattle.std.specs.Prelude.{◌≡◌, Bool, true, false, [], ◌∷◌, ◌++◌, ℕ, ◌+◌, ◌-◌, ltb, leb, ℤ, pos, negsuc, length, take, drop, Option, Some, None}
+use Rattle.std.proofs.Math.Option.{Option as Maybe, some, none}
 use Rattle.std.proofs.lemmas.List.Edits.{sets}
 use Rattle.spec.specs.Bytes.{Bytes, bytes, show_number, show_rest, show_form}
 use Rattle.spec.specs.Site.{wire_driven, reg_driven, mem_driven, arrow}
 use Rattle.spec.specs.Edge as edge
 use Rattle.spec.specs.Report as spec
-use Rattle.report.specs.declared.Put.{Put}
-use Rattle.report.specs.declared.Put.TheVariants as put
 use Rattle.report.specs.declared.Detail.{Detail}
 use Rattle.report.specs.declared.Detail.TheVariants as detail
 use Rattle.report.specs.declared.Report.{Report}
@@ -37,14 +35,14 @@ unfoldable pub unbiased : ℕ → ℤ
 unbiased v = elim (ltb v 2147483648) [ true ↦ negsuc (2147483647 - v) | false ↦ pos (v - 2147483648) ]
 
 -- 01, The report: INDEX: what v holds, or none
-abbrev pub index_of : Bool → ℕ → Option ℤ
-index_of true v = some (unbiased v)
-index_of false v = none
+abbrev pub index_of : Option ℕ → Maybe ℤ
+index_of (Some v) = some (unbiased v)
+index_of None = none
 
 -- 01, The report: NODE, a signal or an instance output: what the code's `Node` means
 abbrev pub node_of : Node → edge.Node
 node_of (node.Signal n) = edge.signal n
-node_of (node.Output i b x o) = edge.inst_out i (index_of b x) o
+node_of (node.Output i x o) = edge.inst_out i (index_of x) o
 
 -- 01, The report: the last digit of a report's CODE, as a byte
 abbrev pub code_digit : Detail → ℕ
@@ -76,8 +74,8 @@ unfoldable pub line : Report → Bytes
 line r = spec.show_report (report_of r) ++ 10 ∷ []
 
 -- 01, The report: INDEX as it is written, `-` for none
-abbrev pub index_bytes : Bool → ℕ → Bytes
-index_bytes b x = spec.show_node_index (index_of b x)
+abbrev pub index_bytes : Option ℕ → Bytes
+index_bytes x = spec.show_node_index (index_of x)
 
 -- 01, The report: NODE as it is written
 unfoldable pub node_bytes : Node → Bytes
@@ -92,8 +90,8 @@ unfoldable pub walk_node : Node → Bytes
 walk_node n = 32 ∷ node_bytes n
 
 -- 01, The report: an instance output as a node, ` (u NAME INDEX NAME)`
-unfoldable pub output_bytes : ℕ → Bool → ℕ → ℕ → Bytes
-output_bytes i b x o = bytes " (u" ++ (field i ++ (bytes " " ++ (index_bytes b x ++ (field o ++ bytes ")"))))
+unfoldable pub output_bytes : ℕ → Option ℕ → ℕ → Bytes
+output_bytes i x o = bytes " (u" ++ (field i ++ (bytes " " ++ (index_bytes x ++ (field o ++ bytes ")"))))
 
 -- 01, The report: the end of a loop report's line, `))` and a line feed
 abbrev pub walk_tail : Bytes
@@ -109,14 +107,14 @@ pub record Ran (l : Bytes) (at : ℕ) (p : Bytes) (r : ℕ) (l' : Bytes) : Type 
   pub left : l' ≡ sets l at p
 
 -- 01, Refused because of the state: 21 where a piece does not fit in the buffer, else 0
-abbrev pub number_of : Put → ℕ
-number_of (put.At end) = 0
-number_of put.Full = 21
+abbrev pub number_of : Option ℕ → ℕ
+number_of (Some end) = 0
+number_of None = 21
 
 -- 01, The report: where a written piece ends; 0 where it does not fit
-abbrev pub end_of : Put → ℕ
-end_of (put.At end) = end
-end_of put.Full = 0
+abbrev pub end_of : Option ℕ → ℕ
+end_of (Some end) = end
+end_of None = 0
 
 -- 01, The report: what a writer answers, its number and where the piece ends, and the buffer that it leaves
 pub record Written : Type 0 where
@@ -125,13 +123,13 @@ pub record Written : Type 0 where
   pub buffer : Bytes
 
 -- 01, The report: the same, by its parts
-abbrev pub put_by : Put → Bytes → Written
+abbrev pub put_by : Option ℕ → Bytes → Written
 put_by r buf = record { number = number_of r; end = end_of r; buffer = buf }
 
 -- 01, The report; Refused because of the state: a piece written at a place: those bytes and no other, and nothing where it does not fit
 unfoldable pub placed : Bytes → ℕ → Bytes → Written
 placed buf at piece =
     elim (leb (at + length piece) (length buf)) [
-      | true ↦ put_by (put.At (at + length piece)) (take at buf ++ piece ++ drop (at + length piece) buf)
-      | false ↦ put_by put.Full buf
+      | true ↦ put_by (Some (at + length piece)) (take at buf ++ piece ++ drop (at + length piece) buf)
+      | false ↦ put_by None buf
     ]

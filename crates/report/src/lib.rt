@@ -6,14 +6,7 @@ ghost use Rattle.std.specs.Prelude.{◌≡◌, ◌+◌, ◌≤◌, leb, length};
 ghost use Rattle.spec.specs.Bytes.{show_number};
 ghost use Rattle.report.specs.Line.{code_digit, field, line_head, detail_end, line, index_bytes, output_bytes, walk_head, walk_node, walk_tail, refused_line, Ran, put_by, placed};
 
-// The place behind what was written; or it did not fit, and nothing was written.
-#[derive(Clone, Copy)]
-pub enum Put {
-    At(usize),
-    Full,
-}
-
-#[derive(Clone, Copy)]
+#[derive(Clone, Copy, Debug, PartialEq, Eq)]
 pub enum Detail {
     Wire,
     Reg,
@@ -27,7 +20,7 @@ pub enum Detail {
     MemBlocks,
 }
 
-#[derive(Clone, Copy)]
+#[derive(Clone, Copy, Debug, PartialEq, Eq)]
 pub struct Report {
     pub number: u32,
     pub start: u32,
@@ -35,14 +28,16 @@ pub struct Report {
     pub detail: Detail,
 }
 
+// What zero is held as in an index.
+const ZERO: u32 = 2147483648;
+
 // A signal; or an instance output, whose index v, where it has one, is held as v + 2147483648.
-#[derive(Clone, Copy)]
+#[derive(Clone, Copy, Debug, PartialEq, Eq)]
 pub enum Node {
     Signal(u32),
     Output {
         inst: u32,
-        indexed: bool,
-        index: u32,
+        index: Option<u32>,
         out: u32,
     },
 }
@@ -51,13 +46,10 @@ pub enum Node {
 fn count_number(n: u32) -> usize
     ensures { (result ≡ length (show_number n)) × (result ≤ 10) }
 {
-    let mut k: usize = 1;
-    let mut m = n;
-    while 10 <= m {
-        m = m / 10;
-        k += 1;
+    match n.checked_ilog10() {
+        Some(k) => k as usize + 1,
+        None => 1,
     }
-    k
 }
 
 fn count_detail(d: Detail) -> usize
@@ -89,17 +81,18 @@ pub fn count_report(x: Report) -> usize
     9 + a + b + c + d
 }
 
-fn count_index(indexed: bool, index: u32) -> usize
-    ensures { (result ≡ length (index_bytes indexed index)) × (result ≤ 11) }
+fn count_index(index: Option<u32>) -> usize
+    ensures { (result ≡ length (index_bytes index)) × (result ≤ 11) }
 {
-    if indexed {
-        if index < 2147483648 {
-            1 + count_number(2147483648 - index)
-        } else {
-            count_number(index - 2147483648)
+    match index {
+        Some(v) => {
+            if v < ZERO {
+                1 + count_number(ZERO - v)
+            } else {
+                count_number(v - ZERO)
+            }
         }
-    } else {
-        1
+        None => 1,
     }
 }
 
@@ -111,12 +104,11 @@ pub fn count_walk_node(n: Node) -> usize
         Node::Signal(name) => 1 + count_number(name),
         Node::Output {
             inst,
-            indexed,
             index,
             out,
         } => {
             let a = count_number(inst);
-            let b = count_index(indexed, index);
+            let b = count_index(index);
             let c = count_number(out);
             7 + a + b + c
         }
@@ -154,15 +146,11 @@ fn write_number(buf: &mut [u8], at: usize, n: u32) -> usize
     ensures { Ran buf.old at (show_number n) result buf.new }
 {
     let end = at + count_number(n);
-    let mut i = end;
     let mut m = n;
-    while 10 <= m {
-        i -= 1;
+    for i in (at..end).rev() {
         buf[i] = (48 + m % 10) as u8;
-        m = m / 10;
+        m /= 10;
     }
-    i -= 1;
-    buf[i] = (48 + m) as u8;
     end
 }
 
@@ -170,14 +158,9 @@ fn write_word(buf: &mut [u8], at: usize, word: &[u8]) -> usize
     requires { at + length word.now ≤ length buf.old }
     ensures { Ran buf.old at word.now result buf.new }
 {
-    let mut i = at;
-    let mut j: usize = 0;
-    while j < word.len() {
-        buf[i] = word[j];
-        i += 1;
-        j += 1;
-    }
-    i
+    let end = at + word.len();
+    buf[at..end].copy_from_slice(word);
+    end
 }
 
 // A space and a number.
@@ -253,28 +236,30 @@ fn write_report(buf: &mut [u8], at: usize, x: Report) -> usize
 }
 
 // An instance output's index: `-` for none.
-fn write_index(buf: &mut [u8], at: usize, indexed: bool, index: u32) -> usize
-    requires { at + length (index_bytes indexed index) ≤ length buf.old }
-    ensures { Ran buf.old at (index_bytes indexed index) result buf.new }
+fn write_index(buf: &mut [u8], at: usize, index: Option<u32>) -> usize
+    requires { at + length (index_bytes index) ≤ length buf.old }
+    ensures { Ran buf.old at (index_bytes index) result buf.new }
 {
-    if indexed {
-        if index < 2147483648 {
-            buf[at] = b'-';
-            return write_number(buf, at + 1, 2147483648 - index);
+    match index {
+        Some(v) => {
+            if v < ZERO {
+                buf[at] = b'-';
+                return write_number(buf, at + 1, ZERO - v);
+            }
+            write_number(buf, at, v - ZERO)
         }
-        return write_number(buf, at, index - 2147483648);
+        None => write_word(buf, at, b"-"),
     }
-    write_word(buf, at, b"-")
 }
 
-fn write_output(buf: &mut [u8], at: usize, inst: u32, indexed: bool, index: u32, out: u32) -> usize
-    requires { at + length (output_bytes inst indexed index out) ≤ length buf.old }
-    ensures { Ran buf.old at (output_bytes inst indexed index out) result buf.new }
+fn write_output(buf: &mut [u8], at: usize, inst: u32, index: Option<u32>, out: u32) -> usize
+    requires { at + length (output_bytes inst index out) ≤ length buf.old }
+    ensures { Ran buf.old at (output_bytes inst index out) result buf.new }
 {
     let a = write_word(buf, at, b" (u");
     let b = write_field(buf, a, inst);
     let c = write_word(buf, b, b" ");
-    let d = write_index(buf, c, indexed, index);
+    let d = write_index(buf, c, index);
     let e = write_field(buf, d, out);
     write_word(buf, e, b")")
 }
@@ -287,10 +272,9 @@ fn write_walk_node(buf: &mut [u8], at: usize, n: Node) -> usize
         Node::Signal(name) => write_field(buf, at, name),
         Node::Output {
             inst,
-            indexed,
             index,
             out,
-        } => write_output(buf, at, inst, indexed, index, out),
+        } => write_output(buf, at, inst, index, out),
     }
 }
 
@@ -324,57 +308,57 @@ fn has_room(len: usize, at: usize, n: usize) -> bool
     n <= len - at
 }
 
-// A report's line, at a place of the buffer.
-pub fn put_report(buf: &mut [u8], at: usize, x: Report) -> Put
+// A report's line, at a place of the buffer: the place behind it, or it does not fit, and nothing is written. So do the others.
+pub fn put_report(buf: &mut [u8], at: usize, x: Report) -> Option<usize>
     ensures { put_by result buf.new ≡ placed buf.old at (line x) }
 {
     if has_room(buf.len(), at, count_report(x)) {
-        Put::At(write_report(buf, at, x))
+        Some(write_report(buf, at, x))
     } else {
-        Put::Full
+        None
     }
 }
 
 // `(E0504 M START (walk`.
-pub fn put_walk_head(buf: &mut [u8], at: usize, m: u32, start: u32) -> Put
+pub fn put_walk_head(buf: &mut [u8], at: usize, m: u32, start: u32) -> Option<usize>
     ensures { put_by result buf.new ≡ placed buf.old at (walk_head m start) }
 {
     if has_room(buf.len(), at, count_walk_head(m, start)) {
-        Put::At(write_walk_head(buf, at, m, start))
+        Some(write_walk_head(buf, at, m, start))
     } else {
-        Put::Full
+        None
     }
 }
 
 // ` NODE`.
-pub fn put_walk_node(buf: &mut [u8], at: usize, n: Node) -> Put
+pub fn put_walk_node(buf: &mut [u8], at: usize, n: Node) -> Option<usize>
     ensures { put_by result buf.new ≡ placed buf.old at (walk_node n) }
 {
     if has_room(buf.len(), at, count_walk_node(n)) {
-        Put::At(write_walk_node(buf, at, n))
+        Some(write_walk_node(buf, at, n))
     } else {
-        Put::Full
+        None
     }
 }
 
 // `))` and a line feed.
-pub fn put_walk_tail(buf: &mut [u8], at: usize) -> Put
+pub fn put_walk_tail(buf: &mut [u8], at: usize) -> Option<usize>
     ensures { put_by result buf.new ≡ placed buf.old at walk_tail }
 {
     if has_room(buf.len(), at, 3) {
-        Put::At(write_word(buf, at, b"))\n"))
+        Some(write_word(buf, at, b"))\n"))
     } else {
-        Put::Full
+        None
     }
 }
 
 // `(refused NUMBER LINE)` and a line feed.
-pub fn put_refused(buf: &mut [u8], at: usize, number: u32, line: u32) -> Put
+pub fn put_refused(buf: &mut [u8], at: usize, number: u32, line: u32) -> Option<usize>
     ensures { put_by result buf.new ≡ placed buf.old at (refused_line number line) }
 {
     if has_room(buf.len(), at, count_refused(number, line)) {
-        Put::At(write_refused(buf, at, number, line))
+        Some(write_refused(buf, at, number, line))
     } else {
-        Put::Full
+        None
     }
 }

@@ -10,28 +10,18 @@ use lines::bytes::{Class, class_of};
 pub fn form_end(s: &[u8], from: usize) -> usize
     ensures { result ≡ from + form_length 0 (drop from s.now) }
 {
-    let mut i = from;
     let mut k: usize = 0;
-    while i < s.len() {
+    for i in from..s.len() {
         match class_of(s[i]) {
-            Class::Open => {
-                k += 1;
-                i += 1;
-                continue;
-            }
+            Class::Open => k += 1,
             Class::Close => {
                 if k <= 1 {
                     return i + 1;
                 }
                 k -= 1;
-                i += 1;
-                continue;
             }
-            _ => {
-                i += 1;
-                continue;
-            }
+            _ => {}
         }
     }
-    i
+    from.max(s.len())
 }

@@ -2,7 +2,7 @@
 // reported. Prints each case's name and the lines of its reports.
 #![tactic(auto)]
 
-use report::{Detail, Put, Report};
+use report::{Detail, Report};
 use sites::{Cover, Extent, Found, Site};
 use std::io;
 
@@ -22,13 +22,8 @@ fn print_report(rt: &impl Print, start: u32, name: u32, detail: Detail) -> io::R
         name,
         detail,
     };
-    match report::put_report(&mut out, 0, x) {
-        Put::At(n) => {
-            if n <= 60 {
-                rt.write_all(&out[..n])?;
-            }
-        }
-        Put::Full => {}
+    if let Some(n) = report::put_report(&mut out, 0, x) {
+        rt.write_all(&out[..n.min(60)])?;
     }
     Ok(())
 }
@@ -44,12 +39,9 @@ fn drive(own: &mut [u32], extent: Extent, start: u32) {
 
 // The conflicts, in order.
 fn print_conflicts(rt: &impl Print, own: &[u32]) -> io::Result<()> {
-    let n = sites::conflict_count(own);
-    let mut i: usize = 0;
-    while i < n {
+    for i in 0..sites::conflict_count(own) {
         let c = sites::conflict_at(own, i);
         print_report(rt, c.start, c.name, Detail::Many)?;
-        i += 1;
     }
     Ok(())
 }

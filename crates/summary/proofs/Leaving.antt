@@ -17,8 +17,7 @@ use Rattle.runs.specs.Run.{form_length}
 use Rattle.graph.specs.Stands.{Stands}
 use Rattle.graph.specs.Reach.{Clean, reach_inputs}
 use Rattle.edges.specs.Reads.{KindsOf}
-use Rattle.summary.specs.declared.Port as P
-use Rattle.summary.specs.declared.Port.TheVariants as ports
+use Rattle.std.specs.Prelude.{Option, Some, None}
 use Rattle.summary.specs.Keeps.{total_of, recorded}
 use Rattle.summary.specs.Pairs.{pairs_written, output_pairs, outputs_pairs, OutputLeaves, PairsOf, port_of, forms_from, name_before, port_names, first_names, outputs_of, run_pairs, Leaves}
 use Rattle.summary.proofs.Pairs.{all_then, full_then}
@@ -33,7 +32,7 @@ unfolding forms_from
 forms_none zero s from l = refl
 forms_none (suc n) s from l = rw (le-ltb (from + 1) (length s) l, forms_from)
 
-names_next : (x : Bytes) (xs : List Bytes) (r : P.Port) → r ≡ port_of x → port_names (x ∷ xs) ≡ name_before r (port_names xs)
+names_next : (x : Bytes) (xs : List Bytes) (r : Option ℕ) → r ≡ port_of x → port_names (x ∷ xs) ≡ name_before r (port_names xs)
 unfolding port_names
 names_next x xs r e = rw e
 
@@ -106,7 +105,7 @@ module _ {s : Bytes} {kinds gr : List ℕ} {from : ℕ} {k₀ k seen w : List �
         known_end l,
       )
 
-  module _ (l : from + 1 < length s) {end : ℕ} (qe : end ≡ from + 1 + form_length 0 (drop (from + 1) s)) {x : Bytes} (qx : x ≡ piece s from end) (r : P.Port) (told : r ≡ port_of x) where
+  module _ (l : from + 1 < length s) {end : ℕ} (qe : end ≡ from + 1 + form_length 0 (drop (from + 1) s)) {x : Bytes} (qx : x ≡ piece s from end) (r : Option ℕ) (told : r ≡ port_of x) where
     abbrev left : ℕ
     left = g.fuel - 1
 
@@ -122,14 +121,14 @@ module _ {s : Bytes} {kinds gr : List ℕ} {from : ℕ} {k₀ k seen w : List �
     still = omega (arith, g.enough)
 
     -- a form that is no output
-    pub turning_other : r ≡ ports.Other → Turning s kinds gr end k₀ k seen w
+    pub turning_other : r ≡ None → Turning s kinds gr end k₀ k seen w
     turning_other e =
-        let t : port_names (forms_from g.fuel s from) ≡ later = names_here ∙ ap (λ (z : P.Port). name_before z later) e in
+        let t : port_names (forms_from g.fuel s from) ≡ later = names_here ∙ ap (λ (z : Option ℕ). name_before z later) e in
         record { fuel = left; enough = still; names = g.names; marked = g.marked; clean = g.clean; rest = onward (ap (first_names g.names) t); known = λ os after a h. g.known os after (ap (first_names g.names) t ∙ a) h }
 
-    module _ {o : ℕ} (e : r ≡ ports.Out o) (small : o < 256) where
+    module _ {o : ℕ} (e : r ≡ Some o) (small : o < 256) where
       next : port_names (forms_from g.fuel s from) ≡ o ∷ later
-      next = names_here ∙ ap (λ (z : P.Port). name_before z later) e
+      next = names_here ∙ ap (λ (z : Option ℕ). name_before z later) e
 
       -- a second line of an output
       pub turning_seen : ¬ (get_or seen o 0 ≡ 0) → Turning s kinds gr end k₀ k seen w

@@ -25,8 +25,7 @@ use Rattle.graph.proofs.Lifted.{reached_once}
 use Rattle.edges.specs.Reads.{kind_word, KindsOf}
 use Rattle.walk.specs.Alike.{Alike}
 use Rattle.walk.proofs.Alike.{finds_alike, reach_by, Finds}
-use Rattle.summary.specs.declared.Port as P
-use Rattle.summary.specs.declared.Port.TheVariants as ports
+use Rattle.std.specs.Prelude.{Option, Some, None}
 use Rattle.summary.specs.Keeps.{total_of, Keeps, recorded, Made}
 use Rattle.summary.specs.Pairs.{Grown, pairs_written, output_pairs, OutputLeaves, Added, Reaching, OutputAdded, PortIs}
 use Rattle.summary.proofs.Table.{name_first, name_other}
@@ -239,14 +238,14 @@ module _ {d : ℕ} {s : Bytes} {from : ℕ} {M : Module} {heads : List Head} {k�
       onward : RunOf d (drop end s) first.rest
       onward = rw at_end first.onward
 
-      module _ {x : Bytes} (qx : x ≡ piece s from end) (r : P.Port) (told : (i : Item) (e : ℕ) → ShowsItem x e i → PortIs r i) where
+      module _ {x : Bytes} (qx : x ≡ piece s from end) (r : Option ℕ) (told : (i : Item) (e : ℕ) → ShowsItem x e i → PortIs r i) where
         shows : ShowsItem x d first.item
         shows = rw (qx ∙ ap (piece s from) at_end) first.shows
 
         -- an item that is no output
-        pub going_other : r ≡ ports.Other → Going d s end M heads k₀ k seen w
+        pub going_other : r ≡ None → Going d s end M heads k₀ k seen w
         going_other e =
-            let p : PortIs ports.Other first.item = rw e at (told first.item d shows) in
+            let p : PortIs None first.item = rw e at (told first.item d shows) in
             record {
               rest = first.rest;
               run = onward;
@@ -261,8 +260,8 @@ module _ {d : ℕ} {s : Bytes} {from : ℕ} {M : Module} {heads : List Head} {k�
               whole = g.whole ∙ ap (λ (is : Items). g.done ++ first_lines g.names (top_outputs is)) first.whole ∙ ap (λ (z : List Output). g.done ++ first_lines g.names z) (skip_other first.item first.rest p);
             }
 
-        module _ {o : ℕ} (e : r ≡ ports.Out o) (small : o < 256) where
-          told_out : PortIs (ports.Out o) first.item
+        module _ {o : ℕ} (e : r ≡ Some o) (small : o < 256) where
+          told_out : PortIs (Some o) first.item
           told_out = rw e at (told first.item d shows)
 
           this : Output

@@ -1,7 +1,7 @@
 -- The pairs of a summary that is being made: each top-level output with the inputs that it reaches.
 -- 01: The line; The edge; Refused because of the state; Worthless checks.
 -- To a reader: definitions that contracts of this and other crates cite; each such contract is proved; check_drivers' own promise cites none of them.
-use Rattle.std.specs.Prelude.{◌≡◌, Bool, true, false, List, [], ◌∷◌, ◌++◌, ℕ, zero, suc, ◌+◌, ◌-◌, ◌*◌, ◌≤◌, ◌<◌, length, drop, get_or, set, replicate, eqb, ltb}
+use Rattle.std.specs.Prelude.{◌≡◌, Bool, true, false, List, [], ◌∷◌, ◌++◌, ℕ, zero, suc, ◌+◌, ◌-◌, ◌*◌, ◌≤◌, ◌<◌, length, drop, get_or, set, replicate, eqb, ltb, Option, Some, None}
 use Rattle.spec.specs.Bytes.{Bytes, number}
 use Rattle.spec.specs.Syntax.{Width, Item, port, output, Header}
 use Rattle.spec.specs.Refusal.{has_name}
@@ -16,8 +16,6 @@ use Rattle.graph.specs.Reach.{Clean, found, reach_inputs}
 use Rattle.edges.specs.Lines.{summary_at}
 use Rattle.edges.specs.Reads.{KindsOf}
 use Rattle.summary.specs.Keeps.{total_of, kept_places, recorded}
-use Rattle.summary.specs.declared.Port as P
-use Rattle.summary.specs.declared.Port.TheVariants as ports
 
 -- 01, The edge; Refused because of the state: the table k is k₀ with the pairs ps behind its own, 1,024 at most
 pub record Grown (k₀ k : List ℕ) (ps : Summary) : Type 0 where
@@ -74,14 +72,14 @@ PairsOf kinds g (o ∷ os) ps =
     × PairsOf kinds g os rest × (ps ≡ paired o is ++ rest)
 
 -- 01, The line: an item in any bytes by its word, its direction and its name: byte 1 is p, byte 6 is o, and the number behind byte 9 is at most 255
-unfoldable pub port_of : Bytes → P.Port
+unfoldable pub port_of : Bytes → Option ℕ
 port_of x =
     elim (eqb (get_or x 1 0) 112) [
       | true ↦ elim (eqb (get_or x 6 0) 111) [
-        | true ↦ elim (ltb 255 (number (piece x 9 (next_end x 9)))) [ true ↦ ports.Other | false ↦ ports.Out (number (piece x 9 (next_end x 9))) ]
-        | false ↦ ports.Other
+        | true ↦ elim (ltb 255 (number (piece x 9 (next_end x 9)))) [ true ↦ None | false ↦ Some (number (piece x 9 (next_end x 9))) ]
+        | false ↦ None
       ]
-      | false ↦ ports.Other
+      | false ↦ None
     ]
 
 -- 01, The line: the forms in any bytes read as a run from the byte at `from` on, one behind the other, at most so many
@@ -94,9 +92,9 @@ forms_from (suc n) s from =
     ]
 
 -- 01, The edge: the name of a `port out` line before others
-abbrev pub name_before : P.Port → List ℕ → List ℕ
-name_before (ports.Out n) l = n ∷ l
-name_before ports.Other l = l
+abbrev pub name_before : Option ℕ → List ℕ → List ℕ
+name_before (Some n) l = n ∷ l
+name_before None l = l
 
 -- 01, The edge: the names of the `port out` lines among forms
 unfoldable pub port_names : List Bytes → List ℕ
@@ -141,6 +139,6 @@ pub record OutputAdded (r : Bool) (w k₀ k : List ℕ) (ps : Summary) (header :
   pub added : Added r k₀ k ps (paired o inputs)
 
 -- 01, The edge: an item: a `port out` line with that name, or one that makes no output
-abbrev pub PortIs : P.Port → Item → Type 0
-PortIs (ports.Out n) i = (w : Width) × (start : ℕ) × (i ≡ port output n w start)
-PortIs ports.Other i = line_outputs i ≡ []
+abbrev pub PortIs : Option ℕ → Item → Type 0
+PortIs (Some n) i = (w : Width) × (start : ℕ) × (i ≡ port output n w start)
+PortIs None i = line_outputs i ≡ []

@@ -2,7 +2,7 @@
 // specs/Keeps.antt says what its words are. Every function is safe for any slice.
 #![tactic(auto)]
 
-ghost use Rattle.std.specs.Prelude.{◌≡◌, false, List, [], ◌∷◌, ℕ, ◌<◌, get_or, set};
+ghost use Rattle.std.specs.Prelude.{◌≡◌, false, is_ok, List, [], ◌∷◌, ℕ, ◌<◌, get_or, set};
 ghost use Rattle.spec.specs.Syntax.{Item, Header, Module};
 ghost use Rattle.spec.specs.Refusal.{has_name};
 ghost use Rattle.spec.specs.Edge.{Head, Summary};
@@ -17,12 +17,16 @@ ghost use Rattle.summary.specs.Pairs.{Grown, Added, OutputAdded, PortIs, pairs_w
 use lines::{numbers, parts};
 
 // A module that no line asked for yet, one that is being summarised, one whose summary is kept.
-#[derive(Clone, Copy)]
+#[derive(Clone, Copy, Debug, PartialEq, Eq)]
 pub enum State {
     New,
     Busy,
     Kept,
 }
+
+// A summary triple too many.
+#[derive(Clone, Copy, Debug, PartialEq, Eq)]
+pub struct Full;
 
 // The words of the table.
 pub const KEPT: usize = 2145;
@@ -101,76 +105,69 @@ pub fn begin(k: &mut [u32], m: u32)
 pub fn reset(k: &mut [u32])
     ensures { k.new ≡ emptied k.old }
 {
-    let mut i: usize = 0;
-    while i < MODULES {
+    for i in 0..MODULES {
         put(k, i, 0);
-        i += 1;
     }
     put(k, TOTAL, 0);
 }
 
-// An item: a `port out` line, by its name, or something else.
-#[derive(Clone, Copy)]
-enum Port {
-    Out(u32),
-    Other,
-}
-
-// The item that the bytes x show, by the first of them.
-fn port_of(x: &[u8]) -> Port
+// The name of the `port out` line that the bytes x show, by the first of them; none where they show another item.
+fn port_of(x: &[u8]) -> Option<u32>
     ensures port_is { (i : Item) (d : ℕ) → ShowsItem x.now d i → PortIs result i }
     ensures value { result ≡ port_of x.now }
 {
     if parts::byte(x, 1) != b'p' {
-        return Port::Other;
+        return None;
     }
     if parts::byte(x, 6) != b'o' {
-        return Port::Other;
+        return None;
     }
     let end = parts::part_end(x, 10);
     let n = numbers::value(parts::between(x, 9, end));
     if 255 < n {
-        return Port::Other;
+        return None;
     }
-    Port::Out(n as u32)
+    Some(n as u32)
 }
 
 // One pair more, if there is room for it.
-fn push(k: &mut [u32], o: u32, i: u32) -> bool
-    ensures by_index { (k₀ : List ℕ) (ps : Summary) → Grown k₀ k.old ps → Added result k₀ k.new ps ((o, i) ∷ []) }
-    ensures k_value { pairs_written ((o, i) ∷ []) k.old ≡ (result, k.new) }
+fn push(k: &mut [u32], o: u32, i: u32) -> Result<(), Full>
+    ensures by_index { (k₀ : List ℕ) (ps : Summary) → Grown k₀ k.old ps → Added (is_ok result) k₀ k.new ps ((o, i) ∷ []) }
+    ensures k_value { pairs_written ((o, i) ∷ []) k.old ≡ (is_ok result, k.new) }
 {
     let n = at(k, TOTAL);
     if TRIPLES <= n {
-        return false;
+        return Err(Full);
     }
     let p = PAIRS + 2 * (n as usize);
     put(k, p, o);
     put(k, p + 1, i);
     put(k, TOTAL, n + 1);
-    true
+    Ok(())
 }
 
 // A pair of the output o with each of the n names that the last search found.
-fn push_found(k: &mut [u32], w: &[u32], n: u32, o: u32) -> bool
-    ensures by_index { (k₀ : List ℕ) (ps : Summary) → Grown k₀ k.old ps → Added result k₀ k.new ps (paired o (found w.now n)) }
-    ensures k_value { pairs_written (paired o (found w.now n)) k.old ≡ (result, k.new) }
+fn push_found(k: &mut [u32], w: &[u32], n: u32, o: u32) -> Result<(), Full>
+    ensures by_index { (k₀ : List ℕ) (ps : Summary) → Grown k₀ k.old ps → Added (is_ok result) k₀ k.new ps (paired o (found w.now n)) }
+    ensures k_value { pairs_written (paired o (found w.now n)) k.old ≡ (is_ok result, k.new) }
 {
-    let mut i = n;
-    while 0 < i {
-        i -= 1;
-        if !push(k, o, graph::found_name(w, i)) {
-            return false;
-        }
+    for i in (0..n).rev() {
+        push(k, o, graph::found_name(w, i))?;
     }
-    true
+    Ok(())
 }
 
 // A pair of the output o with each input that it reaches.
-fn add_output(kinds: &[u8], g: &[u32], w: &mut [u32], k: &mut [u32], o: u32) -> bool
+fn add_output(
+    kinds: &[u8],
+    g: &[u32],
+    w: &mut [u32],
+    k: &mut [u32],
+    o: u32,
+) -> Result<(), Full>
     ensures output_added { (header : List Header) (heads : List Head) → KindsOf kinds.now header → Stands g.now heads → Clean w.old
-        → (k₀ : List ℕ) (ps : Summary) → Grown k₀ k.old ps → OutputAdded result w.new k₀ k.new ps header heads o }
-    ensures output_leaves { OutputLeaves result kinds.now g.now w.old w.new k.old o k.new }
+        → (k₀ : List ℕ) (ps : Summary) → Grown k₀ k.old ps → OutputAdded (is_ok result) w.new k₀ k.new ps header heads o }
+    ensures output_leaves { OutputLeaves (is_ok result) kinds.now g.now w.old w.new k.old o k.new }
 {
     let n = graph::reach(g, kinds, w, o);
     push_found(k, w, n, o)
@@ -185,13 +182,13 @@ fn keep(k: &mut [u32], m: u32, start: u32, count: u32)
     put(k, m as usize, 2);
 }
 
-// Makes the summary of the module m, which is in progress, from the run s of its items and its graph g, and keeps it: false where that
-// is a triple too many; the table is cleared then.
-pub fn summarise(s: &[u8], kinds: &[u8], g: &[u32], k: &mut [u32], m: u32) -> bool
+// Makes the summary of the module m, which is in progress, from the run s of its items and its graph g, and keeps it; or that
+// is a triple too many, and the table is cleared.
+pub fn summarise(s: &[u8], kinds: &[u8], g: &[u32], k: &mut [u32], m: u32) -> Result<(), Full>
     ensures by_index { (d : ℕ) (M : Module) (heads : List Head) (kept : Kept) (busy : List ℕ)
         → RunOf d s.now M.items → KindsOf kinds.now M.header → Stands g.now heads → Keeps k.old kept (m ∷ busy) → m < 32
-        → has_name m busy ≡ false → Made result k.new m M heads kept busy }
-    ensures leaves { Leaves result s.now kinds.now g.now k.old m k.new }
+        → has_name m busy ≡ false → Made (is_ok result) k.new m M heads kept busy }
+    ensures leaves { Leaves (is_ok result) s.now kinds.now g.now k.old m k.new }
 {
     let start = at(k, TOTAL);
     let mut seen = [0u8; NAMES];
@@ -200,22 +197,20 @@ pub fn summarise(s: &[u8], kinds: &[u8], g: &[u32], k: &mut [u32], m: u32) -> bo
     while from + 1 < s.len() {
         let before = from;
         from = runs::form_end(s, before + 1);
-        match port_of(parts::between(s, before, from)) {
-            Port::Other => continue,
-            Port::Out(o) => {
-                let i = o as usize;
-                if seen[i] != 0 {
-                    continue;
-                }
-                seen[i] = 1;
-                if !add_output(kinds, g, &mut w, k, o) {
-                    graph::clear(k);
-                    return false;
-                }
-            }
+        let Some(o) = port_of(parts::between(s, before, from)) else {
+            continue;
+        };
+        let i = o as usize;
+        if seen[i] != 0 {
+            continue;
+        }
+        seen[i] = 1;
+        if let Err(full) = add_output(kinds, g, &mut w, k, o) {
+            graph::clear(k);
+            return Err(full);
         }
     }
     let end = at(k, TOTAL);
     keep(k, m, start, end - start);
-    true
+    Ok(())
 }

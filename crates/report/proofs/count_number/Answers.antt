@@ -1,15 +1,11 @@
 use native.Mathlib.Omega.{arith}
-use Rattle.report.proofs.Laws.{count_small, count_large, ten_digits}
+use Rattle.report.proofs.Laws.{count_small, count_power}
 use Rattle.report.proofs.count_number.Goals as goal
 
-pub loop-m-init : goal.loop-m-init
-loop-m-init c = omega arith
+pub returns-in-Some : goal.returns-in-Some
+returns-in-Some c = let e = count_power c.in-Some.k c.args.n c.in-Some.ensures.power_le c.in-Some.ensures.next_power_gt in
+    let b = c.in-Some.ensures.bound in
+    omega (arith, e, b)
 
-pub loop-m-smaller : goal.loop-m-smaller
-loop-m-smaller c = omega arith
-
-pub loop-m-preserved : goal.loop-m-preserved
-loop-m-preserved c = omega (arith, count_large c.loop-m.m c.loop-m-test.true)
-
-pub returns : goal.returns
-returns c = omega (arith, count_small c.loop-m.m c.loop-m-test.false, ten_digits c.args.n (omega arith))
+pub returns-in-None : goal.returns-in-None
+returns-in-None c = let z = c.in-None.ensures.none in omega (arith, z, count_small c.args.n (omega (arith, z)))

@@ -13,5 +13,5 @@ returns-in-Signal c = let e : length (walk_node c.args.n) ≡ suc (length (show_
     omega (arith, e, c.count_number.ensures)
 
 pub returns-in-Output : goal.returns-in-Output
-returns-in-Output c = let e = ap (λ (x : Node). length (walk_node x)) c.in-Output.is ∙ ap length (node_output _ _ _ _) ∙ output_length c.in-Output.inst c.in-Output.indexed c.in-Output.index c.in-Output.out in
+returns-in-Output c = let e = ap (λ (x : Node). length (walk_node x)) c.in-Output.is ∙ ap length (node_output _ _ _) ∙ output_length c.in-Output.inst c.in-Output.index c.in-Output.out in
     omega (arith, e, c.count_number-a.ensures, c.count_index-b.ensures, c.count_number-c.ensures)

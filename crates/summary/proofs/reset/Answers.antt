@@ -4,13 +4,10 @@ use Rattle.summary.proofs.Table.{zeroed_next, emptied_is}
 use Rattle.summary.proofs.reset.Goals as goal
 
 pub loop-i-init : goal.loop-i-init
-loop-i-init c = (omega arith, zeroed_none 0 c.args.k.now)
-
-pub loop-i-smaller : goal.loop-i-smaller
-loop-i-smaller c = omega arith
+loop-i-init c = zeroed_none 0 c.args.k.now
 
 pub loop-i-preserved : goal.loop-i-preserved
-loop-i-preserved c = (omega arith, zeroed_next c.args.k.now c.loop-i.k c.loop-i.i c.loop-i.invariant.1 c.put.ensures)
+loop-i-preserved c = zeroed_next c.args.k.now c.loop-i.k c.loop-i.i c.loop-i.invariant c.put.ensures
 
 pub returns : goal.returns
-returns c = emptied_is c.args.k.now c.loop-i.k c.loop-i.i c.loop-i.invariant.0 c.loop-i-test.false c.loop-i.invariant.1 c.put-2.ensures
+returns c = emptied_is c.args.k.now c.loop-i.k c.loop-i.i c.loop-i.auto.i-end c.loop-i-test.false c.loop-i.invariant c.put-2.ensures

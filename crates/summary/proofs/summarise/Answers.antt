@@ -1,5 +1,6 @@
 use mathlib.Core.Path.{refl, ◌∙◌, ap}
 use Prim.Native.Nat.{ℕ}
+use Rattle.std.specs.Prelude.{is_ok}
 use lib.ListN.{replicate, length-set, length-replicate}
 use Rattle.walk.proofs.Alike.{reach_by}
 use Rattle.summary.proofs.Pairs.{written_none, written_then, written_of}
@@ -12,41 +13,26 @@ use Rattle.summary.proofs.summarise.Goals as goal
 pub loop-from-init : goal.loop-from-init
 loop-from-init c = (omega arith, written_none c.args.k.now, length-replicate {A = ℕ} 256 0, length-replicate {A = ℕ} 1538 0, λ d M heads kept busy r h st ks. going_start d c.args.s.now M heads c.args.k.now c.args.m kept busy refl refl r ks, turning_start c.args.s.now c.args.kinds.now c.args.g.now c.args.k.now refl refl)
 
-pub overflow_add-from : goal.overflow_add-from
-overflow_add-from c = omega (arith, c.loop-from.invariant.0)
-
-pub loop-from-smaller-in-Other : goal.loop-from-smaller-in-Other
-loop-from-smaller-in-Other c = omega (arith, (end_after c.args.s.now c.loop-from.from c.loop-from-test.true c.form_end-from.ensures).0, c.loop-from-test.true)
-
-pub loop-from-preserved-in-Other : goal.loop-from-preserved-in-Other
-loop-from-preserved-in-Other c = ((end_after c.args.s.now c.loop-from.from c.loop-from-test.true c.form_end-from.ensures).1, c.loop-from.invariant.1, c.loop-from.invariant.2, c.loop-from.invariant.3, λ d M heads kept busy r h st ks. going_other (c.loop-from.invariant.4 d M heads kept busy r h st ks) c.loop-from-test.true c.form_end-from.ensures c.between.ensures c.port_of.result c.port_of.ensures.port_is c.in-Other.is, turning_other c.loop-from.invariant.5 c.loop-from-test.true c.form_end-from.ensures c.between.ensures c.port_of.result c.port_of.ensures.value c.in-Other.is)
+pub loop-from-preserved-in_default : goal.loop-from-preserved-in_default
+loop-from-preserved-in_default c = ((end_after c.args.s.now c.loop-from.from c.loop-from-test.true c.form_end-from.ensures).1, c.loop-from.invariant.1, c.loop-from.invariant.2, c.loop-from.invariant.3, λ d M heads kept busy r h st ks. going_other (c.loop-from.invariant.4 d M heads kept busy r h st ks) c.loop-from-test.true c.form_end-from.ensures c.between.ensures c.port_of.result c.port_of.ensures.port_is c.in_default.is, turning_other c.loop-from.invariant.5 c.loop-from-test.true c.form_end-from.ensures c.between.ensures c.port_of.result c.port_of.ensures.value c.in_default.is)
 
 pub bounds-seen-i : goal.bounds-seen-i
-bounds-seen-i c = omega (arith, out_name _ c.port_of.result c.in-Out.is c.port_of.ensures.value)
-
-pub loop-from-smaller-then-seen-i-ne0 : goal.loop-from-smaller-then-seen-i-ne0
-loop-from-smaller-then-seen-i-ne0 c = omega (arith, (end_after c.args.s.now c.loop-from.from c.loop-from-test.true c.form_end-from.ensures).0, c.loop-from-test.true)
+bounds-seen-i c = omega (arith, out_name _ c.port_of.result c.in-Some.is c.port_of.ensures.value)
 
 pub loop-from-preserved-then-seen-i-ne0 : goal.loop-from-preserved-then-seen-i-ne0
-loop-from-preserved-then-seen-i-ne0 c = ((end_after c.args.s.now c.loop-from.from c.loop-from-test.true c.form_end-from.ensures).1, c.loop-from.invariant.1, c.loop-from.invariant.2, c.loop-from.invariant.3, λ d M heads kept busy r h st ks. going_seen (c.loop-from.invariant.4 d M heads kept busy r h st ks) c.loop-from-test.true c.form_end-from.ensures c.between.ensures c.port_of.result c.port_of.ensures.port_is c.in-Out.is (out_name _ c.port_of.result c.in-Out.is c.port_of.ensures.value) c.if-seen-i-ne0.true, turning_seen c.loop-from.invariant.5 c.loop-from-test.true c.form_end-from.ensures c.between.ensures c.port_of.result c.port_of.ensures.value c.in-Out.is (out_name _ c.port_of.result c.in-Out.is c.port_of.ensures.value) c.if-seen-i-ne0.true)
+loop-from-preserved-then-seen-i-ne0 c = ((end_after c.args.s.now c.loop-from.from c.loop-from-test.true c.form_end-from.ensures).1, c.loop-from.invariant.1, c.loop-from.invariant.2, c.loop-from.invariant.3, λ d M heads kept busy r h st ks. going_seen (c.loop-from.invariant.4 d M heads kept busy r h st ks) c.loop-from-test.true c.form_end-from.ensures c.between.ensures c.port_of.result c.port_of.ensures.port_is c.in-Some.is (out_name _ c.port_of.result c.in-Some.is c.port_of.ensures.value) c.if-seen-i-ne0.true, turning_seen c.loop-from.invariant.5 c.loop-from-test.true c.form_end-from.ensures c.between.ensures c.port_of.result c.port_of.ensures.value c.in-Some.is (out_name _ c.port_of.result c.in-Some.is c.port_of.ensures.value) c.if-seen-i-ne0.true)
 
-pub bounds-seen-i-in-Out : goal.bounds-seen-i-in-Out
-bounds-seen-i-in-Out c = omega (arith, out_name _ c.port_of.result c.in-Out.is c.port_of.ensures.value)
+pub bounds-seen-i-in-loop-from : goal.bounds-seen-i-in-loop-from
+bounds-seen-i-in-loop-from c = omega (arith, out_name _ c.port_of.result c.in-Some.is c.port_of.ensures.value)
 
-pub returns-then-not-add_output-clause-by_index : goal.returns-then-not-add_output-clause-by_index
-returns-then-not-add_output-clause-by_index c = λ d M heads kept busy r h st ks small free. let q = c.loop-from.invariant.4 d M heads kept busy r h st ks in going_full q c.loop-from-test.true c.form_end-from.ensures c.between.ensures c.port_of.result c.port_of.ensures.port_is c.in-Out.is (out_name _ c.port_of.result c.in-Out.is c.port_of.ensures.value) c.if-seen-i-ne0.false c.if-not-add_output.true (c.add_output.ensures.output_added M.header heads h st q.clean c.args.k.now (reach_by q.f q.done) q.grown) c.args.m kept busy ks
+pub returns-in-Err-clause-by_index : goal.returns-in-Err-clause-by_index
+returns-in-Err-clause-by_index c = λ d M heads kept busy r h st ks small free. let q = c.loop-from.invariant.4 d M heads kept busy r h st ks in going_full q c.loop-from-test.true c.form_end-from.ensures c.between.ensures c.port_of.result c.port_of.ensures.port_is c.in-Some.is (out_name _ c.port_of.result c.in-Some.is c.port_of.ensures.value) c.if-seen-i-ne0.false (ap is_ok c.in-Err.is) (c.add_output.ensures.output_added M.header heads h st q.clean c.args.k.now (reach_by q.f q.done) q.grown) c.args.m kept busy ks
 
-pub returns-then-not-add_output-clause-leaves : goal.returns-then-not-add_output-clause-leaves
-returns-then-not-add_output-clause-leaves c = leaves_full c.loop-from.invariant.5 c.loop-from-test.true c.form_end-from.ensures c.between.ensures c.port_of.result c.port_of.ensures.value c.in-Out.is (out_name _ c.port_of.result c.in-Out.is c.port_of.ensures.value) c.if-seen-i-ne0.false c.args.m c.if-not-add_output.true c.add_output.ensures.output_leaves (c.clear.ensures ∙ ap (λ (n : ℕ). replicate n 0) (c.add_output.auto.k ∙ c.loop-from.invariant.1.size))
-
-pub loop-from-smaller : goal.loop-from-smaller
-loop-from-smaller c = omega (arith, (end_after c.args.s.now c.loop-from.from c.loop-from-test.true c.form_end-from.ensures).0, c.loop-from-test.true)
+pub returns-in-Err-clause-leaves : goal.returns-in-Err-clause-leaves
+returns-in-Err-clause-leaves c = leaves_full c.loop-from.invariant.5 c.loop-from-test.true c.form_end-from.ensures c.between.ensures c.port_of.result c.port_of.ensures.value c.in-Some.is (out_name _ c.port_of.result c.in-Some.is c.port_of.ensures.value) c.if-seen-i-ne0.false c.args.m (ap is_ok c.in-Err.is) c.add_output.ensures.output_leaves (c.clear.ensures ∙ ap (λ (n : ℕ). replicate n 0) (c.add_output.auto.k ∙ c.loop-from.invariant.1.size))
 
 pub loop-from-preserved : goal.loop-from-preserved
-loop-from-preserved c = ((end_after c.args.s.now c.loop-from.from c.loop-from-test.true c.form_end-from.ensures).1, written_then c.loop-from.invariant.1 (written_of _ c.add_output.ensures.output_leaves.1), simp length-set c.loop-from.invariant.2, c.add_output.auto.w ∙ c.loop-from.invariant.3, λ d M heads kept busy r h st ks. let q = c.loop-from.invariant.4 d M heads kept busy r h st ks in going_new q c.loop-from-test.true c.form_end-from.ensures c.between.ensures c.port_of.result c.port_of.ensures.port_is c.in-Out.is (out_name _ c.port_of.result c.in-Out.is c.port_of.ensures.value) c.if-seen-i-ne0.false c.loop-from.invariant.2 refl c.if-not-add_output.false (c.add_output.ensures.output_added M.header heads h st q.clean c.args.k.now (reach_by q.f q.done) q.grown), turning_new c.loop-from.invariant.5 c.loop-from-test.true c.form_end-from.ensures c.between.ensures c.port_of.result c.port_of.ensures.value c.in-Out.is (out_name _ c.port_of.result c.in-Out.is c.port_of.ensures.value) c.if-seen-i-ne0.false c.loop-from.invariant.2 refl c.if-not-add_output.false c.add_output.ensures.output_leaves)
-
-pub overflow_sub-end : goal.overflow_sub-end
-overflow_sub-end c = omega (arith, c.loop-from.invariant.1.more, c.at-end.ensures, c.at-start.ensures)
+loop-from-preserved c = ((end_after c.args.s.now c.loop-from.from c.loop-from-test.true c.form_end-from.ensures).1, written_then c.loop-from.invariant.1 (written_of _ c.add_output.ensures.output_leaves.1), simp length-set c.loop-from.invariant.2, c.add_output.auto.w ∙ c.loop-from.invariant.3, λ d M heads kept busy r h st ks. let q = c.loop-from.invariant.4 d M heads kept busy r h st ks in going_new q c.loop-from-test.true c.form_end-from.ensures c.between.ensures c.port_of.result c.port_of.ensures.port_is c.in-Some.is (out_name _ c.port_of.result c.in-Some.is c.port_of.ensures.value) c.if-seen-i-ne0.false c.loop-from.invariant.2 refl (ap is_ok c.in_default-add_output.is) (c.add_output.ensures.output_added M.header heads h st q.clean c.args.k.now (reach_by q.f q.done) q.grown), turning_new c.loop-from.invariant.5 c.loop-from-test.true c.form_end-from.ensures c.between.ensures c.port_of.result c.port_of.ensures.value c.in-Some.is (out_name _ c.port_of.result c.in-Some.is c.port_of.ensures.value) c.if-seen-i-ne0.false c.loop-from.invariant.2 refl (ap is_ok c.in_default-add_output.is) c.add_output.ensures.output_leaves)
 
 pub returns-clause-by_index : goal.returns-clause-by_index
 returns-clause-by_index c = λ d M heads kept busy r h st ks small free. going_kept (c.loop-from.invariant.4 d M heads kept busy r h st ks) c.loop-from-test.false c.args.m small kept busy ks free c.at-start.ensures c.at-end.ensures c.keep.ensures
