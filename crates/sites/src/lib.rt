@@ -84,11 +84,7 @@ fn put_row(own: &mut [u32], at: usize, width: usize, row: [u32; 5])
     requires { (at + width ≤ length own.old) × (width ≤ 5) }
     ensures { own.new ≡ sets own.old at (take width row) }
 {
-    let mut k: usize = 0;
-    while k < width {
-        own[at + k] = row[k];
-        k += 1;
-    }
+    own[at..at + width].copy_from_slice(&row[..width]);
 }
 
 // Whether one of n rows has a name. The rows begin at a place, each with its name.
@@ -96,12 +92,10 @@ fn has_row(own: &[u32], at: usize, width: usize, n: usize, name: u32) -> bool
     requires { (at + width * n ≤ length own.now) × (0 < width) }
     ensures { result ≡ has_name name (run (λ i. get_or own.now (at + width * i) 0) 0 n) }
 {
-    let mut i: usize = 0;
-    while i < n {
+    for i in 0..n {
         if own[at + width * i] == name {
             return true;
         }
-        i += 1;
     }
     false
 }
@@ -110,11 +104,7 @@ fn has_row(own: &[u32], at: usize, width: usize, n: usize, name: u32) -> bool
 pub fn clear(own: &mut [u32])
     ensures { own.new ≡ replicate (length own.old) 0 }
 {
-    let mut i: usize = 0;
-    while i < own.len() {
-        own[i] = 0;
-        i += 1;
-    }
+    own.fill(0);
 }
 
 // One row more at the end of a table, where there is room.
@@ -271,16 +261,10 @@ fn has_pair(own: &[u32], n: usize, name: u32, block: u32) -> bool
     requires { (length own.now ≡ places) × (n ≤ 512) }
     ensures { result ≡ has_pair (record { name = name; block = block }) (run (λ i. pair_from (row pair_table own.now i)) 0 n) }
 {
-    let mut i: usize = 0;
-    while i < n {
-        if own[PAIRS + 2 * i] == name {
-            if own[PAIRS + 2 * i + 1] == block {
-                return true;
-            }
-            i += 1;
-            continue;
+    for i in 0..n {
+        if own[PAIRS + 2 * i] == name && own[PAIRS + 2 * i + 1] == block {
+            return true;
         }
-        i += 1;
     }
     false
 }
@@ -414,12 +398,10 @@ fn next_site(own: &[u32], from: usize, name: u32) -> usize
         return SITE_LIMIT;
     }
     let n = site_count(own);
-    let mut i = from;
-    while i < n {
+    for i in from..n {
         if own[SITES + 5 * i] == name {
             return i;
         }
-        i += 1;
     }
     SITE_LIMIT
 }
@@ -485,14 +467,10 @@ fn block_count(own: &[u32], name: u32) -> usize
 {
     let n = count_at(own, 1, PAIR_LIMIT);
     let mut k: usize = 0;
-    let mut i: usize = 0;
-    while i < n {
+    for i in 0..n {
         if own[PAIRS + 2 * i] == name {
             k += 1;
-            i += 1;
-            continue;
         }
-        i += 1;
     }
     k
 }
@@ -544,11 +522,9 @@ pub fn cover_of(own: &[u32], name: u32) -> Cover
     }
     let n = site_count(own);
     let mut seen = false;
-    let mut i: usize = 0;
-    while i < n {
+    for i in 0..n {
         let s = site_at(own, i);
         if s.name != name {
-            i += 1;
             continue;
         }
         let e = s.extent;
@@ -556,7 +532,6 @@ pub fn cover_of(own: &[u32], name: u32) -> Cover
             return Cover::Open;
         }
         seen = true;
-        i += 1;
     }
     if seen {
         return Cover::Ranges;
@@ -564,25 +539,12 @@ pub fn cover_of(own: &[u32], name: u32) -> Cover
     Cover::Never
 }
 
-fn least(a: usize, b: usize) -> usize
-    ensures { result ≡ min a b }
-{
-    if a < b {
-        return a;
-    }
-    b
-}
-
 // A mark at each place from..end.
 fn mark(marks: &mut [u8], from: usize, end: usize)
     requires { (from ≤ end) × (end ≤ length marks.old) }
     ensures { Marked (length marks.old) (within from end) marks.old marks.new }
 {
-    let mut b = from;
-    while b < end {
-        marks[b] = 1;
-        b += 1;
-    }
+    marks[from..end].fill(1);
 }
 
 // A mark at each place below the limit that an extent covers.
@@ -596,8 +558,8 @@ fn mark_extent(marks: &mut [u8], limit: usize, e: Extent)
             return;
         }
         Extent::Range { low, high } => {
-            let end = least(high as usize + 1, limit);
-            let from = least(low as usize, end);
+            let end = (high as usize + 1).min(limit);
+            let from = (low as usize).min(end);
             mark(marks, from, end);
             return;
         }
@@ -612,16 +574,11 @@ fn mark_sites(own: &[u32], name: u32, marks: &mut [u8], limit: usize)
     ensures { Marked limit (site.covered (site.sites_of name (own_of own.now).sites)) marks.old marks.new }
 {
     let n = site_count(own);
-    let mut i: usize = 0;
-    while i < n {
+    for i in 0..n {
         let s = site_at(own, i);
-        if s.name != name {
-            i += 1;
-            continue;
+        if s.name == name {
+            mark_extent(marks, limit, s.extent);
         }
-        let e = s.extent;
-        mark_extent(marks, limit, e);
-        i += 1;
     }
 }
 
@@ -630,12 +587,10 @@ fn first_unmarked(marks: &[u8], limit: usize) -> Found
     requires { (limit ≤ length marks.now) × (limit ≤ 4096) }
     ensures { found_of result ≡ unmarked_from marks.now 0 limit }
 {
-    let mut b: usize = 0;
-    while b < limit {
+    for b in 0..limit {
         if marks[b] != 1 {
             return Found::At(b as u32);
         }
-        b += 1;
     }
     Found::Nothing
 }
@@ -648,7 +603,7 @@ pub fn first_gap(own: &[u32], name: u32, width: u32) -> Found
     if own.len() != OWN {
         return Found::Nothing;
     }
-    let limit = least(width as usize, 4096);
+    let limit = (width as usize).min(4096);
     if limit <= 64 {
         let mut marks = [0u8; 64];
         mark_sites(own, name, &mut marks, limit);
@@ -678,15 +633,13 @@ fn conflict_place(own: &[u32], n: usize, start: u32, name: u32) -> usize
     ensures { (result ≤ n) × (run (conflict_row own.now) 0 result ++ (conflict_of start name ∷ run (conflict_row own.now) result (n - result))
         ≡ site.insert_conflict (conflict_of start name) (run (conflict_row own.now) 0 n)) }
 {
-    let mut i: usize = 0;
-    while i < n {
+    for i in 0..n {
         let at = CONFLICTS + 2 * i;
         if conflict_earlier(start, name, own[at + 1], own[at]) {
             return i;
         }
-        i += 1;
     }
-    i
+    n
 }
 
 // One conflict more, in its place.
@@ -697,17 +650,16 @@ fn insert_conflict(own: &mut [u32], start: u32, name: u32)
         × Behind own.old own.new }
 {
     let n = count_at(own, 6, SITE_LIMIT);
-    let mut i = conflict_place(own, n, start, name);
+    let place = conflict_place(own, n, start, name);
     let mut a = name;
     let mut s = start;
-    while i < n {
+    for i in place..n {
         let at = CONFLICTS + 2 * i;
         let b = own[at];
         let t = own[at + 1];
         put_row(own, at, 2, [a, s, 0, 0, 0]);
         a = b;
         s = t;
-        i += 1;
     }
     push(own, 6, CONFLICTS, 2, SITE_LIMIT, [a, s, 0, 0, 0]);
 }
@@ -749,9 +701,7 @@ fn seen_before(own: &[u32], k: usize, name: u32) -> bool
     requires { (length own.now ≡ places) × (k ≤ 1024) }
     ensures { result ≡ has_name name (skip_at (misuse_poison own.now) (site_row own.now) k) }
 {
-    let mut i = k;
-    while 0 < i {
-        i -= 1;
+    for i in (0..k).rev() {
         if own[SITES + 5 * i] == name {
             return true;
         }
@@ -808,9 +758,7 @@ pub fn find_conflicts(own: &mut [u32])
     }
     own[6] = 0;
     let n = site_count(own);
-    let mut k = n;
-    while 0 < k {
-        k -= 1;
+    for k in (0..n).rev() {
         take_conflict(own, k);
     }
 }

@@ -90,21 +90,15 @@ pub(crate) fn store_site(records: &mut [Record], i: usize, s: Site) -> Stored
 pub(crate) fn first_conflict(records: &[Record]) -> Found
     ensures { found_of result ≡ site.first_conflict [] (sites_in records.now) }
 {
-    let mut found = Found::Nothing;
-    let mut later: usize = 0;
-    'search: while later < records.len() {
+    for later in 0..records.len() {
         let s = site_of(records[later]);
-        let mut earlier = later;
-        while 0 < earlier {
-            earlier -= 1;
+        for earlier in (0..later).rev() {
             if clash(records[earlier], s) {
-                found = Found::At(s.start);
-                break 'search;
+                return Found::At(s.start);
             }
         }
-        later += 1;
     }
-    found
+    Found::Nothing
 }
 
 // The START of the first later site of a name that meets an earlier one, in a table of at most 1,024 sites, which every table is: the name's

@@ -15,11 +15,11 @@ use Rattle.sites.proofs.insert_conflict.Goals as goal
 pub count_at-n-requires : goal.count_at-n-requires
 count_at-n-requires c = omega arith
 
-pub conflict_place-i-requires : goal.conflict_place-i-requires
-conflict_place-i-requires c = omega (arith, c.requires, c.count_at-n.ensures)
+pub conflict_place-place-requires : goal.conflict_place-place-requires
+conflict_place-place-requires c = omega (arith, c.requires, c.count_at-n.ensures)
 
 pub loop-i-init : goal.loop-i-init
-loop-i-init c = (c.conflict_place-i.ensures.0, front_same c.args.own.now, c.conflict_place-i.ensures.1, refl, λ j h. refl)
+loop-i-init c = (c.conflict_place-place.ensures.0, front_same c.args.own.now, c.conflict_place-place.ensures.1, refl, λ j h. refl)
 
 pub bounds-own-at : goal.bounds-own-at
 bounds-own-at c = omega (arith, c.requires, c.count_at-n.ensures, c.loop-i-test.true, c.loop-i.invariant.1.size)
@@ -29,9 +29,6 @@ bounds-own-at-in-loop-i c = omega (arith, c.requires, c.count_at-n.ensures, c.lo
 
 pub put_row-requires : goal.put_row-requires
 put_row-requires c = omega (arith, c.requires, c.count_at-n.ensures, c.loop-i-test.true, c.loop-i.invariant.1.size)
-
-pub loop-i-smaller : goal.loop-i-smaller
-loop-i-smaller c = omega (arith, c.loop-i-test.true)
 
 pub loop-i-preserved : goal.loop-i-preserved
 loop-i-preserved c = let e = c.put_row.ensures in
