@@ -152,9 +152,6 @@ module _ (N : ℕ) (small : N ≤ 1024) (n : ℕ) (own : List ℕ) where
     pub room_left : at < N → count < length all
     room_left h = omega (arith, w.size, w.few, (w.next.here (below h)).1)
 
-    pub count_few : count ≤ N
-    count_few = omega (arith, w.few, w.within)
-
     told_more : (h : at < N) (s : declared.Site) → site_of s ≡ site_row own at → length own ≡ places → sites_in (take (count + 1) (set all count (record_of s))) ++ sites_from n own (at + 1) ≡ sites_from n own 0
     told_more h s is e =
         ap (λ (l : List Site). l ++ sites_from n own (at + 1)) (ap (λ (j : ℕ). sites_in (take j (set all count (record_of s)))) (add-one count) ∙ ap sites_in (take_set all count (record_of s) (room_left h)) ∙ sites_both (take count all) (record_of s ∷ []) ∙ ap (λ (l : List Site). sites_in (take count all) ++ l) (one_more s ∙ ap (λ (t : Site). t ∷ []) is))

@@ -165,9 +165,9 @@ or_false : (t : Bool) → (t || false) ≡ t
 or_false true = refl
 or_false false = refl
 
-pub gap_found : (m₀ m : List ℕ) (ss : List Site) (width limit : ℕ) → limit ≡ min width 4096 → ((b : ℕ) → b < limit → eqb (get_or m₀ b 0) 1 ≡ false)
-    → Marked limit (covered ss) m₀ m → unmarked_from m 0 limit ≡ first_gap ss width
+pub gap_found : (m₀ m : List ℕ) (ss : List Site) (limit : ℕ) → ((b : ℕ) → b < limit → eqb (get_or m₀ b 0) 1 ≡ false) → Marked limit (covered ss) m₀ m → unmarked_from m 0 limit ≡ gap_from ss 0 limit
+gap_found m₀ m ss limit z k = same_gap m ss limit 0 limit (omega arith) (λ j p. k.at j p ∙ ap (λ (t : Bool). covered ss j || t) (z j p) ∙ or_false (covered ss j))
+
+pub gap_least : (ss : List Site) (width limit : ℕ) → limit ≡ min width 4096 → gap_from ss 0 limit ≡ first_gap ss width
 unfolding first_gap
-gap_found m₀ m ss width limit e z k =
-    same_gap m ss limit 0 limit (omega arith) (λ j p. k.at j p ∙ ap (λ (t : Bool). covered ss j || t) (z j p) ∙ or_false (covered ss j))
-    ∙ ap (λ (l : ℕ). gap_from ss 0 l) e
+gap_least ss width limit e = ap (λ (l : ℕ). gap_from ss 0 l) e

@@ -230,10 +230,6 @@ answer_full t own h = rw (le-ltb (rows_in t own) t.limit h, push_answer)
 pub push_done : (t : Table) (own vs : List ℕ) (n : ℕ) → n ≡ rows_in t own → n < t.limit → stored_row t own n vs ≡ pushed t own vs
 push_done t own vs n e h = ap (λ (k : ℕ). stored_row t own k vs) e ∙ sym (push_room t own vs (omega arith))
 
-pub count_is : (t : Table) (own : List ℕ) → min (get_or own t.count 0) t.limit ≡ rows_in t own
-unfolding rows_in
-count_is t own = refl
-
 pub first_seen : (t : Table) (own vs : List ℕ) → has_name (get_or vs 0 0) (row_names t own) ≡ true → own ≡ first_row t own vs
 unfolding first_row
 first_seen t own vs e = sym (rw (e, first_row))

@@ -11,6 +11,7 @@ use Rattle.spec.specs.Site as site
 use Rattle.spec.specs.Site.{Misused, Conflict, misused_names, conflict_names}
 use Rattle.spec.specs.Block.{Pair, Storage, has_pair}
 use Rattle.spec.specs.Check.{site_limit, pair_limit}
+use Rattle.sites.specs.declared.Table as code
 use Rattle.sites.specs.declared.Extent.{Extent}
 use Rattle.sites.specs.declared.Extent.TheVariants as extent
 use Rattle.sites.specs.declared.Site.{Site}
@@ -46,13 +47,10 @@ misuse_of misuse.Reg = site.reg_driven
 misuse_of misuse.Mem = site.mem_driven
 misuse_of misuse.Arrow = site.arrow
 
--- 01, The site; The block: a table: where its count stands, where its rows begin, how many numbers a row has, and how many rows there
--- are at most
-pub record Table : Type 0 where
-  pub count : ℕ
-  pub base : ℕ
-  pub width : ℕ
-  pub limit : ℕ
+-- 01, The site; The block: a table, as the code has it: where its count stands, where its rows begin, how many numbers a row has, and how
+-- many rows there are at most
+abbrev pub Table : Type 0
+Table = code.Table
 
 -- 01, The line: NAME 0 to 255: how many names there are at most
 abbrev pub names : ℕ
@@ -108,10 +106,6 @@ rows_in t own = min (get_or own t.count 0) t.limit
 -- 01, The site; The block: the rows of a table, f giving what each means
 abbrev pub items : {A : Type 0} → (List ℕ → A) → Table → List ℕ → List A
 items f t own = run (λ i. f (row t own i)) 0 (rows_in t own)
-
--- 01, The site; The block: a table by its numbers
-abbrev pub table : ℕ → ℕ → ℕ → ℕ → Table
-table c b w l = record { count = c; base = b; width = w; limit = l }
 
 -- 01, The site; The block: what it takes to work on a table: all its rows lie inside the run of numbers and its count before them, a
 -- row has one number to five, and there are at most 65,536 rows

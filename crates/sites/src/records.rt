@@ -1,5 +1,5 @@
 // A lent run of records, each a drive site in numbers: a site is stored among them, and the first conflict of a name is found.
-ghost use Rattle.std.specs.Prelude.{◌≡◌, [], length, set, ltb};
+ghost use Rattle.std.specs.Prelude.{◌≡◌, ◌≤◌, [], length, set, ltb};
 ghost use Rattle.spec.specs.Site as site;
 ghost use Rattle.sites.specs.Own.{extent_of, site_of, found_of};
 ghost use Rattle.sites.specs.Run.{extent_in, site_in, sites_in, record_of, StoredBy, NameConflict};
@@ -101,10 +101,11 @@ pub(crate) fn first_conflict(records: &[Record]) -> Found
     Found::Nothing
 }
 
-// The START of the first later site of a name that meets an earlier one, in a table of at most 1,024 sites, which every table is: the name's
-// sites are stored in a run of records, in order, and the search goes over those. Of a table of another length it finds nothing.
-pub(crate) fn conflict_of_name(own: &[u32], name: u32) -> Found
-    ensures { NameConflict 1024 name own.now result }
+// The START of the first later site of a name that meets an earlier one, in a table of at most N sites: the name's sites are stored in a run of
+// N records, in order, and the search goes over those. Few records are sooner cleared. Of a slice of another length it finds nothing.
+pub(crate) fn conflict_of_name<const N: usize>(own: &[u32], name: u32) -> Found
+    requires { N ≤ 1024 }
+    ensures { NameConflict N name own.now result }
 {
     let mut records = [Record {
         name: 0,
@@ -112,32 +113,10 @@ pub(crate) fn conflict_of_name(own: &[u32], name: u32) -> Found
         low: 0,
         high: 0,
         start: 0,
-    }; 1024];
+    }; N];
     let mut k: usize = 0;
     let mut i = crate::next_site(own, 0, name);
-    while i < 1024 {
-        let s = crate::listed(own, i);
-        store_site(&mut records, k, s);
-        i = crate::next_site(own, i + 1, name);
-        k += 1;
-    }
-    first_conflict(&records[..k])
-}
-
-// The same in a table of at most 64 sites; no later row is looked at. Fewer records are sooner cleared.
-pub(crate) fn conflict_of_few(own: &[u32], name: u32) -> Found
-    ensures { NameConflict 64 name own.now result }
-{
-    let mut records = [Record {
-        name: 0,
-        code: 0,
-        low: 0,
-        high: 0,
-        start: 0,
-    }; 64];
-    let mut k: usize = 0;
-    let mut i = crate::next_site(own, 0, name);
-    while i < 64 {
+    while i < N {
         let s = crate::listed(own, i);
         store_site(&mut records, k, s);
         i = crate::next_site(own, i + 1, name);
