@@ -12,7 +12,7 @@ use borrow.Rule.Slice.PartMut.{put_mid}
 use Rattle.spec.specs.Refusal.{has_name}
 use lib.Dec.{T, eqb, ltb, leb, ltb→lt, leb→le}
 use borrow.Author.Tests.{eq-eqb, ne_eqb, leb-true, lt-ltb, le-ltb, ltb-true, ltb-false}
-use Rattle.sites.specs.declared.Stored.TheVariants as stored
+use Rattle.sites.specs.Stored as stored
 use lib.ListN.{length, get_or, set, take, drop, length-take, length-drop}
 use lib.Seq.{sets, sets-eq, length-sets, drop-set-lt, drop-set-add, take-set-le, drop_at, take_at, length-take-le, get_or-set_same, get_or-set_other, get_or-take, get_or-drop}
 use Rattle.sites.specs.Own.{Table, Shape, run, row, rows_in, items, stored_row, pushed, push_answer, row_names, first_row, entry_names, grown, room, first_kept, names, Own}

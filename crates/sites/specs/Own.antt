@@ -17,8 +17,8 @@ use Rattle.sites.specs.declared.Extent.TheVariants as extent
 use Rattle.sites.specs.declared.Site.{Site}
 use Rattle.sites.specs.declared.Misuse.{Misuse}
 use Rattle.sites.specs.declared.Misuse.TheVariants as misuse
-use Rattle.sites.specs.declared.Found.{Found}
-use Rattle.sites.specs.declared.Found.TheVariants as found
+use Rattle.std.specs.Prelude.{Some, None, Ok, Err}
+use Rattle.std.specs.Prelude as rust
 use Rattle.sites.specs.declared.Line.{Line}
 use Rattle.sites.specs.declared.OutputLine.{OutputLine}
 use Rattle.sites.specs.declared.MisusedLine.{MisusedLine}
@@ -26,8 +26,8 @@ use Rattle.sites.specs.declared.Blocks.{Blocks}
 use Rattle.sites.specs.declared.Blocks.TheVariants as blocks
 use Rattle.sites.specs.declared.Cover.{Cover}
 use Rattle.sites.specs.declared.Cover.TheVariants as cover
-use Rattle.sites.specs.declared.Stored.{Stored}
-use Rattle.sites.specs.declared.Stored.TheVariants as stored
+use Rattle.sites.specs.Stored.{Stored}
+use Rattle.sites.specs.Stored as stored
 
 -- 01, The site: the extent that the code's value means
 abbrev pub extent_of : Extent → site.Extent
@@ -214,8 +214,8 @@ own_of own =
 
 -- 01, Refused because of the state: 20 where a working limit is passed; 0 where there is room
 abbrev pub number_of : Stored → ℕ
-number_of stored.Done = 0
-number_of stored.Full = 20
+number_of (Ok _) = 0
+number_of (Err _) = 20
 
 -- 01, The site; The block; Refused because of the state: the number that an addition answers, and what it leaves: the run of numbers, or the
 -- tables that it means
@@ -324,9 +324,9 @@ value_of true v = known (unbiased v)
 value_of false v = missing
 
 -- 01, The site: what was found, or none
-abbrev pub found_of : Found → Option ℕ
-found_of (found.At x) = some x
-found_of found.Nothing = none
+abbrev pub found_of : rust.Option ℕ → Option ℕ
+found_of (Some x) = some x
+found_of None = none
 
 -- 01, The block: no block, one or several, by their number
 abbrev pub blocks_by : ℕ → Blocks

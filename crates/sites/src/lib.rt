@@ -4,10 +4,9 @@
 
 mod records;
 
-ghost use Rattle.std.specs.Prelude.{◌≡◌, ◌+◌, ◌-◌, ◌*◌, ◌≤◌, ◌<◌, [], ◌∷◌, ◌++◌, length, get_or, replicate, leb, false, ◌&&◌};
+ghost use Rattle.std.specs.Prelude.{None, ◌≡◌, ◌+◌, ◌-◌, ◌*◌, ◌≤◌, ◌<◌, [], ◌∷◌, ◌++◌, length, get_or, replicate, leb, false, ◌&&◌};
 ghost use Rattle.std.proofs.lemmas.List.Edits.{sets};
 ghost use Rattle.spec.specs.Site as site;
-ghost use Rattle.sites.specs.declared.Found.TheVariants as found;
 ghost use Rattle.sites.specs.declared.Blocks.TheVariants as blocks;
 ghost use Rattle.sites.specs.declared.Cover.TheVariants as cover;
 ghost use Rattle.spec.specs.Refusal.{has_name};
@@ -105,12 +104,9 @@ pub enum Misuse {
     Arrow,
 }
 
-// Whether there was room.
-#[derive(Clone, Copy)]
-pub enum Stored {
-    Done,
-    Full,
-}
+// A table has no room for one row more.
+#[derive(Clone, Copy, Debug, PartialEq, Eq)]
+pub struct Full;
 
 // How many rows a table has; a count past the limit counts as the limit.
 fn rows_in(own: &[u32], t: Table) -> usize
@@ -150,17 +146,17 @@ pub fn clear(own: &mut [u32])
 }
 
 // One row more at the end of a table, where there is room.
-fn push(own: &mut [u32], t: Table, row: &[u32]) -> Stored
+fn push(own: &mut [u32], t: Table, row: &[u32]) -> Result<(), Full>
     requires { Shape t own.old × (length row.now ≡ t.width) }
     ensures { (own.new ≡ pushed t own.old row.now) × (result ≡ push_answer t own.old) }
 {
     let n = rows_in(own, t);
     if t.limit <= n {
-        return Stored::Full;
+        return Err(Full);
     }
     put_row(own, t, n, row);
     own[t.count] = (n + 1) as u32;
-    Stored::Done
+    Ok(())
 }
 
 // One row more, where no row has its name.
@@ -172,7 +168,7 @@ fn push_first(own: &mut [u32], t: Table, row: &[u32])
     if has_row(own, t, n, row[0]) {
         return;
     }
-    push(own, t, row);
+    let _ = push(own, t, row);
 }
 
 // An extent as three numbers.
@@ -218,13 +214,13 @@ fn misuse_code(m: Misuse) -> u32
 }
 
 // A drive site of an output; one past 1,024 gives Full.
-pub fn add_site(own: &mut [u32], s: Site) -> Stored
+pub fn add_site(own: &mut [u32], s: Site) -> Result<(), Full>
     ensures own_after { length own.old ≡ places → added result (own_of own.new) ≡ add_site (site_of s) (own_of own.old) }
     ensures own_after_2 { added result own.new ≡ row_added site_table own.old (site_numbers s) }
     ensures own_len_unchanged { length own.new ≡ length own.old }
 {
     if own.len() != OWN {
-        return Stored::Full;
+        return Err(Full);
     }
     let e = s.extent;
     let x = extent_code(e);
@@ -296,26 +292,19 @@ fn has_pair(own: &[u32], n: usize, name: u32, block: u32) -> bool
 }
 
 // A pair of name and block, where it is a new one; one past 512 gives Full.
-pub fn add_pair(own: &mut [u32], name: u32, block: u32) -> Stored
+pub fn add_pair(own: &mut [u32], name: u32, block: u32) -> Result<(), Full>
     ensures own_after { length own.old ≡ places → added result (own_of own.new) ≡ add_pair (record { name = name; block = block }) (own_of own.old) }
     ensures own_after_2 { added result own.new ≡ pair_row_added (record { name = name; block = block }) own.old }
     ensures own_len_unchanged { length own.new ≡ length own.old }
 {
     if own.len() != OWN {
-        return Stored::Full;
+        return Err(Full);
     }
     let n = rows_in(own, PAIRS);
     if has_pair(own, n, name, block) {
-        return Stored::Done;
+        return Ok(());
     }
     push(own, PAIRS, &[name, block])
-}
-
-// What is looked for, or nothing.
-#[derive(Clone, Copy)]
-pub enum Found {
-    At(u32),
-    Nothing,
 }
 
 fn extent_from(code: u32, low: u32, high: u32) -> Extent
@@ -594,20 +583,20 @@ fn mark_sites(own: &[u32], name: u32, marks: &mut [u8], limit: usize)
 }
 
 // The first place below the limit that has no mark.
-fn first_unmarked(marks: &[u8], limit: usize) -> Found
+fn first_unmarked(marks: &[u8], limit: usize) -> Option<u32>
     requires { (limit ≤ length marks.now) × (limit ≤ 4096) }
     ensures { found_of result ≡ unmarked_from marks.now 0 limit }
 {
     for b in 0..limit {
         if marks[b] != 1 {
-            return Found::At(b as u32);
+            return Some(b as u32);
         }
     }
-    Found::Nothing
+    None
 }
 
 // The first bit below the limit that no site of the name covers; there are N marks.
-fn gap_below<const N: usize>(own: &[u32], name: u32, limit: usize) -> Found
+fn gap_below<const N: usize>(own: &[u32], name: u32, limit: usize) -> Option<u32>
     requires { (length own.now ≡ places) × (limit ≤ N) × (N ≤ 4096) }
     ensures { found_of result ≡ site.gap_from (site.sites_of name (own_of own.now).sites) 0 limit }
 {
@@ -617,12 +606,12 @@ fn gap_below<const N: usize>(own: &[u32], name: u32, limit: usize) -> Found
 }
 
 // The first of the lowest min(width, 4,096) bits that no site of the name covers. Few bits have few marks, which are sooner cleared.
-pub fn first_gap(own: &[u32], name: u32, width: u32) -> Found
+pub fn first_gap(own: &[u32], name: u32, width: u32) -> Option<u32>
     ensures result_value { length own.now ≡ places → found_of result ≡ site.first_gap (site.sites_of name (own_of own.now).sites) width }
-    ensures value { ¬ (length own.now ≡ places) → result ≡ found.Nothing }
+    ensures value { ¬ (length own.now ≡ places) → result ≡ None }
 {
     if own.len() != OWN {
-        return Found::Nothing;
+        return None;
     }
     let limit = (width as usize).min(4096);
     if limit <= 64 {
@@ -678,7 +667,7 @@ fn insert_conflict(own: &mut [u32], start: u32, name: u32)
         a = b;
         s = t;
     }
-    push(own, CONFLICTS, &[a, s]);
+    let _ = push(own, CONFLICTS, &[a, s]);
 }
 
 // Whether a name has a misuse.
@@ -727,7 +716,7 @@ fn seen_before(own: &[u32], k: usize, name: u32) -> bool
 }
 
 // The START of the first later site of a name that meets an earlier one, by a run that has room for every site of the table.
-fn first_conflict(own: &[u32], name: u32) -> Found
+fn first_conflict(own: &[u32], name: u32) -> Option<u32>
     requires { length own.now ≡ places }
     ensures { found_of result ≡ site.first_conflict [] (site.sites_of name (own_of own.now).sites) }
 {
@@ -753,12 +742,8 @@ fn take_conflict(own: &mut [u32], k: usize)
     if SITE_LIMIT <= next_site(own, k + 1, name) {
         return;
     }
-    match first_conflict(own, name) {
-        Found::At(start) => {
-            insert_conflict(own, start, name);
-            return;
-        }
-        Found::Nothing => return,
+    if let Some(start) = first_conflict(own, name) {
+        insert_conflict(own, start, name);
     }
 }
 
