@@ -3,7 +3,7 @@
 #![tactic(auto)]
 
 use report::{Detail, Put, Report};
-use sites::{Cover, Extent, Found, Site};
+use sites::{Cover, Extent, Site};
 use std::io;
 
 // The output's name and the START of its line, the same in all of these cases.
@@ -39,17 +39,15 @@ fn drive(own: &mut [u32], extent: Extent, start: u32) {
         extent,
         start,
     };
-    sites::add_site(own, s);
+    let _ = sites::add_site(own, s);
 }
 
 // The conflicts, in order.
 fn print_conflicts(rt: &impl Print, own: &[u32]) -> io::Result<()> {
     let n = sites::conflict_count(own);
-    let mut i: usize = 0;
-    while i < n {
+    for i in 0..n {
         let c = sites::conflict_at(own, i);
         print_report(rt, c.start, c.name, Detail::Many)?;
-        i += 1;
     }
     Ok(())
 }
@@ -65,8 +63,8 @@ fn print_coverage(
         Cover::Never => print_report(rt, start, name, Detail::Never),
         Cover::Open => Ok(()),
         Cover::Ranges => match sites::first_gap(own, name, width) {
-            Found::At(b) => print_report(rt, start, name, Detail::Gap(b)),
-            Found::Nothing => Ok(()),
+            Some(b) => print_report(rt, start, name, Detail::Gap(b)),
+            None => Ok(()),
         },
     }
 }
