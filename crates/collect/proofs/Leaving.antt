@@ -10,7 +10,7 @@ use Rattle.spec.specs.Value.{Value, Names}
 use Rattle.spec.specs.Edge.{Summary}
 use Rattle.spec.specs.Cleared.{Cleared}
 use Rattle.sites.specs.Own.{added}
-use Rattle.sites.specs.declared.Stored.TheVariants as stored
+use Rattle.sites.specs.Stored as stored
 use Rattle.items.specs.Added.{line_added}
 use Rattle.edges.specs.Lines.{summary_at, inst_index, inst_module}
 use Rattle.edges.specs.Leaves as edges

@@ -13,7 +13,7 @@ use Rattle.consteval.specs.Worth.{signed}
 use Rattle.lines.specs.Tables.{put_kinds, put_mods}
 use Rattle.graph.specs.Stands.{Stands}
 use Rattle.sites.specs.Own.{added}
-use Rattle.sites.specs.declared.Stored.TheVariants as stored
+use Rattle.sites.specs.Stored as stored
 use Rattle.edges.specs.Lines.{inst_index, inst_module}
 use Rattle.edges.specs.Reads.{KindsOf}
 use Rattle.edges.specs.Leaves.{WireLeaves, DriveLeaves, InstLeaves}

@@ -24,8 +24,8 @@ use Rattle.consteval.specs.Worth.{signed}
 use Rattle.consteval.proofs.ArithLaws.{signed_low, signed_high}
 use Rattle.sites.specs.declared.Cover.{Cover}
 use Rattle.sites.specs.declared.Cover.TheVariants as cover
-use Rattle.sites.specs.declared.Found.{Found}
-use Rattle.sites.specs.declared.Found.TheVariants as found
+use Rattle.std.specs.Prelude.{Some, None}
+use Rattle.std.specs.Prelude as rust
 use Rattle.sites.specs.declared.OutputLine.{OutputLine}
 use Rattle.sites.specs.Own.{Port, places, names, run, row, rows_in, own_of, port_table, port_of, port_from, found_of, cover_by, poisoned_names}
 use Rattle.sites.proofs.Rows.{run_step, run_end, run_all}
@@ -99,17 +99,17 @@ module _ (ss : List Site) (m : ℕ) (o : Output) (n s : ℕ) (en : o.name ≡ n)
   pub gap_negative : v < 2147483648 → gap_said ≡ []
   gap_negative h = ap (λ z. coverage_report m o (width_coverage ss (known z))) (signed_low v h)
 
-  module _ (h : 2147483648 ≤ v) {r : Found} (e : found_of r ≡ first_gap ss (v - 2147483648)) where
-    gap_by : (x : Found) → r ≡ x → gap_said ≡ coverage_report m o (gap_coverage (found_of x))
+  module _ (h : 2147483648 ≤ v) {r : rust.Option ℕ} (e : found_of r ≡ first_gap ss (v - 2147483648)) where
+    gap_by : (x : rust.Option ℕ) → r ≡ x → gap_said ≡ coverage_report m o (gap_coverage (found_of x))
     gap_by x f =
         ap (λ z. coverage_report m o (width_coverage ss (known z))) (signed_high v h)
         ∙ ap (λ (z : Option ℕ). coverage_report m o (gap_coverage z)) (sym e ∙ ap found_of f)
 
-    pub gap_none : r ≡ found.Nothing → gap_said ≡ []
-    gap_none f = gap_by found.Nothing f
+    pub gap_none : r ≡ None → gap_said ≡ []
+    gap_none f = gap_by None f
 
-    pub gap_some : (b : ℕ) → r ≡ found.At b → gap_said ≡ report m s n (gap b) ∷ []
-    gap_some b f = gap_by (found.At b) f ∙ ap (λ (z : ℕ). report m z o.name (gap b) ∷ []) es ∙ ap (λ (z : ℕ). report m s z (gap b) ∷ []) en
+    pub gap_some : (b : ℕ) → r ≡ Some b → gap_said ≡ report m s n (gap b) ∷ []
+    gap_some b f = gap_by (Some b) f ∙ ap (λ (z : ℕ). report m z o.name (gap b) ∷ []) es ∙ ap (λ (z : ℕ). report m s z (gap b) ∷ []) en
 
 -- ---- one output
 

@@ -25,7 +25,7 @@ use consteval::{Value, arith};
 use lines::bytes::is_open;
 use lines::parts;
 use report::{Detail, Report};
-use sites::{Blocks, Cover, Found, Misuse, OutputLine};
+use sites::{Blocks, Cover, Misuse, OutputLine};
 
 // Done with the next place; or a width that decides coverage is outside INT.
 #[derive(Clone, Copy)]
@@ -157,8 +157,8 @@ fn report_gap(
         return p;
     }
     match sites::first_gap(own, name, v - 2147483648) {
-        Found::At(b) => say(buf, p, write, m, start, name, Detail::Gap(b)),
-        Found::Nothing => p,
+        Some(b) => say(buf, p, write, m, start, name, Detail::Gap(b)),
+        None => p,
     }
 }
 

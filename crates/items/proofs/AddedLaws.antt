@@ -16,8 +16,8 @@ use Rattle.lines.proofs.PartLaws as lines
 use Rattle.sites.specs.Own.{Table, Added, added, number_of, extent_of, site_numbers, row_added, first_added, site_table, port_table, misuse_table}
 use Rattle.sites.specs.declared.Extent.{Extent}
 use Rattle.sites.specs.declared.Extent.TheVariants as extent
-use Rattle.sites.specs.declared.Stored.{Stored}
-use Rattle.sites.specs.declared.Stored.TheVariants as stored
+use Rattle.sites.specs.Stored.{Stored}
+use Rattle.sites.specs.Stored as stored
 use Rattle.edges.specs.Reads.{kind_word}
 use Rattle.edges.specs.Total.{parts_behind}
 use Rattle.edges.proofs.TotalLaws.{parts_same}

@@ -25,8 +25,8 @@ use Rattle.lines.specs.Parts.{part_end, piece, next_end, follows}
 use Rattle.sites.specs.Own as table
 use Rattle.sites.specs.Own.{misuse_of, own_of, grown, room, added, with_pairs, add_pair, add_misuse}
 use Rattle.sites.specs.declared.Misuse.TheVariants as misuse
-use Rattle.sites.specs.declared.Stored.{Stored}
-use Rattle.sites.specs.declared.Stored.TheVariants as stored
+use Rattle.sites.specs.Stored.{Stored}
+use Rattle.sites.specs.Stored as stored
 use Rattle.runs.specs.Run.{ShowsItem}
 use Rattle.runs.proofs.Inside.{placed}
 use Rattle.edges.specs.Reads.{kind_word, KindsOf}

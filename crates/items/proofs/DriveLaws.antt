@@ -29,8 +29,8 @@ use Rattle.sites.specs.declared.Extent.{Extent}
 use Rattle.sites.specs.declared.Extent.TheVariants as extent
 use Rattle.sites.specs.declared.Misuse.{Misuse}
 use Rattle.sites.specs.declared.Misuse.TheVariants as misuse
-use Rattle.sites.specs.declared.Stored.{Stored}
-use Rattle.sites.specs.declared.Stored.TheVariants as stored
+use Rattle.sites.specs.Stored.{Stored}
+use Rattle.sites.specs.Stored as stored
 use Rattle.runs.specs.Run.{ShowsItem}
 use Rattle.runs.proofs.Inside.{placed}
 use Rattle.edges.specs.Reads.{kind_word, KindsOf}

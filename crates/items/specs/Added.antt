@@ -14,7 +14,7 @@ use Rattle.sites.specs.declared.Extent.TheVariants as extent
 use Rattle.sites.specs.declared.Site.{Site}
 use Rattle.sites.specs.declared.Misuse.{Misuse}
 use Rattle.sites.specs.declared.Misuse.TheVariants as misuse
-use Rattle.sites.specs.declared.Stored.TheVariants as stored
+use Rattle.sites.specs.Stored as stored
 use Rattle.edges.specs.Reads.{kind_word}
 use Rattle.edges.specs.Total.{parts_behind}
 use Rattle.items.specs.declared.Named.{Named}

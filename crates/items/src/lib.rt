@@ -16,7 +16,7 @@ ghost use Rattle.items.specs.Lines.{emptied, number_at, named_at, ConstantIs, in
 
 use consteval::Value;
 use lines::{numbers, parts};
-use sites::{Extent, Misuse, Site, Stored};
+use sites::{Extent, Full, Misuse, Site};
 
 // Empties the tables before the first item of a module: the counts become 0, and every other word stays.
 pub fn reset(own: &mut [u32])
@@ -229,8 +229,8 @@ fn drive_output(
                 start: l.start,
             },
         ) {
-            Stored::Done => true,
-            Stored::Full => {
+            Ok(()) => true,
+            Err(Full) => {
                 sites::clear(own);
                 false
             }
@@ -296,8 +296,8 @@ fn set_stmt(s: &[u8], block: u32, kinds: &[u8], own: &mut [u32]) -> bool
         return true;
     }
     match sites::add_pair(own, l.name, block) {
-        Stored::Done => true,
-        Stored::Full => {
+        Ok(()) => true,
+        Err(Full) => {
             sites::clear(own);
             false
         }
@@ -315,8 +315,8 @@ fn default_stmt(s: &[u8], block: u32, kinds: &[u8], own: &mut [u32]) -> bool
         return true;
     }
     match sites::add_pair(own, n, block) {
-        Stored::Done => true,
-        Stored::Full => {
+        Ok(()) => true,
+        Err(Full) => {
             sites::clear(own);
             false
         }

@@ -3,7 +3,7 @@
 #![tactic(auto)]
 
 use report::{Detail, Report};
-use sites::{Cover, Extent, Found, Site};
+use sites::{Cover, Extent, Site};
 use std::io;
 
 // The output's name and the START of its line, the same in all of these cases.
@@ -34,7 +34,7 @@ fn drive(own: &mut [u32], extent: Extent, start: u32) {
         extent,
         start,
     };
-    sites::add_site(own, s);
+    let _ = sites::add_site(own, s);
 }
 
 // The conflicts, in order.
@@ -57,8 +57,8 @@ fn print_coverage(
         Cover::Never => print_report(rt, start, name, Detail::Never),
         Cover::Open => Ok(()),
         Cover::Ranges => match sites::first_gap(own, name, width) {
-            Found::At(b) => print_report(rt, start, name, Detail::Gap(b)),
-            Found::Nothing => Ok(()),
+            Some(b) => print_report(rt, start, name, Detail::Gap(b)),
+            None => Ok(()),
         },
     }
 }

@@ -12,8 +12,8 @@ use Rattle.sites.specs.declared.Extent.{Extent}
 use Rattle.sites.specs.declared.Extent.TheVariants as extent
 use Rattle.sites.specs.declared.Misuse.{Misuse}
 use Rattle.sites.specs.declared.Misuse.TheVariants as misuse
-use Rattle.sites.specs.declared.Stored.{Stored}
-use Rattle.sites.specs.declared.Stored.TheVariants as stored
+use Rattle.sites.specs.Stored.{Stored}
+use Rattle.sites.specs.Stored as stored
 use Rattle.sites.specs.Own.{Table, Shape, places, items, own_of, number_of, added, pushed, push_answer, first_row, row_added, pair_row_added, first_added, extent_of, extent_from, extent_numbers, misuse_of, misuse_from, misuse_number, add_site, add_pair, add_output, add_reg, add_mem, add_misuse, site_table, pair_table, port_table, reg_table, mem_table, misuse_table, conflict_table, site_from, pair_from, port_from, storage_from, misused_from, conflict_from}
 use Rattle.sites.proofs.Rows.{pushed_items, pushed_other, answer_items, first_items, first_other, same_own}
 

@@ -53,11 +53,11 @@ module _ (c : Conflict) (g : ℕ → Conflict) (n : ℕ) where
       let e = run_step g i n h in
       ap (λ l. run g 0 i ++ (c ∷ l)) e ∙ ap (λ l. run g 0 i ++ l) (sym (ap (insert_conflict c) e ∙ rw (b, insert_conflict))) ∙ p
 
-  pub place_end : (i : ℕ) → n ≤ i → placing i → run g 0 i ++ (c ∷ run g i (n - i)) ≡ insert_conflict c (run g 0 n)
+  pub place_end : placing n → run g 0 n ++ (c ∷ run g n (n - n)) ≡ insert_conflict c (run g 0 n)
   unfolding insert_conflict
-  place_end i h p =
-      let e = run_end g i n h in
-      ap (λ l. run g 0 i ++ (c ∷ l)) e ∙ ap (λ l. run g 0 i ++ l) (sym (ap (insert_conflict c) e)) ∙ p
+  place_end p =
+      let e = run_end g n n (omega arith) in
+      ap (λ l. run g 0 n ++ (c ∷ l)) e ∙ ap (λ l. run g 0 n ++ l) (sym (ap (insert_conflict c) e)) ∙ p
 
 -- what differs in the table of conflicts alone
 pub front_same : (own : List ℕ) → Front own own

@@ -13,8 +13,8 @@ use borrow.Author.Tests.{eq-eqb}
 use Rattle.spec.specs.Refusal.{has_name}
 use Rattle.spec.specs.Site.{Site, Conflict, sites_of, meets_any, first_conflict}
 use Rattle.sites.specs.declared.Site as declared
-use Rattle.sites.specs.declared.Found.{Found}
-use Rattle.sites.specs.declared.Found.TheVariants as found
+use Rattle.std.specs.Prelude.{Some, None}
+use Rattle.std.specs.Prelude as rust
 use Rattle.sites.specs.declared.records.Record.{Record}
 use Rattle.sites.specs.Own.{places, items, rows_in, site_table, site_from, site_row, site_of, found_of, own_of, sites_from, NextSite, skip_at, misuse_poison, conflict_step}
 use Rattle.sites.specs.Run.{site_in, sites_in, record_of, NameConflict}
@@ -120,12 +120,12 @@ one_more : (s : declared.Site) → sites_in (record_of s ∷ []) ≡ site_of s �
 unfolding sites_in
 one_more s = λ i. stands s i ∷ []
 
-none_found : (r : Found) → found_of r ≡ none → r ≡ found.Nothing
-none_found (found.At x) e = absurd (differ e)
+none_found : (r : rust.Option ℕ) → found_of r ≡ none → r ≡ None
+none_found (Some x) e = absurd (differ e)
   where
     differ : ◌≡◌ {A = Option ℕ} (some x) none → ⊥
     differ z = let y : ◌≡◌ {A = ℕ} 1 0 = ap (λ (o : Option ℕ). elim o [ some _ ↦ 1 | none ↦ 0 ]) z in omega arith
-none_found found.Nothing e = refl
+none_found None e = refl
 
 -- where the loop stands: the row that is next is `at`, and `count` records are stored in a run of N
 pub record Filling (N n : ℕ) (own : List ℕ) (at count : ℕ) (all : List Record) : Type 0 where
@@ -151,9 +151,6 @@ module _ (N : ℕ) (small : N ≤ 1024) (n : ℕ) (own : List ℕ) where
 
     pub room_left : at < N → count < length all
     room_left h = omega (arith, w.size, w.few, (w.next.here (below h)).1)
-
-    pub count_few : count ≤ N
-    count_few = omega (arith, w.few, w.within)
 
     told_more : (h : at < N) (s : declared.Site) → site_of s ≡ site_row own at → length own ≡ places → sites_in (take (count + 1) (set all count (record_of s))) ++ sites_from n own (at + 1) ≡ sites_from n own 0
     told_more h s is e =
@@ -199,5 +196,5 @@ module _ (N : ℕ) (small : N ≤ 1024) (n : ℕ) (own : List ℕ) where
     unfolding sites_in first_conflict
     of_none k e = ap (λ (j : ℕ). Sought (take j all)) e
 
-    pub finished : N ≤ at → (r : Found) → found_of r ≡ Sought (take count all) → NameConflict N n own r
+    pub finished : N ≤ at → (r : rust.Option ℕ) → found_of r ≡ Sought (take count all) → NameConflict N n own r
     finished b r s = (λ e g. s ∙ ap (first_conflict []) (stored_all b e g ∙ of_own), λ z. none_found r (s ∙ of_none count (w.empty z)))

@@ -6,10 +6,13 @@ use mathlib.Core.Option.{some, none}
 use Prim.Native.Nat.{ℕ, zero, suc, ◌+◌, ◌-◌, ◌<◌, ◌≤◌, min}
 use native.Mathlib.Omega.{arith}
 use native.Mathlib.Numerals.{add-one}
+use borrow.Rule.Slice.PartMut.{put_mid}
+use borrow.Author.Rules.{rules}
+use Rattle.std.proofs.lemmas.Slice.{overwrites}
+use Rattle.std.proofs.lemmas.List.{places}
 use lib.Dec.{eqb, ltb, leb}
-use lib.ListN.{length, get_or, set, length-set, replicate, get_or-replicate}
-use lib.Seq.{get_or-set_same, get_or-set_other}
-use borrow.Author.Tests.{eq-eqb, ne_eqb, eqb-true, eqb-false, lt-ltb, le-ltb, ltb-true, ltb-false, lt-leb, le-leb, leb-true, leb-false}
+use lib.ListN.{length, get_or, replicate, get_or-replicate, length-replicate}
+use borrow.Author.Tests.{eq-eqb, ne_eqb, lt-ltb, le-ltb, ltb-true, ltb-false, lt-leb, le-leb, leb-true, leb-false}
 use Rattle.spec.specs.Site.{Whole, Range, Site, covers, covered, sites_of, gap_from, first_gap}
 use Rattle.sites.specs.Own.{run, within, Marked, unmarked_from}
 use Rattle.sites.proofs.Rows.{run_step, run_end}
@@ -28,38 +31,29 @@ within_above a b j p = go (leb a j) refl
     go true e = rw (e, le-ltb j b p)
     go false e = rw e
 
-pub mark_start : (m : List ℕ) (a : ℕ) → Marked (length m) (within a a) m m
-mark_start m a = record { size = refl; at = λ b h. go b (leb a b) refl }
+-- a stretch of places, each with a mark now
+pub mark_made : (m ys : List ℕ) (a b k : ℕ) → a ≤ b → b ≤ length m → ys ≡ replicate k 1 → k ≡ b - a → Marked (length m) (within a b) m (put_mid a (b - a) m ys)
+mark_made m ys a b k p q e f = record { size = size; at = λ j h. go j h (leb a j) refl (ltb j b) refl }
   where
-    go : (b : ℕ) (t : Bool) → leb a b ≡ t → eqb (get_or m b 0) 1 ≡ (within a a b || eqb (get_or m b 0) 1)
-    go b true e = rw (within_above a a b (leb-true a b e))
-    go b false e = rw (within_below a a b (leb-false a b e))
+    long : length ys ≡ b - a
+    long = ap length e ∙ length-replicate k 1 ∙ f
 
-pub mark_more : (m₀ m : List ℕ) (a b : ℕ) → a ≤ b → b < length m → Marked (length m₀) (within a b) m₀ m → Marked (length m₀) (within a (b + 1)) m₀ (set m b 1)
-mark_more m₀ m a b p q k = record { size = length-set m b 1 ∙ k.size; at = λ j h. go j h (eqb j b) refl }
-  where
-    same : (j : ℕ) → ¬ (j ≡ b) → within a b j ≡ within a (b + 1) j
-    same j d = by (leb a j) refl (ltb j b) refl
-      where
-        by : (s : Bool) → leb a j ≡ s → (t : Bool) → ltb j b ≡ t → within a b j ≡ within a (b + 1) j
-        by false e t f = within_below a b j (leb-false a j e) ∙ sym (within_below a (b + 1) j (leb-false a j e))
-        by true e true f = let g = ltb-true j b f in within_true a b j (leb-true a j e) g ∙ sym (within_true a (b + 1) j (leb-true a j e) (omega arith))
-        by true e false f =
-            let g = ltb-false j b f in
-            let g' : b + 1 ≤ j = omega (arith, d) in
-            within_above a b j g ∙ sym (within_above a (b + 1) j g')
+    size : length (put_mid a (b - a) m ys) ≡ length m
+    size = let l = long in search (rules, overwrites)
 
-    go : (j : ℕ) → j < length m₀ → (t : Bool) → eqb j b ≡ t → eqb (get_or (set m b 1) j 0) 1 ≡ (within a (b + 1) j || eqb (get_or m₀ j 0) 1)
-    go j h true e =
-        let f = eqb-true j b e in
-        ap (λ (x : ℕ). eqb (get_or (set m b 1) x 0) 1) f ∙ ap (λ (x : ℕ). eqb x 1) (get_or-set_same m b 1 0 q)
-        ∙ sym (rw (within_true a (b + 1) j (omega arith) (omega arith)))
-    go j h false e =
-        let d = eqb-false j b e in
-        ap (λ (x : ℕ). eqb x 1) (get_or-set_other m b j 1 0 d) ∙ k.at j h ∙ ap (λ (t : Bool). t || eqb (get_or m₀ j 0) 1) (same j d)
-
-pub mark_done : (m₀ m : List ℕ) (a b e : ℕ) → b ≡ e → Marked (length m₀) (within a b) m₀ m → Marked (length m₀) (within a e) m₀ m
-mark_done m₀ m a b e q k = rw (← q) k
+    go : (j : ℕ) → j < length m → (s : Bool) → leb a j ≡ s → (t : Bool) → ltb j b ≡ t → eqb (get_or (put_mid a (b - a) m ys) j 0) 1 ≡ (within a b j || eqb (get_or m j 0) 1)
+    go j h true x true y =
+        let l = long in let u = leb-true a j x in let v = ltb-true j b y in
+        let g : get_or (put_mid a (b - a) m ys) j 0 ≡ 1 = search (rules, places) in
+        ap (λ (z : ℕ). eqb z 1) g ∙ sym (rw (x, y))
+    go j h true x false y =
+        let l = long in let v = ltb-false j b y in
+        let g : get_or (put_mid a (b - a) m ys) j 0 ≡ get_or m j 0 = search (rules, places) in
+        ap (λ (z : ℕ). eqb z 1) g ∙ sym (rw (x, y))
+    go j h false x t y =
+        let l = long in let u = leb-false a j x in
+        let g : get_or (put_mid a (b - a) m ys) j 0 ≡ get_or m j 0 = search (rules, places) in
+        ap (λ (z : ℕ). eqb z 1) g ∙ sym (rw x)
 
 -- a mark where an extent says
 module _ (limit : ℕ) (m₀ m : List ℕ) where
@@ -171,9 +165,9 @@ or_false : (t : Bool) → (t || false) ≡ t
 or_false true = refl
 or_false false = refl
 
-pub gap_found : (m₀ m : List ℕ) (ss : List Site) (width limit : ℕ) → limit ≡ min width 4096 → ((b : ℕ) → b < limit → eqb (get_or m₀ b 0) 1 ≡ false)
-    → Marked limit (covered ss) m₀ m → unmarked_from m 0 limit ≡ first_gap ss width
+pub gap_found : (m₀ m : List ℕ) (ss : List Site) (limit : ℕ) → ((b : ℕ) → b < limit → eqb (get_or m₀ b 0) 1 ≡ false) → Marked limit (covered ss) m₀ m → unmarked_from m 0 limit ≡ gap_from ss 0 limit
+gap_found m₀ m ss limit z k = same_gap m ss limit 0 limit (omega arith) (λ j p. k.at j p ∙ ap (λ (t : Bool). covered ss j || t) (z j p) ∙ or_false (covered ss j))
+
+pub gap_least : (ss : List Site) (width limit : ℕ) → limit ≡ min width 4096 → gap_from ss 0 limit ≡ first_gap ss width
 unfolding first_gap
-gap_found m₀ m ss width limit e z k =
-    same_gap m ss limit 0 limit (omega arith) (λ j p. k.at j p ∙ ap (λ (t : Bool). covered ss j || t) (z j p) ∙ or_false (covered ss j))
-    ∙ ap (λ (l : ℕ). gap_from ss 0 l) e
+gap_least ss width limit e = ap (λ (l : ℕ). gap_from ss 0 l) e

@@ -19,8 +19,8 @@ use Rattle.spec.specs.Block.{Pair, Storage, has_pair}
 use Rattle.spec.specs.Check.{site_limit, pair_limit}
 use Rattle.spec.proofs.Lists.{once_length, once_append}
 use Rattle.spec.proofs.Flags.{unnamed}
-use Rattle.sites.specs.declared.Stored.{Stored}
-use Rattle.sites.specs.declared.Stored.TheVariants as stored
+use Rattle.sites.specs.Stored.{Stored}
+use Rattle.sites.specs.Stored as stored
 use Rattle.sites.specs.Own.{Own, Port, own_of, row, rows_in, site_table, pair_table, site_from, pair_from, names, entry_names, first_kept, grown, room, number_of, added, add_site, add_pair, add_output, add_reg, add_mem, add_misuse, with_pairs}
 use Rattle.sites.proofs.Rows.{run_length, rows_limit}
 use Rattle.sites.proofs.Cleared.{no_rows}

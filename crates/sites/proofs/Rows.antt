@@ -6,12 +6,15 @@ use Prim.Native.Nat.{ℕ, zero, suc, ◌+◌, ◌*◌, ◌-◌, ◌<◌, ◌≤�
 use native.Mathlib.Nat.{mul-le-mul_left, mul-suc}
 use native.Mathlib.Omega.{arith}
 use native.Mathlib.Numerals.{add-one}
+use Rattle.std.proofs.lemmas.Slice.{put_mid-paste}
+use Rattle.std.proofs.lemmas.List.Edits.{paste_all}
+use borrow.Rule.Slice.PartMut.{put_mid}
 use Rattle.spec.specs.Refusal.{has_name}
 use lib.Dec.{T, eqb, ltb, leb, ltb→lt, leb→le}
 use borrow.Author.Tests.{eq-eqb, ne_eqb, leb-true, lt-ltb, le-ltb, ltb-true, ltb-false}
-use Rattle.sites.specs.declared.Stored.TheVariants as stored
-use lib.ListN.{length, get_or, set, take, drop, length-take, length-drop, drop_of_length-le}
-use lib.Seq.{sets, drop-cons, sets-eq, length-sets, drop-set-lt, drop-set-add, take-set-le, drop_at, take_at, length-take-le, get_or-set_same, get_or-set_other, get_or-take, get_or-drop}
+use Rattle.sites.specs.Stored as stored
+use lib.ListN.{length, get_or, set, take, drop, length-take, length-drop}
+use lib.Seq.{sets, sets-eq, length-sets, drop-set-lt, drop-set-add, take-set-le, drop_at, take_at, length-take-le, get_or-set_same, get_or-set_other, get_or-take, get_or-drop}
 use Rattle.sites.specs.Own.{Table, Shape, run, row, rows_in, items, stored_row, pushed, push_answer, row_names, first_row, entry_names, grown, room, first_kept, names, Own}
 
 -- runs
@@ -200,24 +203,11 @@ pub has_none : (n : ℕ) → has_name n [] ≡ false
 unfolding has_name
 has_none n = refl
 
--- a row's numbers in order
-pub row_more : (own : List ℕ) (at k w : ℕ) (r : List ℕ) → k < w → w ≤ length r
-    → sets (set own (at + k) (get_or r k 0)) (at + (k + 1)) (drop (k + 1) (take w r)) ≡ sets own (at + k) (drop k (take w r))
-row_more own at k w r h g =
-    let q : k < length (take w r) = omega (arith, length-take w r) in
-    let e : at + (k + 1) ≡ suc (at + k) = omega arith in
-    let d : drop k (take w r) ≡ get_or r k 0 ∷ drop (k + 1) (take w r) =
-    drop-cons (take w r) k 0 q ∙ ap (λ (x : ℕ). x ∷ drop (suc k) (take w r)) (get_or-take w r k 0 h)
-    ∙ ap (λ (j : ℕ). get_or r k 0 ∷ drop j (take w r)) (sym (add-one k)) in
-    ap (λ (j : ℕ). sets (set own (at + k) (get_or r k 0)) j (drop (k + 1) (take w r))) e ∙ ap (λ l. sets own (at + k) l) (sym d)
-
-pub row_done : (own : List ℕ) (at k w : ℕ) (r : List ℕ) → w ≤ k → sets own (at + k) (drop k (take w r)) ≡ own
-row_done own at k w r h =
-    let q : length (take w r) ≤ k = omega (arith, length-take w r) in
-    ap (λ l. sets own (at + k) l) (drop_of_length-le (take w r) q)
-
-pub row_start : (own own₀ : List ℕ) (at : ℕ) (vs : List ℕ) → own ≡ own₀ → sets own (at + 0) vs ≡ sets own₀ at vs
-row_start own own₀ at vs e = let z : at + 0 ≡ at = omega arith in ap (λ (k : ℕ). sets own k vs) z ∙ ap (λ l. sets l at vs) e
+-- a row's numbers written over a stretch
+pub row_put : (own ys vs : List ℕ) (at k : ℕ) → ys ≡ vs → k ≡ length vs → at + length vs ≤ length own → put_mid at k own ys ≡ sets own at vs
+row_put own ys vs at k e q h =
+    put_mid-paste at k own ys vs (length vs) e (sym q) refl ∙ paste_all own at vs (length vs) refl
+    ∙ sym (sets-eq vs own at h ∙ append_assoc (take at own) vs (drop (at + length vs) own))
 
 -- pushing a row
 pub push_room : (t : Table) (own vs : List ℕ) → rows_in t own < t.limit → pushed t own vs ≡ stored_row t own (rows_in t own) vs
@@ -239,10 +229,6 @@ answer_full t own h = rw (le-ltb (rows_in t own) t.limit h, push_answer)
 -- the whole of a push
 pub push_done : (t : Table) (own vs : List ℕ) (n : ℕ) → n ≡ rows_in t own → n < t.limit → stored_row t own n vs ≡ pushed t own vs
 push_done t own vs n e h = ap (λ (k : ℕ). stored_row t own k vs) e ∙ sym (push_room t own vs (omega arith))
-
-pub count_is : (t : Table) (own : List ℕ) → min (get_or own t.count 0) t.limit ≡ rows_in t own
-unfolding rows_in
-count_is t own = refl
 
 pub first_seen : (t : Table) (own vs : List ℕ) → has_name (get_or vs 0 0) (row_names t own) ≡ true → own ≡ first_row t own vs
 unfolding first_row

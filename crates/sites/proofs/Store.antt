@@ -7,7 +7,7 @@ use native.Mathlib.Nat.{not-suc-le-zero, le_of_suc-le-suc}
 use lib.Dec.{T, ltb}
 use Rattle.std.proofs.lemmas.Bool.{lt-ltb, le-ltb}
 use lib.ListN.{length, set}
-use Rattle.sites.specs.declared.Stored.TheVariants as stored
+use Rattle.sites.specs.Stored as stored
 use Rattle.sites.specs.Run.{StoredBy}
 
 pub done : (t : Bool) → T t → StoredBy t stored.Done

@@ -11,13 +11,14 @@ use Rattle.spec.specs.Site as site
 use Rattle.spec.specs.Site.{Misused, Conflict, misused_names, conflict_names}
 use Rattle.spec.specs.Block.{Pair, Storage, has_pair}
 use Rattle.spec.specs.Check.{site_limit, pair_limit}
+use Rattle.sites.specs.declared.Table as code
 use Rattle.sites.specs.declared.Extent.{Extent}
 use Rattle.sites.specs.declared.Extent.TheVariants as extent
 use Rattle.sites.specs.declared.Site.{Site}
 use Rattle.sites.specs.declared.Misuse.{Misuse}
 use Rattle.sites.specs.declared.Misuse.TheVariants as misuse
-use Rattle.sites.specs.declared.Found.{Found}
-use Rattle.sites.specs.declared.Found.TheVariants as found
+use Rattle.std.specs.Prelude.{Some, None, Ok, Err}
+use Rattle.std.specs.Prelude as rust
 use Rattle.sites.specs.declared.Line.{Line}
 use Rattle.sites.specs.declared.OutputLine.{OutputLine}
 use Rattle.sites.specs.declared.MisusedLine.{MisusedLine}
@@ -25,8 +26,8 @@ use Rattle.sites.specs.declared.Blocks.{Blocks}
 use Rattle.sites.specs.declared.Blocks.TheVariants as blocks
 use Rattle.sites.specs.declared.Cover.{Cover}
 use Rattle.sites.specs.declared.Cover.TheVariants as cover
-use Rattle.sites.specs.declared.Stored.{Stored}
-use Rattle.sites.specs.declared.Stored.TheVariants as stored
+use Rattle.sites.specs.Stored.{Stored}
+use Rattle.sites.specs.Stored as stored
 
 -- 01, The site: the extent that the code's value means
 abbrev pub extent_of : Extent → site.Extent
@@ -46,13 +47,10 @@ misuse_of misuse.Reg = site.reg_driven
 misuse_of misuse.Mem = site.mem_driven
 misuse_of misuse.Arrow = site.arrow
 
--- 01, The site; The block: a table: where its count stands, where its rows begin, how many numbers a row has, and how many rows there
--- are at most
-pub record Table : Type 0 where
-  pub count : ℕ
-  pub base : ℕ
-  pub width : ℕ
-  pub limit : ℕ
+-- 01, The site; The block: a table, as the code has it: where its count stands, where its rows begin, how many numbers a row has, and how
+-- many rows there are at most
+abbrev pub Table : Type 0
+Table = code.Table
 
 -- 01, The line: NAME 0 to 255: how many names there are at most
 abbrev pub names : ℕ
@@ -108,10 +106,6 @@ rows_in t own = min (get_or own t.count 0) t.limit
 -- 01, The site; The block: the rows of a table, f giving what each means
 abbrev pub items : {A : Type 0} → (List ℕ → A) → Table → List ℕ → List A
 items f t own = run (λ i. f (row t own i)) 0 (rows_in t own)
-
--- 01, The site; The block: a table by its numbers
-abbrev pub table : ℕ → ℕ → ℕ → ℕ → Table
-table c b w l = record { count = c; base = b; width = w; limit = l }
 
 -- 01, The site; The block: what it takes to work on a table: all its rows lie inside the run of numbers and its count before them, a
 -- row has one number to five, and there are at most 65,536 rows
@@ -220,8 +214,8 @@ own_of own =
 
 -- 01, Refused because of the state: 20 where a working limit is passed; 0 where there is room
 abbrev pub number_of : Stored → ℕ
-number_of stored.Done = 0
-number_of stored.Full = 20
+number_of (Ok _) = 0
+number_of (Err _) = 20
 
 -- 01, The site; The block; Refused because of the state: the number that an addition answers, and what it leaves: the run of numbers, or the
 -- tables that it means
@@ -330,9 +324,9 @@ value_of true v = known (unbiased v)
 value_of false v = missing
 
 -- 01, The site: what was found, or none
-abbrev pub found_of : Found → Option ℕ
-found_of (found.At x) = some x
-found_of found.Nothing = none
+abbrev pub found_of : rust.Option ℕ → Option ℕ
+found_of (Some x) = some x
+found_of None = none
 
 -- 01, The block: no block, one or several, by their number
 abbrev pub blocks_by : ℕ → Blocks

@@ -3,11 +3,11 @@
 use Rattle.std.specs.Prelude.{◌≡◌, Bool, true, false, List, [], ◌∷◌, ℕ, ◌≤◌, length, get_or}
 use Rattle.spec.specs.Site as site
 use Rattle.sites.specs.Own.{extent_from, extent_numbers, found_of, number_of, own_of, places, rows_in, site_table}
-use Rattle.sites.specs.declared.Found.{Found}
-use Rattle.sites.specs.declared.Found.TheVariants as found
+use Rattle.std.specs.Prelude.{Some, None}
+use Rattle.std.specs.Prelude as rust
 use Rattle.sites.specs.declared.Site.{Site}
-use Rattle.sites.specs.declared.Stored.{Stored}
-use Rattle.sites.specs.declared.Stored.TheVariants as stored
+use Rattle.sites.specs.Stored.{Stored}
+use Rattle.sites.specs.Stored as stored
 use Rattle.sites.specs.declared.records.Record.{Record}
 
 -- 01, The site: each site holds one extent: Whole, Range, Dynamic or Unknown, here by the record's code. A code past those is Unknown.
@@ -39,7 +39,7 @@ StoredBy t r = (r ≡ stored_by t) × (number_of r ≡ elim t [ true ↦ 0 | fal
 
 -- 01, The site: what is found of the sites of a name in a table of at most N sites: the first later one that meets an earlier one. In a run of
 -- numbers of another length nothing is found.
-abbrev pub NameConflict : ℕ → ℕ → List ℕ → Found → Type 0
+abbrev pub NameConflict : ℕ → ℕ → List ℕ → rust.Option ℕ → Type 0
 NameConflict N n own r =
     (length own ≡ places → rows_in site_table own ≤ N → found_of r ≡ site.first_conflict [] (site.sites_of n (own_of own).sites))
-    × (¬ (length own ≡ places) → r ≡ found.Nothing)
+    × (¬ (length own ≡ places) → r ≡ None)

@@ -4,15 +4,14 @@
 
 mod records;
 
-ghost use Rattle.std.specs.Prelude.{◌≡◌, ◌+◌, ◌-◌, ◌*◌, ◌≤◌, ◌<◌, min, [], ◌∷◌, ◌++◌, length, get_or, take, replicate, leb, false, ◌&&◌};
+ghost use Rattle.std.specs.Prelude.{None, ◌≡◌, ◌+◌, ◌-◌, ◌*◌, ◌≤◌, ◌<◌, [], ◌∷◌, ◌++◌, length, get_or, replicate, leb, false, ◌&&◌};
 ghost use Rattle.std.proofs.lemmas.List.Edits.{sets};
 ghost use Rattle.spec.specs.Site as site;
-ghost use Rattle.sites.specs.declared.Found.TheVariants as found;
 ghost use Rattle.sites.specs.declared.Blocks.TheVariants as blocks;
 ghost use Rattle.sites.specs.declared.Cover.TheVariants as cover;
 ghost use Rattle.spec.specs.Refusal.{has_name};
 ghost use Rattle.spec.specs.Block.{has_pair, block_count};
-ghost use Rattle.sites.specs.Own.{extent_of, site_of, misuse_of, extent_from, misuse_from, pair_from, row, rows_in, pair_table, site_table, site_from, found_of, value_of, blocks_by, cover_by, range_test, unmarked_from, within, Marked, conflict_of, conflict_row, conflict_rows, conflict_table, conflict_step, with_conflicts, poisoned_names, misuse_poison, row_names, skip_at, site_row, NextSite, Front, Behind, conflicts_found, table, Shape, pushed, push_answer, first_row, places, run, own_of, added, row_added, pair_row_added, first_added, site_numbers, extent_numbers, misuse_number, add_site, add_pair, add_output, add_reg, add_mem, add_misuse, names, reg_table, mem_table, port_table, misuse_table, storage_of, storage_from, port_of, port_from, misused_of, misused_from};
+ghost use Rattle.sites.specs.Own.{extent_of, site_of, misuse_of, extent_from, misuse_from, pair_from, row, rows_in, pair_table, site_table, site_from, found_of, value_of, blocks_by, cover_by, range_test, unmarked_from, within, Marked, conflict_of, conflict_row, conflict_rows, conflict_table, conflict_step, with_conflicts, poisoned_names, misuse_poison, row_names, skip_at, site_row, NextSite, Front, Behind, conflicts_found, Shape, pushed, push_answer, first_row, places, run, own_of, added, row_added, pair_row_added, first_added, site_numbers, extent_numbers, misuse_number, add_site, add_pair, add_output, add_reg, add_mem, add_misuse, names, reg_table, mem_table, port_table, misuse_table, storage_of, storage_from, port_of, port_from, misused_of, misused_from};
 
 // How many names there are at most.
 const NAMES: usize = 256;
@@ -21,21 +20,66 @@ const SITE_LIMIT: usize = 1024;
 
 const PAIR_LIMIT: usize = 512;
 
-const SITES: usize = 8;
+// A table: where its count stands, where its rows begin, how many numbers a row has, and how many rows there are at most.
+#[derive(Clone, Copy)]
+struct Table {
+    count: usize,
+    base: usize,
+    width: usize,
+    limit: usize,
+}
 
-const PAIRS: usize = SITES + 5 * SITE_LIMIT;
+const SITES: Table = Table {
+    count: 0,
+    base: 8,
+    width: 5,
+    limit: SITE_LIMIT,
+};
 
-const OUTPUTS: usize = PAIRS + 2 * PAIR_LIMIT;
+const PAIRS: Table = Table {
+    count: 1,
+    base: SITES.base + 5 * SITE_LIMIT,
+    width: 2,
+    limit: PAIR_LIMIT,
+};
 
-const REGS: usize = OUTPUTS + 4 * NAMES;
+const OUTPUTS: Table = Table {
+    count: 2,
+    base: PAIRS.base + 2 * PAIR_LIMIT,
+    width: 4,
+    limit: NAMES,
+};
 
-const MEMS: usize = REGS + 2 * NAMES;
+const REGS: Table = Table {
+    count: 3,
+    base: OUTPUTS.base + 4 * NAMES,
+    width: 2,
+    limit: NAMES,
+};
 
-const MISUSES: usize = MEMS + 2 * NAMES;
+const MEMS: Table = Table {
+    count: 4,
+    base: REGS.base + 2 * NAMES,
+    width: 2,
+    limit: NAMES,
+};
 
-const CONFLICTS: usize = MISUSES + 3 * NAMES;
+const MISUSES: Table = Table {
+    count: 5,
+    base: MEMS.base + 2 * NAMES,
+    width: 3,
+    limit: NAMES,
+};
+
+const CONFLICTS: Table = Table {
+    count: 6,
+    base: MISUSES.base + 3 * NAMES,
+    width: 2,
+    limit: SITE_LIMIT,
+};
+
 // How many numbers hold all the tables.
-pub const OWN: usize = CONFLICTS + 2 * SITE_LIMIT;
+pub const OWN: usize = CONFLICTS.base + 2 * SITE_LIMIT;
 
 #[derive(Clone, Copy)]
 pub enum Extent {
@@ -60,48 +104,36 @@ pub enum Misuse {
     Arrow,
 }
 
-// Whether there was room.
-#[derive(Clone, Copy)]
-pub enum Stored {
-    Done,
-    Full,
+// A table has no room for one row more.
+#[derive(Clone, Copy, Debug, PartialEq, Eq)]
+pub struct Full;
+
+// How many rows a table has; a count past the limit counts as the limit.
+fn rows_in(own: &[u32], t: Table) -> usize
+    requires { t.count < length own.now }
+    ensures { (result ≡ rows_in t own.now) × (result ≤ t.limit) }
+{
+    (own[t.count] as usize).min(t.limit)
 }
 
-// The count at a place, and `limit` where it is past that.
-fn count_at(own: &[u32], place: usize, limit: usize) -> usize
-    requires { place < length own.now }
-    ensures { result ≡ min (get_or own.now place 0) limit }
+// The numbers of row i of a table.
+fn put_row(own: &mut [u32], t: Table, i: usize, row: &[u32])
+    requires { (t.base + t.width * i + t.width ≤ length own.old) × (length row.now ≡ t.width) }
+    ensures { own.new ≡ sets own.old (t.base + t.width * i) row.now }
 {
-    let n = own[place] as usize;
-    if n < limit {
-        return n;
-    }
-    limit
+    let at = t.base + t.width * i;
+    own[at..at + t.width].copy_from_slice(row);
 }
 
-// The first numbers of a row, from a place on.
-fn put_row(own: &mut [u32], at: usize, width: usize, row: [u32; 5])
-    requires { (at + width ≤ length own.old) × (width ≤ 5) }
-    ensures { own.new ≡ sets own.old at (take width row) }
+// Whether one of the first n rows of a table has a name. A row begins with its name.
+fn has_row(own: &[u32], t: Table, n: usize, name: u32) -> bool
+    requires { (t.base + t.width * n ≤ length own.now) × (0 < t.width) }
+    ensures { result ≡ has_name name (run (λ i. get_or own.now (t.base + t.width * i) 0) 0 n) }
 {
-    let mut k: usize = 0;
-    while k < width {
-        own[at + k] = row[k];
-        k += 1;
-    }
-}
-
-// Whether one of n rows has a name. The rows begin at a place, each with its name.
-fn has_row(own: &[u32], at: usize, width: usize, n: usize, name: u32) -> bool
-    requires { (at + width * n ≤ length own.now) × (0 < width) }
-    ensures { result ≡ has_name name (run (λ i. get_or own.now (at + width * i) 0) 0 n) }
-{
-    let mut i: usize = 0;
-    while i < n {
-        if own[at + width * i] == name {
+    for i in 0..n {
+        if own[t.base + t.width * i] == name {
             return true;
         }
-        i += 1;
     }
     false
 }
@@ -110,46 +142,33 @@ fn has_row(own: &[u32], at: usize, width: usize, n: usize, name: u32) -> bool
 pub fn clear(own: &mut [u32])
     ensures { own.new ≡ replicate (length own.old) 0 }
 {
-    let mut i: usize = 0;
-    while i < own.len() {
-        own[i] = 0;
-        i += 1;
-    }
+    own.fill(0);
 }
 
 // One row more at the end of a table, where there is room.
-fn push(
-    own: &mut [u32],
-    place: usize,
-    base: usize,
-    width: usize,
-    limit: usize,
-    row: [u32; 5],
-) -> Stored
-    requires { Shape (table place base width limit) own.old }
-    ensures { (own.new ≡ pushed (table place base width limit) own.old (take width row))
-        × (result ≡ push_answer (table place base width limit) own.old) }
+fn push(own: &mut [u32], t: Table, row: &[u32]) -> Result<(), Full>
+    requires { Shape t own.old × (length row.now ≡ t.width) }
+    ensures { (own.new ≡ pushed t own.old row.now) × (result ≡ push_answer t own.old) }
 {
-    let n = count_at(own, place, limit);
-    if limit <= n {
-        return Stored::Full;
+    let n = rows_in(own, t);
+    if t.limit <= n {
+        return Err(Full);
     }
-    put_row(own, base + width * n, width, row);
-    own[place] = (n + 1) as u32;
-    Stored::Done
+    put_row(own, t, n, row);
+    own[t.count] = (n + 1) as u32;
+    Ok(())
 }
 
 // One row more, where no row has its name.
-fn push_first(own: &mut [u32], place: usize, base: usize, width: usize, limit: usize, row: [u32; 5])
-    requires { Shape (table place base width limit) own.old }
-    ensures { own.new ≡ first_row (table place base width limit) own.old (take width row) }
+fn push_first(own: &mut [u32], t: Table, row: &[u32])
+    requires { Shape t own.old × (length row.now ≡ t.width) }
+    ensures { own.new ≡ first_row t own.old row.now }
 {
-    let n = count_at(own, place, limit);
-    let name = row[0];
-    if has_row(own, base, width, n, name) {
+    let n = rows_in(own, t);
+    if has_row(own, t, n, row[0]) {
         return;
     }
-    push(own, place, base, width, limit, row);
+    let _ = push(own, t, row);
 }
 
 // An extent as three numbers.
@@ -195,24 +214,17 @@ fn misuse_code(m: Misuse) -> u32
 }
 
 // A drive site of an output; one past 1,024 gives Full.
-pub fn add_site(own: &mut [u32], s: Site) -> Stored
+pub fn add_site(own: &mut [u32], s: Site) -> Result<(), Full>
     ensures own_after { length own.old ≡ places → added result (own_of own.new) ≡ add_site (site_of s) (own_of own.old) }
     ensures own_after_2 { added result own.new ≡ row_added site_table own.old (site_numbers s) }
     ensures own_len_unchanged { length own.new ≡ length own.old }
 {
     if own.len() != OWN {
-        return Stored::Full;
+        return Err(Full);
     }
     let e = s.extent;
     let x = extent_code(e);
-    push(
-        own,
-        0,
-        SITES,
-        5,
-        SITE_LIMIT,
-        [s.name, x.code, x.low, x.high, s.start],
-    )
+    push(own, SITES, &[s.name, x.code, x.low, x.high, s.start])
 }
 
 // An output's first collected line; its width stands at from..to of the text.
@@ -225,7 +237,7 @@ pub fn add_output(own: &mut [u32], name: u32, start: u32, from: u32, to: u32)
     if own.len() != OWN {
         return;
     }
-    push_first(own, 2, OUTPUTS, 4, NAMES, [name, start, from, to, 0]);
+    push_first(own, OUTPUTS, &[name, start, from, to]);
 }
 
 // A register's first collected line.
@@ -237,7 +249,7 @@ pub fn add_reg(own: &mut [u32], name: u32, start: u32)
     if own.len() != OWN {
         return;
     }
-    push_first(own, 3, REGS, 2, NAMES, [name, start, 0, 0, 0]);
+    push_first(own, REGS, &[name, start]);
 }
 
 // A memory's first collected line.
@@ -249,7 +261,7 @@ pub fn add_mem(own: &mut [u32], name: u32, start: u32)
     if own.len() != OWN {
         return;
     }
-    push_first(own, 4, MEMS, 2, NAMES, [name, start, 0, 0, 0]);
+    push_first(own, MEMS, &[name, start]);
 }
 
 // The first misuse of a name, which poisons it.
@@ -263,7 +275,7 @@ pub fn add_misuse(own: &mut [u32], name: u32, start: u32, kind: Misuse)
         return;
     }
     let code = misuse_code(kind);
-    push_first(own, 5, MISUSES, 3, NAMES, [name, start, code, 0, 0]);
+    push_first(own, MISUSES, &[name, start, code]);
 }
 
 // Whether a pair of name and block is there.
@@ -271,41 +283,28 @@ fn has_pair(own: &[u32], n: usize, name: u32, block: u32) -> bool
     requires { (length own.now ≡ places) × (n ≤ 512) }
     ensures { result ≡ has_pair (record { name = name; block = block }) (run (λ i. pair_from (row pair_table own.now i)) 0 n) }
 {
-    let mut i: usize = 0;
-    while i < n {
-        if own[PAIRS + 2 * i] == name {
-            if own[PAIRS + 2 * i + 1] == block {
-                return true;
-            }
-            i += 1;
-            continue;
+    for i in 0..n {
+        if own[PAIRS.base + 2 * i] == name && own[PAIRS.base + 2 * i + 1] == block {
+            return true;
         }
-        i += 1;
     }
     false
 }
 
 // A pair of name and block, where it is a new one; one past 512 gives Full.
-pub fn add_pair(own: &mut [u32], name: u32, block: u32) -> Stored
+pub fn add_pair(own: &mut [u32], name: u32, block: u32) -> Result<(), Full>
     ensures own_after { length own.old ≡ places → added result (own_of own.new) ≡ add_pair (record { name = name; block = block }) (own_of own.old) }
     ensures own_after_2 { added result own.new ≡ pair_row_added (record { name = name; block = block }) own.old }
     ensures own_len_unchanged { length own.new ≡ length own.old }
 {
     if own.len() != OWN {
-        return Stored::Full;
+        return Err(Full);
     }
-    let n = count_at(own, 1, PAIR_LIMIT);
+    let n = rows_in(own, PAIRS);
     if has_pair(own, n, name, block) {
-        return Stored::Done;
+        return Ok(());
     }
-    push(own, 1, PAIRS, 2, PAIR_LIMIT, [name, block, 0, 0, 0])
-}
-
-// What is looked for, or nothing.
-#[derive(Clone, Copy)]
-pub enum Found {
-    At(u32),
-    Nothing,
+    push(own, PAIRS, &[name, block])
 }
 
 fn extent_from(code: u32, low: u32, high: u32) -> Extent
@@ -323,20 +322,12 @@ fn extent_from(code: u32, low: u32, high: u32) -> Extent
     Extent::Unknown
 }
 
-// How many sites there are.
-fn site_count(own: &[u32]) -> usize
-    requires { length own.now ≡ places }
-    ensures { (result ≡ rows_in site_table own.now) × (result ≤ 1024) }
-{
-    count_at(own, 0, SITE_LIMIT)
-}
-
 // The site in row i.
 fn site_at(own: &[u32], i: usize) -> Site
     requires { (length own.now ≡ places) × (i < 1024) }
     ensures { site_of result ≡ site_from (row site_table own.now i) }
 {
-    let at = SITES + 5 * i;
+    let at = SITES.base + 5 * i;
     let extent = extent_from(own[at + 1], own[at + 2], own[at + 3]);
     Site {
         name: own[at],
@@ -389,14 +380,7 @@ fn ranges_meet(low: u32, high: u32, from: u32, to: u32) -> bool
 fn listed(own: &[u32], i: usize) -> Site
     ensures { length own.now ≡ places → i < 1024 → site_of result ≡ site_row own.now i }
 {
-    if own.len() != OWN {
-        return Site {
-            name: 0,
-            extent: Extent::Unknown,
-            start: 0,
-        };
-    }
-    if SITE_LIMIT <= i {
+    if own.len() != OWN || SITE_LIMIT <= i {
         return Site {
             name: 0,
             extent: Extent::Unknown,
@@ -413,13 +397,11 @@ fn next_site(own: &[u32], from: usize, name: u32) -> usize
     if own.len() != OWN {
         return SITE_LIMIT;
     }
-    let n = site_count(own);
-    let mut i = from;
-    while i < n {
-        if own[SITES + 5 * i] == name {
+    let n = rows_in(own, SITES);
+    for i in from..n {
+        if own[SITES.base + 5 * i] == name {
             return i;
         }
-        i += 1;
     }
     SITE_LIMIT
 }
@@ -483,16 +465,12 @@ fn block_count(own: &[u32], name: u32) -> usize
     requires { length own.now ≡ places }
     ensures { result ≡ block_count name (own_of own.now).pairs }
 {
-    let n = count_at(own, 1, PAIR_LIMIT);
+    let n = rows_in(own, PAIRS);
     let mut k: usize = 0;
-    let mut i: usize = 0;
-    while i < n {
-        if own[PAIRS + 2 * i] == name {
+    for i in 0..n {
+        if own[PAIRS.base + 2 * i] == name {
             k += 1;
-            i += 1;
-            continue;
         }
-        i += 1;
     }
     k
 }
@@ -542,13 +520,11 @@ pub fn cover_of(own: &[u32], name: u32) -> Cover
     if own.len() != OWN {
         return Cover::Never;
     }
-    let n = site_count(own);
+    let n = rows_in(own, SITES);
     let mut seen = false;
-    let mut i: usize = 0;
-    while i < n {
+    for i in 0..n {
         let s = site_at(own, i);
         if s.name != name {
-            i += 1;
             continue;
         }
         let e = s.extent;
@@ -556,7 +532,6 @@ pub fn cover_of(own: &[u32], name: u32) -> Cover
             return Cover::Open;
         }
         seen = true;
-        i += 1;
     }
     if seen {
         return Cover::Ranges;
@@ -564,25 +539,12 @@ pub fn cover_of(own: &[u32], name: u32) -> Cover
     Cover::Never
 }
 
-fn least(a: usize, b: usize) -> usize
-    ensures { result ≡ min a b }
-{
-    if a < b {
-        return a;
-    }
-    b
-}
-
 // A mark at each place from..end.
 fn mark(marks: &mut [u8], from: usize, end: usize)
     requires { (from ≤ end) × (end ≤ length marks.old) }
     ensures { Marked (length marks.old) (within from end) marks.old marks.new }
 {
-    let mut b = from;
-    while b < end {
-        marks[b] = 1;
-        b += 1;
-    }
+    marks[from..end].fill(1);
 }
 
 // A mark at each place below the limit that an extent covers.
@@ -596,8 +558,8 @@ fn mark_extent(marks: &mut [u8], limit: usize, e: Extent)
             return;
         }
         Extent::Range { low, high } => {
-            let end = least(high as usize + 1, limit);
-            let from = least(low as usize, end);
+            let end = (high as usize + 1).min(limit);
+            let from = (low as usize).min(end);
             mark(marks, from, end);
             return;
         }
@@ -611,52 +573,51 @@ fn mark_sites(own: &[u32], name: u32, marks: &mut [u8], limit: usize)
     requires { (length own.now ≡ places) × (limit ≤ length marks.old) }
     ensures { Marked limit (site.covered (site.sites_of name (own_of own.now).sites)) marks.old marks.new }
 {
-    let n = site_count(own);
-    let mut i: usize = 0;
-    while i < n {
+    let n = rows_in(own, SITES);
+    for i in 0..n {
         let s = site_at(own, i);
-        if s.name != name {
-            i += 1;
-            continue;
+        if s.name == name {
+            mark_extent(marks, limit, s.extent);
         }
-        let e = s.extent;
-        mark_extent(marks, limit, e);
-        i += 1;
     }
 }
 
 // The first place below the limit that has no mark.
-fn first_unmarked(marks: &[u8], limit: usize) -> Found
+fn first_unmarked(marks: &[u8], limit: usize) -> Option<u32>
     requires { (limit ≤ length marks.now) × (limit ≤ 4096) }
     ensures { found_of result ≡ unmarked_from marks.now 0 limit }
 {
-    let mut b: usize = 0;
-    while b < limit {
+    for b in 0..limit {
         if marks[b] != 1 {
-            return Found::At(b as u32);
+            return Some(b as u32);
         }
-        b += 1;
     }
-    Found::Nothing
+    None
+}
+
+// The first bit below the limit that no site of the name covers; there are N marks.
+fn gap_below<const N: usize>(own: &[u32], name: u32, limit: usize) -> Option<u32>
+    requires { (length own.now ≡ places) × (limit ≤ N) × (N ≤ 4096) }
+    ensures { found_of result ≡ site.gap_from (site.sites_of name (own_of own.now).sites) 0 limit }
+{
+    let mut marks = [0u8; N];
+    mark_sites(own, name, &mut marks, limit);
+    first_unmarked(&marks, limit)
 }
 
 // The first of the lowest min(width, 4,096) bits that no site of the name covers. Few bits have few marks, which are sooner cleared.
-pub fn first_gap(own: &[u32], name: u32, width: u32) -> Found
+pub fn first_gap(own: &[u32], name: u32, width: u32) -> Option<u32>
     ensures result_value { length own.now ≡ places → found_of result ≡ site.first_gap (site.sites_of name (own_of own.now).sites) width }
-    ensures value { ¬ (length own.now ≡ places) → result ≡ found.Nothing }
+    ensures value { ¬ (length own.now ≡ places) → result ≡ None }
 {
     if own.len() != OWN {
-        return Found::Nothing;
+        return None;
     }
-    let limit = least(width as usize, 4096);
+    let limit = (width as usize).min(4096);
     if limit <= 64 {
-        let mut marks = [0u8; 64];
-        mark_sites(own, name, &mut marks, limit);
-        return first_unmarked(&marks, limit);
+        return gap_below::<64>(own, name, limit);
     }
-    let mut marks = [0u8; 4096];
-    mark_sites(own, name, &mut marks, limit);
-    first_unmarked(&marks, limit)
+    gap_below::<4096>(own, name, limit)
 }
 
 // Whether a conflict goes before another: by START, then by name.
@@ -678,15 +639,13 @@ fn conflict_place(own: &[u32], n: usize, start: u32, name: u32) -> usize
     ensures { (result ≤ n) × (run (conflict_row own.now) 0 result ++ (conflict_of start name ∷ run (conflict_row own.now) result (n - result))
         ≡ site.insert_conflict (conflict_of start name) (run (conflict_row own.now) 0 n)) }
 {
-    let mut i: usize = 0;
-    while i < n {
-        let at = CONFLICTS + 2 * i;
+    for i in 0..n {
+        let at = CONFLICTS.base + 2 * i;
         if conflict_earlier(start, name, own[at + 1], own[at]) {
             return i;
         }
-        i += 1;
     }
-    i
+    n
 }
 
 // One conflict more, in its place.
@@ -696,20 +655,19 @@ fn insert_conflict(own: &mut [u32], start: u32, name: u32)
         × (conflict_rows own.new ≡ site.insert_conflict (conflict_of start name) (conflict_rows own.old))
         × Behind own.old own.new }
 {
-    let n = count_at(own, 6, SITE_LIMIT);
-    let mut i = conflict_place(own, n, start, name);
+    let n = rows_in(own, CONFLICTS);
+    let place = conflict_place(own, n, start, name);
     let mut a = name;
     let mut s = start;
-    while i < n {
-        let at = CONFLICTS + 2 * i;
+    for i in place..n {
+        let at = CONFLICTS.base + 2 * i;
         let b = own[at];
         let t = own[at + 1];
-        put_row(own, at, 2, [a, s, 0, 0, 0]);
+        put_row(own, CONFLICTS, i, &[a, s]);
         a = b;
         s = t;
-        i += 1;
     }
-    push(own, 6, CONFLICTS, 2, SITE_LIMIT, [a, s, 0, 0, 0]);
+    let _ = push(own, CONFLICTS, &[a, s]);
 }
 
 // Whether a name has a misuse.
@@ -717,8 +675,8 @@ fn misused(own: &[u32], name: u32) -> bool
     requires { length own.now ≡ places }
     ensures { result ≡ has_name name (misuse_poison own.now) }
 {
-    let n = count_at(own, 5, NAMES);
-    has_row(own, MISUSES, 3, n, name)
+    let n = rows_in(own, MISUSES);
+    has_row(own, MISUSES, n, name)
 }
 
 // Whether a name has a conflict in the table.
@@ -726,8 +684,8 @@ fn conflicted(own: &[u32], name: u32) -> bool
     requires { length own.now ≡ places }
     ensures { result ≡ has_name name (row_names conflict_table own.now) }
 {
-    let n = count_at(own, 6, SITE_LIMIT);
-    has_row(own, CONFLICTS, 2, n, name)
+    let n = rows_in(own, CONFLICTS);
+    has_row(own, CONFLICTS, n, name)
 }
 
 // Whether a name is poisoned, by a misuse or a conflict.
@@ -749,10 +707,8 @@ fn seen_before(own: &[u32], k: usize, name: u32) -> bool
     requires { (length own.now ≡ places) × (k ≤ 1024) }
     ensures { result ≡ has_name name (skip_at (misuse_poison own.now) (site_row own.now) k) }
 {
-    let mut i = k;
-    while 0 < i {
-        i -= 1;
-        if own[SITES + 5 * i] == name {
+    for i in (0..k).rev() {
+        if own[SITES.base + 5 * i] == name {
             return true;
         }
     }
@@ -760,15 +716,15 @@ fn seen_before(own: &[u32], k: usize, name: u32) -> bool
 }
 
 // The START of the first later site of a name that meets an earlier one, by a run that has room for every site of the table.
-fn first_conflict(own: &[u32], name: u32) -> Found
+fn first_conflict(own: &[u32], name: u32) -> Option<u32>
     requires { length own.now ≡ places }
     ensures { found_of result ≡ site.first_conflict [] (site.sites_of name (own_of own.now).sites) }
 {
-    let n = site_count(own);
+    let n = rows_in(own, SITES);
     if n <= 64 {
-        return records::conflict_of_few(own, name);
+        return records::conflict_of_name::<64>(own, name);
     }
-    records::conflict_of_name(own, name)
+    records::conflict_of_name::<1024>(own, name)
 }
 
 // The conflict of the name of row k, where that row is the name's first. A name with one site has none, and no run is filled for it.
@@ -786,12 +742,8 @@ fn take_conflict(own: &mut [u32], k: usize)
     if SITE_LIMIT <= next_site(own, k + 1, name) {
         return;
     }
-    match first_conflict(own, name) {
-        Found::At(start) => {
-            insert_conflict(own, start, name);
-            return;
-        }
-        Found::Nothing => return,
+    if let Some(start) = first_conflict(own, name) {
+        insert_conflict(own, start, name);
     }
 }
 
@@ -806,11 +758,9 @@ pub fn find_conflicts(own: &mut [u32])
     if own.len() != OWN {
         return;
     }
-    own[6] = 0;
-    let n = site_count(own);
-    let mut k = n;
-    while 0 < k {
-        k -= 1;
+    own[CONFLICTS.count] = 0;
+    let n = rows_in(own, SITES);
+    for k in (0..n).rev() {
         take_conflict(own, k);
     }
 }
@@ -838,16 +788,43 @@ pub struct MisusedLine {
     pub kind: Misuse,
 }
 
+// How many rows a table has; none where the slice is of another length.
+fn count_of(own: &[u32], t: Table) -> usize
+    requires { t.count < places }
+    ensures value { length own.now ≡ places → result ≡ rows_in t own.now }
+    ensures value_2 { ¬ (length own.now ≡ places) → result ≡ 0 }
+    ensures upper_bound { result ≤ t.limit }
+{
+    if own.len() != OWN {
+        return 0;
+    }
+    rows_in(own, t)
+}
+
+// The name and START of row i of a table; zeros where there is no such row.
+fn line_at(own: &[u32], t: Table, i: usize) -> Line
+    requires { (t.base + t.width * t.limit ≤ places) × (1 < t.width) }
+    ensures result_value { length own.now ≡ places → i < t.limit → storage_of result ≡ storage_from (row t own.now i) }
+    ensures result_value_2 { ¬ (length own.now ≡ places) → storage_of result ≡ storage_from [] }
+    ensures result_value_3 { ¬ (i < t.limit) → storage_of result ≡ storage_from [] }
+{
+    if own.len() != OWN || t.limit <= i {
+        return Line { name: 0, start: 0 };
+    }
+    let at = t.base + t.width * i;
+    Line {
+        name: own[at],
+        start: own[at + 1],
+    }
+}
+
 // How many outputs there are.
 pub fn output_count(own: &[u32]) -> usize
     ensures value { length own.now ≡ places → result ≡ rows_in port_table own.now }
     ensures value_2 { ¬ (length own.now ≡ places) → result ≡ 0 }
     ensures upper_bound { result ≤ names }
 {
-    if own.len() != OWN {
-        return 0;
-    }
-    count_at(own, 2, NAMES)
+    count_of(own, OUTPUTS)
 }
 
 // How many registers there are.
@@ -856,10 +833,7 @@ pub fn reg_count(own: &[u32]) -> usize
     ensures value_2 { ¬ (length own.now ≡ places) → result ≡ 0 }
     ensures upper_bound { result ≤ names }
 {
-    if own.len() != OWN {
-        return 0;
-    }
-    count_at(own, 3, NAMES)
+    count_of(own, REGS)
 }
 
 // How many memories there are.
@@ -868,10 +842,7 @@ pub fn mem_count(own: &[u32]) -> usize
     ensures value_2 { ¬ (length own.now ≡ places) → result ≡ 0 }
     ensures upper_bound { result ≤ names }
 {
-    if own.len() != OWN {
-        return 0;
-    }
-    count_at(own, 4, NAMES)
+    count_of(own, MEMS)
 }
 
 // How many misused names there are.
@@ -880,10 +851,7 @@ pub fn misuse_count(own: &[u32]) -> usize
     ensures value_2 { ¬ (length own.now ≡ places) → result ≡ 0 }
     ensures upper_bound { result ≤ names }
 {
-    if own.len() != OWN {
-        return 0;
-    }
-    count_at(own, 5, NAMES)
+    count_of(own, MISUSES)
 }
 
 // How many conflicts there are.
@@ -892,10 +860,7 @@ pub fn conflict_count(own: &[u32]) -> usize
     ensures value_2 { ¬ (length own.now ≡ places) → result ≡ 0 }
     ensures upper_bound { result ≤ 1024 }
 {
-    if own.len() != OWN {
-        return 0;
-    }
-    count_at(own, 6, SITE_LIMIT)
+    count_of(own, CONFLICTS)
 }
 
 // The register in row i.
@@ -904,17 +869,7 @@ pub fn reg_at(own: &[u32], i: usize) -> Line
     ensures result_value_2 { ¬ (length own.now ≡ places) → storage_of result ≡ storage_from [] }
     ensures result_value_3 { ¬ (i < names) → storage_of result ≡ storage_from [] }
 {
-    if own.len() != OWN {
-        return Line { name: 0, start: 0 };
-    }
-    if NAMES <= i {
-        return Line { name: 0, start: 0 };
-    }
-    let at = REGS + 2 * i;
-    Line {
-        name: own[at],
-        start: own[at + 1],
-    }
+    line_at(own, REGS, i)
 }
 
 // The memory in row i.
@@ -923,17 +878,7 @@ pub fn mem_at(own: &[u32], i: usize) -> Line
     ensures result_value_2 { ¬ (length own.now ≡ places) → storage_of result ≡ storage_from [] }
     ensures result_value_3 { ¬ (i < names) → storage_of result ≡ storage_from [] }
 {
-    if own.len() != OWN {
-        return Line { name: 0, start: 0 };
-    }
-    if NAMES <= i {
-        return Line { name: 0, start: 0 };
-    }
-    let at = MEMS + 2 * i;
-    Line {
-        name: own[at],
-        start: own[at + 1],
-    }
+    line_at(own, MEMS, i)
 }
 
 // The conflict in row i.
@@ -942,17 +887,7 @@ pub fn conflict_at(own: &[u32], i: usize) -> Line
     ensures result_value_2 { ¬ (length own.now ≡ places) → storage_of result ≡ storage_from [] }
     ensures result_value_3 { ¬ (i < 1024) → storage_of result ≡ storage_from [] }
 {
-    if own.len() != OWN {
-        return Line { name: 0, start: 0 };
-    }
-    if SITE_LIMIT <= i {
-        return Line { name: 0, start: 0 };
-    }
-    let at = CONFLICTS + 2 * i;
-    Line {
-        name: own[at],
-        start: own[at + 1],
-    }
+    line_at(own, CONFLICTS, i)
 }
 
 // The output in row i.
@@ -961,7 +896,7 @@ pub fn output_at(own: &[u32], i: usize) -> OutputLine
     ensures result_value_2 { ¬ (length own.now ≡ places) → port_of result ≡ port_from [] }
     ensures result_value_3 { ¬ (i < names) → port_of result ≡ port_from [] }
 {
-    if own.len() != OWN {
+    if own.len() != OWN || NAMES <= i {
         return OutputLine {
             name: 0,
             start: 0,
@@ -969,15 +904,7 @@ pub fn output_at(own: &[u32], i: usize) -> OutputLine
             to: 0,
         };
     }
-    if NAMES <= i {
-        return OutputLine {
-            name: 0,
-            start: 0,
-            from: 0,
-            to: 0,
-        };
-    }
-    let at = OUTPUTS + 4 * i;
+    let at = OUTPUTS.base + 4 * i;
     OutputLine {
         name: own[at],
         start: own[at + 1],
@@ -1007,21 +934,14 @@ pub fn misuse_at(own: &[u32], i: usize) -> MisusedLine
     ensures result_value_2 { ¬ (length own.now ≡ places) → misused_of result ≡ misused_from [] }
     ensures result_value_3 { ¬ (i < names) → misused_of result ≡ misused_from [] }
 {
-    if own.len() != OWN {
+    if own.len() != OWN || NAMES <= i {
         return MisusedLine {
             name: 0,
             start: 0,
             kind: Misuse::Wire,
         };
     }
-    if NAMES <= i {
-        return MisusedLine {
-            name: 0,
-            start: 0,
-            kind: Misuse::Wire,
-        };
-    }
-    let at = MISUSES + 3 * i;
+    let at = MISUSES.base + 3 * i;
     let kind = misuse_from(own[at + 2]);
     MisusedLine {
         name: own[at],

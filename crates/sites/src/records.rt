@@ -1,10 +1,10 @@
 // A lent run of records, each a drive site in numbers: a site is stored among them, and the first conflict of a name is found.
-ghost use Rattle.std.specs.Prelude.{◌≡◌, [], length, set, ltb};
+ghost use Rattle.std.specs.Prelude.{◌≡◌, ◌≤◌, [], length, set, ltb};
 ghost use Rattle.spec.specs.Site as site;
 ghost use Rattle.sites.specs.Own.{extent_of, site_of, found_of};
 ghost use Rattle.sites.specs.Run.{extent_in, site_in, sites_in, record_of, StoredBy, NameConflict};
 
-use crate::{Extent, Found, Site, Stored};
+use crate::{Extent, Full, Site};
 
 // A site in numbers. The code is 0 for Whole, 1 for Range, 2 for Dynamic; every other is Unknown.
 #[derive(Clone, Copy)]
@@ -73,7 +73,7 @@ fn clash(earlier: Record, later: Site) -> bool
 }
 
 // The record of the site stands at i afterwards, and every other stays. Past the end there is no room, and all stay.
-pub(crate) fn store_site(records: &mut [Record], i: usize, s: Site) -> Stored
+pub(crate) fn store_site(records: &mut [Record], i: usize, s: Site) -> Result<(), Full>
     ensures { (records.new ≡ set records.old i (record_of s))
         × (sites_in records.new ≡ set (sites_in records.old) i (site_of s))
         × StoredBy (ltb i (length records.old)) result }
@@ -81,36 +81,31 @@ pub(crate) fn store_site(records: &mut [Record], i: usize, s: Site) -> Stored
     let r = record_of(s);
     if i < records.len() {
         records[i] = r;
-        return Stored::Done;
+        return Ok(());
     }
-    Stored::Full
+    Err(Full)
 }
 
 // The START of the first later record that meets an earlier one, in a run of one name's sites.
-pub(crate) fn first_conflict(records: &[Record]) -> Found
+pub(crate) fn first_conflict(records: &[Record]) -> Option<u32>
     ensures { found_of result ≡ site.first_conflict [] (sites_in records.now) }
 {
-    let mut found = Found::Nothing;
-    let mut later: usize = 0;
-    'search: while later < records.len() {
+    for later in 0..records.len() {
         let s = site_of(records[later]);
-        let mut earlier = later;
-        while 0 < earlier {
-            earlier -= 1;
+        for earlier in (0..later).rev() {
             if clash(records[earlier], s) {
-                found = Found::At(s.start);
-                break 'search;
+                return Some(s.start);
             }
         }
-        later += 1;
     }
-    found
+    None
 }
 
-// The START of the first later site of a name that meets an earlier one, in a table of at most 1,024 sites, which every table is: the name's
-// sites are stored in a run of records, in order, and the search goes over those. Of a table of another length it finds nothing.
-pub(crate) fn conflict_of_name(own: &[u32], name: u32) -> Found
-    ensures { NameConflict 1024 name own.now result }
+// The START of the first later site of a name that meets an earlier one, in a table of at most N sites: the name's sites are stored in a run of
+// N records, in order, and the search goes over those. Few records are sooner cleared. Of a slice of another length it finds nothing.
+pub(crate) fn conflict_of_name<const N: usize>(own: &[u32], name: u32) -> Option<u32>
+    requires { N ≤ 1024 }
+    ensures { NameConflict N name own.now result }
 {
     let mut records = [Record {
         name: 0,
@@ -118,34 +113,12 @@ pub(crate) fn conflict_of_name(own: &[u32], name: u32) -> Found
         low: 0,
         high: 0,
         start: 0,
-    }; 1024];
+    }; N];
     let mut k: usize = 0;
     let mut i = crate::next_site(own, 0, name);
-    while i < 1024 {
+    while i < N {
         let s = crate::listed(own, i);
-        store_site(&mut records, k, s);
-        i = crate::next_site(own, i + 1, name);
-        k += 1;
-    }
-    first_conflict(&records[..k])
-}
-
-// The same in a table of at most 64 sites; no later row is looked at. Fewer records are sooner cleared.
-pub(crate) fn conflict_of_few(own: &[u32], name: u32) -> Found
-    ensures { NameConflict 64 name own.now result }
-{
-    let mut records = [Record {
-        name: 0,
-        code: 0,
-        low: 0,
-        high: 0,
-        start: 0,
-    }; 64];
-    let mut k: usize = 0;
-    let mut i = crate::next_site(own, 0, name);
-    while i < 64 {
-        let s = crate::listed(own, i);
-        store_site(&mut records, k, s);
+        let _ = store_site(&mut records, k, s);
         i = crate::next_site(own, i + 1, name);
         k += 1;
     }

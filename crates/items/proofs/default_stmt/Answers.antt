@@ -15,20 +15,20 @@ returns-then-byte-ne4-clause-own_len_unchanged c = refl
 pub returns-then-byte-ne4-clause-own_leaves : goal.returns-then-byte-ne4-clause-own_leaves
 returns-then-byte-ne4-clause-own_leaves c = default_none c.args.s.now c.args.block c.args.kinds.now c.args.own.now c.part_end.ensures c.number-n.ensures c.byte.ensures c.if-byte-ne4.true
 
-pub returns-in-Done-clause-default_after : goal.returns-in-Done-clause-default_after
-returns-in-Done-clause-default_after c = default_done c.args.s.now c.args.block c.args.kinds.now c.args.own.now c.part_end.ensures (number_means _ _ _ c.number-n.ensures) c.byte.ensures c.if-byte-ne4.false _ c.add_pair.ensures.own_len_unchanged c.add_pair.result c.add_pair.ensures.own_after c.in-Done.is
+pub returns-in-Ok-clause-default_after : goal.returns-in-Ok-clause-default_after
+returns-in-Ok-clause-default_after c = default_done c.args.s.now c.args.block c.args.kinds.now c.args.own.now c.part_end.ensures (number_means _ _ _ c.number-n.ensures) c.byte.ensures c.if-byte-ne4.false _ c.add_pair.ensures.own_len_unchanged c.add_pair.result c.add_pair.ensures.own_after c.in-Ok.is
 
-pub returns-in-Done-clause-own_len_unchanged : goal.returns-in-Done-clause-own_len_unchanged
-returns-in-Done-clause-own_len_unchanged c = c.add_pair.ensures.own_len_unchanged
+pub returns-in-Ok-clause-own_len_unchanged : goal.returns-in-Ok-clause-own_len_unchanged
+returns-in-Ok-clause-own_len_unchanged c = c.add_pair.ensures.own_len_unchanged
 
-pub returns-in-Done-clause-own_leaves : goal.returns-in-Done-clause-own_leaves
-returns-in-Done-clause-own_leaves c = default_stored c.args.s.now c.args.block c.args.kinds.now c.args.own.now c.part_end.ensures c.number-n.ensures c.byte.ensures c.if-byte-ne4.false c.add_pair.result _ c.add_pair.ensures.own_after_2 c.in-Done.is
+pub returns-in-Ok-clause-own_leaves : goal.returns-in-Ok-clause-own_leaves
+returns-in-Ok-clause-own_leaves c = default_stored c.args.s.now c.args.block c.args.kinds.now c.args.own.now c.part_end.ensures c.number-n.ensures c.byte.ensures c.if-byte-ne4.false c.add_pair.result _ c.add_pair.ensures.own_after_2 c.in-Ok.is
 
-pub returns-in-Full-clause-default_after : goal.returns-in-Full-clause-default_after
-returns-in-Full-clause-default_after c = default_full c.args.s.now c.args.block c.args.kinds.now c.args.own.now c.part_end.ensures (number_means _ _ _ c.number-n.ensures) c.byte.ensures c.if-byte-ne4.false c.add_pair.new.own c.add_pair.ensures.own_len_unchanged c.add_pair.result c.add_pair.ensures.own_after c.in-Full.is
+pub returns-in-Err-clause-default_after : goal.returns-in-Err-clause-default_after
+returns-in-Err-clause-default_after c = default_full c.args.s.now c.args.block c.args.kinds.now c.args.own.now c.part_end.ensures (number_means _ _ _ c.number-n.ensures) c.byte.ensures c.if-byte-ne4.false c.add_pair.new.own c.add_pair.ensures.own_len_unchanged c.add_pair.result c.add_pair.ensures.own_after c.in-Err.is
 
-pub returns-in-Full-clause-own_len_unchanged : goal.returns-in-Full-clause-own_len_unchanged
-returns-in-Full-clause-own_len_unchanged c = c.clear.auto.own ∙ c.add_pair.ensures.own_len_unchanged
+pub returns-in-Err-clause-own_len_unchanged : goal.returns-in-Err-clause-own_len_unchanged
+returns-in-Err-clause-own_len_unchanged c = c.clear.auto.own ∙ c.add_pair.ensures.own_len_unchanged
 
-pub returns-in-Full-clause-own_leaves : goal.returns-in-Full-clause-own_leaves
-returns-in-Full-clause-own_leaves c = default_refused c.args.s.now c.args.block c.args.kinds.now c.args.own.now c.part_end.ensures c.number-n.ensures c.byte.ensures c.if-byte-ne4.false c.add_pair.result _ c.add_pair.ensures.own_after_2 c.in-Full.is _ (cleared_of (length c.add_pair.new.own) _ c.clear.ensures)
+pub returns-in-Err-clause-own_leaves : goal.returns-in-Err-clause-own_leaves
+returns-in-Err-clause-own_leaves c = default_refused c.args.s.now c.args.block c.args.kinds.now c.args.own.now c.part_end.ensures c.number-n.ensures c.byte.ensures c.if-byte-ne4.false c.add_pair.result _ c.add_pair.ensures.own_after_2 c.in-Err.is _ (cleared_of (length c.add_pair.new.own) _ c.clear.ensures)

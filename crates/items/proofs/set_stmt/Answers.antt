@@ -33,20 +33,20 @@ returns-then-k-gt5-clause-own_len_unchanged c = refl
 pub returns-then-k-gt5-clause-own_leaves : goal.returns-then-k-gt5-clause-own_leaves
 returns-then-k-gt5-clause-own_leaves c = set_none c.args.s.now c.args.block c.args.kinds.now c.args.own.now c.named_at-l.result c.named_at-l.ensures c.byte-k.ensures (high_drives _ c.if-k-gt5.true)
 
-pub returns-in-Done-clause-set_after : goal.returns-in-Done-clause-set_after
-returns-in-Done-clause-set_after c = set_done c.args.s.now c.args.block c.args.kinds.now c.args.own.now c.named_at-l.result (named_means _ _ c.named_at-l.ensures) c.byte-k.ensures _ c.add_pair.ensures.own_len_unchanged c.add_pair.result c.add_pair.ensures.own_after c.if-k-lt4.false c.if-k-gt5.false c.in-Done.is
+pub returns-in-Ok-clause-set_after : goal.returns-in-Ok-clause-set_after
+returns-in-Ok-clause-set_after c = set_done c.args.s.now c.args.block c.args.kinds.now c.args.own.now c.named_at-l.result (named_means _ _ c.named_at-l.ensures) c.byte-k.ensures _ c.add_pair.ensures.own_len_unchanged c.add_pair.result c.add_pair.ensures.own_after c.if-k-lt4.false c.if-k-gt5.false c.in-Ok.is
 
-pub returns-in-Done-clause-own_len_unchanged : goal.returns-in-Done-clause-own_len_unchanged
-returns-in-Done-clause-own_len_unchanged c = c.add_pair.ensures.own_len_unchanged
+pub returns-in-Ok-clause-own_len_unchanged : goal.returns-in-Ok-clause-own_len_unchanged
+returns-in-Ok-clause-own_len_unchanged c = c.add_pair.ensures.own_len_unchanged
 
-pub returns-in-Done-clause-own_leaves : goal.returns-in-Done-clause-own_leaves
-returns-in-Done-clause-own_leaves c = set_stored c.args.s.now c.args.block c.args.kinds.now c.args.own.now c.named_at-l.result c.named_at-l.ensures c.byte-k.ensures c.if-k-lt4.false c.if-k-gt5.false c.add_pair.result _ c.add_pair.ensures.own_after_2 c.in-Done.is
+pub returns-in-Ok-clause-own_leaves : goal.returns-in-Ok-clause-own_leaves
+returns-in-Ok-clause-own_leaves c = set_stored c.args.s.now c.args.block c.args.kinds.now c.args.own.now c.named_at-l.result c.named_at-l.ensures c.byte-k.ensures c.if-k-lt4.false c.if-k-gt5.false c.add_pair.result _ c.add_pair.ensures.own_after_2 c.in-Ok.is
 
-pub returns-in-Full-clause-set_after : goal.returns-in-Full-clause-set_after
-returns-in-Full-clause-set_after c = set_full c.args.s.now c.args.block c.args.kinds.now c.args.own.now c.named_at-l.result (named_means _ _ c.named_at-l.ensures) c.byte-k.ensures c.add_pair.new.own c.add_pair.ensures.own_len_unchanged c.add_pair.result c.add_pair.ensures.own_after c.if-k-lt4.false c.if-k-gt5.false c.in-Full.is
+pub returns-in-Err-clause-set_after : goal.returns-in-Err-clause-set_after
+returns-in-Err-clause-set_after c = set_full c.args.s.now c.args.block c.args.kinds.now c.args.own.now c.named_at-l.result (named_means _ _ c.named_at-l.ensures) c.byte-k.ensures c.add_pair.new.own c.add_pair.ensures.own_len_unchanged c.add_pair.result c.add_pair.ensures.own_after c.if-k-lt4.false c.if-k-gt5.false c.in-Err.is
 
-pub returns-in-Full-clause-own_len_unchanged : goal.returns-in-Full-clause-own_len_unchanged
-returns-in-Full-clause-own_len_unchanged c = c.clear.auto.own ∙ c.add_pair.ensures.own_len_unchanged
+pub returns-in-Err-clause-own_len_unchanged : goal.returns-in-Err-clause-own_len_unchanged
+returns-in-Err-clause-own_len_unchanged c = c.clear.auto.own ∙ c.add_pair.ensures.own_len_unchanged
 
-pub returns-in-Full-clause-own_leaves : goal.returns-in-Full-clause-own_leaves
-returns-in-Full-clause-own_leaves c = set_refused c.args.s.now c.args.block c.args.kinds.now c.args.own.now c.named_at-l.result c.named_at-l.ensures c.byte-k.ensures c.if-k-lt4.false c.if-k-gt5.false c.add_pair.result _ c.add_pair.ensures.own_after_2 c.in-Full.is _ (cleared_of (length c.add_pair.new.own) _ c.clear.ensures)
+pub returns-in-Err-clause-own_leaves : goal.returns-in-Err-clause-own_leaves
+returns-in-Err-clause-own_leaves c = set_refused c.args.s.now c.args.block c.args.kinds.now c.args.own.now c.named_at-l.result c.named_at-l.ensures c.byte-k.ensures c.if-k-lt4.false c.if-k-gt5.false c.add_pair.result _ c.add_pair.ensures.own_after_2 c.in-Err.is _ (cleared_of (length c.add_pair.new.own) _ c.clear.ensures)

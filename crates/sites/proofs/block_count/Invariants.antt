@@ -6,7 +6,4 @@ use Rattle.sites.proofs.Coverage.{pair_at}
 use Rattle.sites.proofs.block_count.Given as goal
 
 abbrev pub invariant-loop-i : goal.invariant-loop-i
-invariant-loop-i l = (l.i ≤ l.n) × (l.k ≤ l.i) × (l.k + block_count l.name (run (pair_at l.own l.name) l.i (l.n - l.i)) ≡ block_count l.name (own_of l.own).pairs)
-
-abbrev pub decreases-loop-i : goal.decreases-loop-i
-decreases-loop-i l = l.n - l.i
+invariant-loop-i l = (l.k ≤ l.i) × (l.k + block_count l.name (run (pair_at l.own l.name) l.i (l.n - l.i)) ≡ block_count l.name (own_of l.own).pairs)

@@ -4,8 +4,8 @@ use lib.ListN.{get_or}
 use Rattle.sites.specs.Own.{run}
 use Rattle.spec.specs.Refusal.{has_name}
 use Rattle.sites.specs.Own.{conflict_table}
-use Rattle.sites.proofs.Rows.{count_is, names_are}
+use Rattle.sites.proofs.Rows.{names_are}
 use Rattle.sites.proofs.conflicted.Goals as goal
 
 pub returns : goal.returns
-returns c = c.has_row.ensures ∙ ap (λ (k : ℕ). has_name c.args.name (run (λ (i : ℕ). get_or c.args.own.now (conflict_table.base + 2 * i) 0) 0 k)) (c.count_at-n.ensures ∙ count_is conflict_table c.args.own.now) ∙ ap (has_name c.args.name) (names_are conflict_table c.args.own.now)
+returns c = c.has_row.ensures ∙ ap (λ (k : ℕ). has_name c.args.name (run (λ (i : ℕ). get_or c.args.own.now (conflict_table.base + 2 * i) 0) 0 k)) c.rows_in-n.ensures.0 ∙ ap (has_name c.args.name) (names_are conflict_table c.args.own.now)

@@ -17,36 +17,27 @@ returns-then-own-ne-OWN-clause-value c = λ h. absurd (c.if-own-ne-OWN.true h)
 pub returns-then-own-ne-OWN-clause-value_2 : goal.returns-then-own-ne-OWN-clause-value_2
 returns-then-own-ne-OWN-clause-value_2 c = λ _. refl
 
-pub site_count-n-requires : goal.site_count-n-requires
-site_count-n-requires c = c.if-own-ne-OWN.false
-
 pub loop-i-init : goal.loop-i-init
 unfolding own_of
-loop-i-init c = (omega arith, ap (λ (l : List site.Site). cover_by (site.sites_of c.args.name l)) (run_all (λ (j : ℕ). site_from (row site_table c.args.own.now j)) c.site_count-n.result) ∙ ap (λ (k : ℕ). cover_by (site.sites_of c.args.name (run (λ (j : ℕ). site_from (row site_table c.args.own.now j)) 0 k))) c.site_count-n.ensures.0)
+loop-i-init c = ap (λ (l : List site.Site). cover_by (site.sites_of c.args.name l)) (run_all (λ (j : ℕ). site_from (row site_table c.args.own.now j)) c.rows_in-n.result) ∙ ap (λ (k : ℕ). cover_by (site.sites_of c.args.name (run (λ (j : ℕ). site_from (row site_table c.args.own.now j)) 0 k))) c.rows_in-n.ensures.0
 
 pub site_at-s-requires : goal.site_at-s-requires
-site_at-s-requires c = omega (arith, c.if-own-ne-OWN.false, c.site_count-n.ensures, c.loop-i-test.true)
-
-pub loop-i-smaller-then-s-name : goal.loop-i-smaller-then-s-name
-loop-i-smaller-then-s-name c = omega arith
+site_at-s-requires c = omega (arith, c.if-own-ne-OWN.false, c.rows_in-n.ensures, c.loop-i-test.true)
 
 pub loop-i-preserved-then-s-name : goal.loop-i-preserved-then-s-name
-loop-i-preserved-then-s-name c = (omega arith, cover_skip c.args.name (λ (j : ℕ). site_from (row site_table c.args.own.now j)) c.loop-i.seen c.loop-i.i c.site_count-n.result c.loop-i-test.true (λ e. c.if-s-name.true (ap (λ (t : site.Site). t.name) c.site_at-s.ensures ∙ e)) ∙ c.loop-i.invariant.1)
+loop-i-preserved-then-s-name c = cover_skip c.args.name (λ (j : ℕ). site_from (row site_table c.args.own.now j)) c.loop-i.seen c.loop-i.i c.rows_in-n.result c.loop-i-test.true (λ e. c.if-s-name.true (ap (λ (t : site.Site). t.name) c.site_at-s.ensures ∙ e)) ∙ c.loop-i.invariant
 
 pub returns-then-not-is_range : goal.returns-then-not-is_range
 returns-then-not-is_range c =
-    record { value = λ _. cover_open c.args.name (λ (j : ℕ). site_from (row site_table c.args.own.now j)) c.loop-i.seen c.loop-i.i c.site_count-n.result c.loop-i-test.true (ap (λ (t : site.Site). t.name) (sym c.site_at-s.ensures) ∙ c.if-s-name.false) (ap (λ (t : site.Site). range_test t.extent) (sym c.site_at-s.ensures) ∙ sym c.is_range.ensures ∙ c.if-not-is_range.true) ∙ c.loop-i.invariant.1; value_2 = λ n. absurd (n c.if-own-ne-OWN.false) }
-
-pub loop-i-smaller : goal.loop-i-smaller
-loop-i-smaller c = omega arith
+    record { value = λ _. cover_open c.args.name (λ (j : ℕ). site_from (row site_table c.args.own.now j)) c.loop-i.seen c.loop-i.i c.rows_in-n.result c.loop-i-test.true (ap (λ (t : site.Site). t.name) (sym c.site_at-s.ensures) ∙ c.if-s-name.false) (ap (λ (t : site.Site). range_test t.extent) (sym c.site_at-s.ensures) ∙ sym c.is_range.ensures ∙ c.if-not-is_range.true) ∙ c.loop-i.invariant; value_2 = λ n. absurd (n c.if-own-ne-OWN.false) }
 
 pub loop-i-preserved : goal.loop-i-preserved
-loop-i-preserved c = (omega arith, cover_more c.args.name (λ (j : ℕ). site_from (row site_table c.args.own.now j)) c.loop-i.seen c.loop-i.i c.site_count-n.result c.loop-i-test.true (ap (λ (t : site.Site). t.name) (sym c.site_at-s.ensures) ∙ c.if-s-name.false) (ap (λ (t : site.Site). range_test t.extent) (sym c.site_at-s.ensures) ∙ sym c.is_range.ensures ∙ c.if-not-is_range.false) ∙ c.loop-i.invariant.1)
+loop-i-preserved c = cover_more c.args.name (λ (j : ℕ). site_from (row site_table c.args.own.now j)) c.loop-i.seen c.loop-i.i c.rows_in-n.result c.loop-i-test.true (ap (λ (t : site.Site). t.name) (sym c.site_at-s.ensures) ∙ c.if-s-name.false) (ap (λ (t : site.Site). range_test t.extent) (sym c.site_at-s.ensures) ∙ sym c.is_range.ensures ∙ c.if-not-is_range.false) ∙ c.loop-i.invariant
 
 pub returns-then-seen : goal.returns-then-seen
 returns-then-seen c =
-    record { value = λ _. sym ranges_none ∙ ap (λ (b : Bool). cover_from b []) (sym c.if-seen.true) ∙ cover_end c.args.name (λ (j : ℕ). site_from (row site_table c.args.own.now j)) c.loop-i.seen c.loop-i.i c.site_count-n.result c.loop-i-test.false ∙ c.loop-i.invariant.1; value_2 = λ n. absurd (n c.if-own-ne-OWN.false) }
+    record { value = λ _. sym ranges_none ∙ ap (λ (b : Bool). cover_from b []) (sym c.if-seen.true) ∙ cover_end c.args.name (λ (j : ℕ). site_from (row site_table c.args.own.now j)) c.loop-i.seen c.loop-i.i c.rows_in-n.result c.loop-i-test.false ∙ c.loop-i.invariant; value_2 = λ n. absurd (n c.if-own-ne-OWN.false) }
 
 pub returns : goal.returns
 returns c =
-    record { value = λ _. ap (λ (b : Bool). cover_from b []) (sym c.if-seen.false) ∙ cover_end c.args.name (λ (j : ℕ). site_from (row site_table c.args.own.now j)) c.loop-i.seen c.loop-i.i c.site_count-n.result c.loop-i-test.false ∙ c.loop-i.invariant.1; value_2 = λ n. absurd (n c.if-own-ne-OWN.false) }
+    record { value = λ _. ap (λ (b : Bool). cover_from b []) (sym c.if-seen.false) ∙ cover_end c.args.name (λ (j : ℕ). site_from (row site_table c.args.own.now j)) c.loop-i.seen c.loop-i.i c.rows_in-n.result c.loop-i-test.false ∙ c.loop-i.invariant; value_2 = λ n. absurd (n c.if-own-ne-OWN.false) }

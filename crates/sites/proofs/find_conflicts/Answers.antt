@@ -22,37 +22,33 @@ returns-then-own-ne-OWN-clause-own_len_unchanged c = refl
 pub returns-then-own-ne-OWN-clause-own_after_2 : goal.returns-then-own-ne-OWN-clause-own_after_2
 returns-then-own-ne-OWN-clause-own_after_2 c = found_none c.args.own.now c.if-own-ne-OWN.true
 
-pub site_count-n-requires : goal.site_count-n-requires
-site_count-n-requires c = simp length-set c.if-own-ne-OWN.false
-
 pub loop-k-init : goal.loop-k-init
-loop-k-init c = (omega arith, front_same (set c.args.own.now 6 0), start_rows c.args.own.now (skip_at (misuse_poison (set c.args.own.now 6 0)) (site_row (set c.args.own.now 6 0)) c.site_count-n.result) (items site_from site_table (set c.args.own.now 6 0)) (site_row (set c.args.own.now 6 0)) c.site_count-n.result (omega (arith, c.if-own-ne-OWN.false)), behind_start c.args.own.now (omega (arith, c.if-own-ne-OWN.false)))
+loop-k-init c = (front_same (set c.args.own.now 6 0), start_rows c.args.own.now (skip_at (misuse_poison (set c.args.own.now 6 0)) (site_row (set c.args.own.now 6 0)) c.rows_in-n.result) (items site_from site_table (set c.args.own.now 6 0)) (site_row (set c.args.own.now 6 0)) c.rows_in-n.result (omega (arith, c.if-own-ne-OWN.false)), behind_start c.args.own.now (omega (arith, c.if-own-ne-OWN.false)))
 
 pub take_conflict-requires : goal.take_conflict-requires
-take_conflict-requires c = let few = rows_few c.loop-k.own _ _ _ _ _ c.loop-k.invariant.2 in
-    omega (arith, c.if-own-ne-OWN.false, c.site_count-n.ensures, c.loop-k.invariant.1.size, c.loop-k.invariant.0, c.loop-k-test.true, length-set c.args.own.now 6 0, few)
+take_conflict-requires c = let few = rows_few c.loop-k.own _ _ _ _ _ c.loop-k.invariant.1 in
+    omega (arith, c.if-own-ne-OWN.false, c.rows_in-n.ensures, c.loop-k.invariant.0.size, c.loop-k.invariant.0, c.loop-k-test.true, length-set c.args.own.now 6 0, few)
 
 pub loop-k-preserved : goal.loop-k-preserved
-loop-k-preserved c = let h : c.loop-k.k - 1 < c.site_count-n.result = omega (arith, c.loop-k.invariant.0, c.loop-k-test.true) in
+loop-k-preserved c = let h : c.loop-k.k - 1 < c.rows_in-n.result = omega (arith, c.loop-k.invariant.0, c.loop-k-test.true) in
     let z : c.loop-k.k ≡ c.loop-k.k - 1 + 1 = omega (arith, c.loop-k-test.true) in (
-      omega (arith, c.loop-k.invariant.0),
-      front_then c.loop-k.invariant.1 c.take_conflict.ensures.0,
-      c.take_conflict.ensures.1 ∙ step_front (set c.args.own.now 6 0) c.loop-k.own c.loop-k.invariant.1 (c.loop-k.k - 1) (omega (arith, c.site_count-n.ensures, c.loop-k.invariant.0, c.loop-k-test.true)) (conflict_rows c.loop-k.own)
-          ∙ ap (conflict_step (set c.args.own.now 6 0) (c.loop-k.k - 1)) (c.loop-k.invariant.2 ∙ ap (λ (j : ℕ). site.conflicts (skip_at (misuse_poison (set c.args.own.now 6 0)) (site_row (set c.args.own.now 6 0)) j) (items site_from site_table (set c.args.own.now 6 0)) (run (site_row (set c.args.own.now 6 0)) j (c.site_count-n.result - j))) z)
-          ∙ conflicts_step (set c.args.own.now 6 0) c.site_count-n.result (c.loop-k.k - 1) h,
-      behind_then (rows_in conflict_table c.loop-k.own) c.loop-k.invariant.3.at (rows_more c.loop-k.own _ (c.loop-k.k - 1) c.take_conflict.ensures.1) c.take_conflict.ensures.2,
+      front_then c.loop-k.invariant.0 c.take_conflict.ensures.0,
+      c.take_conflict.ensures.1 ∙ step_front (set c.args.own.now 6 0) c.loop-k.own c.loop-k.invariant.0 (c.loop-k.k - 1) (omega (arith, c.rows_in-n.ensures, c.loop-k.invariant.0, c.loop-k-test.true)) (conflict_rows c.loop-k.own)
+          ∙ ap (conflict_step (set c.args.own.now 6 0) (c.loop-k.k - 1)) (c.loop-k.invariant.1 ∙ ap (λ (j : ℕ). site.conflicts (skip_at (misuse_poison (set c.args.own.now 6 0)) (site_row (set c.args.own.now 6 0)) j) (items site_from site_table (set c.args.own.now 6 0)) (run (site_row (set c.args.own.now 6 0)) j (c.rows_in-n.result - j))) z)
+          ∙ conflicts_step (set c.args.own.now 6 0) c.rows_in-n.result (c.loop-k.k - 1) h,
+      behind_then (rows_in conflict_table c.loop-k.own) c.loop-k.invariant.2.at (rows_more c.loop-k.own _ (c.loop-k.k - 1) c.take_conflict.ensures.1) c.take_conflict.ensures.2,
     )
 
 pub returns : goal.returns
 unfolding own_of
 returns c =
     let p = front_count c.args.own.now 0 in
-    let q = front_then p c.loop-k.invariant.1 in
+    let q = front_then p c.loop-k.invariant.0 in
     let len = c.if-own-ne-OWN.false in
-    let rows = c.loop-k.invariant.2 ∙ final_rows c.args.own.now (set c.args.own.now 6 0) p c.site_count-n.result c.loop-k.k c.site_count-n.ensures.0 (omega arith) in
-    let behind = behind_then 0 (λ j h. behind_count c.args.own.now 0 j 0 h) (omega arith) c.loop-k.invariant.3 in record {
+    let rows = c.loop-k.invariant.1 ∙ final_rows c.args.own.now (set c.args.own.now 6 0) p c.rows_in-n.result c.loop-k.k c.rows_in-n.ensures.0 (omega arith) in
+    let behind = behind_then 0 (λ j h. behind_count c.args.own.now 0 j 0 h) (omega arith) c.loop-k.invariant.2 in record {
       own_after = λ _. front_own c.args.own.now c.loop-k.own q ∙ ap (λ (cs : List site.Conflict). with_conflicts cs (own_of c.args.own.now)) rows;
       front = (q, λ n. absurd (n len));
-      own_len_unchanged = c.loop-k.invariant.1.size ∙ simp length-set;
+      own_len_unchanged = c.loop-k.invariant.0.size ∙ simp length-set;
       own_after_2 = found_are c.args.own.now c.loop-k.own (conflict_rows c.loop-k.own) len q behind refl rows;
     }

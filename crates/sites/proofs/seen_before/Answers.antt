@@ -8,22 +8,19 @@ use Rattle.sites.proofs.Conflicts.{skip_hit, skip_miss, skip_end}
 use Rattle.sites.proofs.seen_before.Goals as goal
 
 pub loop-i-init : goal.loop-i-init
-loop-i-init c = (omega arith, refl)
+loop-i-init c = refl
 
 pub bounds-own-i : goal.bounds-own-i
 bounds-own-i c = omega (arith, c.requires)
 
 pub returns-then-own-i : goal.returns-then-own-i
-returns-then-own-i c = sym (skip_hit (misuse_poison c.args.own.now) (site_row c.args.own.now) c.args.name c.loop-i.i c.loop-i-test.true (row_name site_table c.args.own.now (c.loop-i.i - 1) (omega arith) ∙ c.if-own-i.true)) ∙ c.loop-i.invariant.1
-
-pub loop-i-smaller : goal.loop-i-smaller
-loop-i-smaller c = omega (arith, c.requires)
+returns-then-own-i c = sym (skip_hit (misuse_poison c.args.own.now) (site_row c.args.own.now) c.args.name c.loop-i.i c.loop-i-test.true (row_name site_table c.args.own.now (c.loop-i.i - 1) (omega arith) ∙ c.if-own-i.true)) ∙ c.loop-i.invariant
 
 pub loop-i-preserved : goal.loop-i-preserved
-loop-i-preserved c = (omega (arith, c.loop-i.invariant.0), skip_miss (misuse_poison c.args.own.now) (site_row c.args.own.now) c.args.name c.loop-i.i c.loop-i-test.true (λ e. c.if-own-i.false (sym (row_name site_table c.args.own.now (c.loop-i.i - 1) (omega arith)) ∙ e)) ∙ c.loop-i.invariant.1)
+loop-i-preserved c = skip_miss (misuse_poison c.args.own.now) (site_row c.args.own.now) c.args.name c.loop-i.i c.loop-i-test.true (λ e. c.if-own-i.false (sym (row_name site_table c.args.own.now (c.loop-i.i - 1) (omega arith)) ∙ e)) ∙ c.loop-i.invariant
 
 pub misused-requires : goal.misused-requires
 misused-requires c = c.requires.0
 
 pub returns : goal.returns
-returns c = c.misused.ensures ∙ skip_end (misuse_poison c.args.own.now) (site_row c.args.own.now) c.args.name c.loop-i.i (omega (arith, c.loop-i-test.false)) ∙ c.loop-i.invariant.1
+returns c = c.misused.ensures ∙ skip_end (misuse_poison c.args.own.now) (site_row c.args.own.now) c.args.name c.loop-i.i (omega (arith, c.loop-i-test.false)) ∙ c.loop-i.invariant

@@ -25,15 +25,15 @@ returns-then-next_site-ge-SITE_LIMIT c = (front_same c.args.own.now, alone c.sit
 pub insert_conflict-requires : goal.insert_conflict-requires
 insert_conflict-requires c = (c.requires.0, c.requires.2)
 
-pub returns-in-At : goal.returns-in-At
+pub returns-in-Some : goal.returns-in-Some
 unfolding own_of
-returns-in-At c = (
+returns-in-Some c = (
   c.insert_conflict.ensures.0,
-  c.insert_conflict.ensures.1 ∙ ap (λ (t : site.Site). site.insert_conflict (conflict_of c.in-At.start t.name) (conflict_rows c.args.own.now)) c.site_at-site.ensures
-      ∙ step_new c.args.own.now c.args.k (conflict_rows c.args.own.now) (some c.in-At.start) (ap (λ (t : site.Site). has_name t.name (skip_at (misuse_poison c.args.own.now) (site_row c.args.own.now) c.args.k)) (sym c.site_at-site.ensures) ∙ sym c.seen_before.ensures ∙ c.if-seen_before.false) (ap found_of (sym c.in-At.is) ∙ c.first_conflict.ensures ∙ ap (λ (t : site.Site). site.first_conflict [] (site.sites_of t.name (own_of c.args.own.now).sites)) c.site_at-site.ensures),
+  c.insert_conflict.ensures.1 ∙ ap (λ (t : site.Site). site.insert_conflict (conflict_of c.in-Some.start t.name) (conflict_rows c.args.own.now)) c.site_at-site.ensures
+      ∙ step_new c.args.own.now c.args.k (conflict_rows c.args.own.now) (some c.in-Some.start) (ap (λ (t : site.Site). has_name t.name (skip_at (misuse_poison c.args.own.now) (site_row c.args.own.now) c.args.k)) (sym c.site_at-site.ensures) ∙ sym c.seen_before.ensures ∙ c.if-seen_before.false) (ap found_of (sym c.in-Some.is) ∙ c.first_conflict.ensures ∙ ap (λ (t : site.Site). site.first_conflict [] (site.sites_of t.name (own_of c.args.own.now).sites)) c.site_at-site.ensures),
   c.insert_conflict.ensures.2,
 )
 
-pub returns-in-Nothing : goal.returns-in-Nothing
+pub returns-in_default : goal.returns-in_default
 unfolding own_of
-returns-in-Nothing c = (front_same c.args.own.now, step_new c.args.own.now c.args.k (conflict_rows c.args.own.now) none (ap (λ (t : site.Site). has_name t.name (skip_at (misuse_poison c.args.own.now) (site_row c.args.own.now) c.args.k)) (sym c.site_at-site.ensures) ∙ sym c.seen_before.ensures ∙ c.if-seen_before.false) (ap found_of (sym c.in-Nothing.is) ∙ c.first_conflict.ensures ∙ ap (λ (t : site.Site). site.first_conflict [] (site.sites_of t.name (own_of c.args.own.now).sites)) c.site_at-site.ensures), behind_same c.args.own.now c.requires.2)
+returns-in_default c = (front_same c.args.own.now, step_new c.args.own.now c.args.k (conflict_rows c.args.own.now) none (ap (λ (t : site.Site). has_name t.name (skip_at (misuse_poison c.args.own.now) (site_row c.args.own.now) c.args.k)) (sym c.site_at-site.ensures) ∙ sym c.seen_before.ensures ∙ c.if-seen_before.false) (ap found_of (sym c.in_default.is) ∙ c.first_conflict.ensures ∙ ap (λ (t : site.Site). site.first_conflict [] (site.sites_of t.name (own_of c.args.own.now).sites)) c.site_at-site.ensures), behind_same c.args.own.now c.requires.2)

@@ -1,0 +1,26 @@
+use native.Mathlib.Omega.{arith}
+use mathlib.Core.Path.{refl}
+use Rattle.sites.proofs.Lines.{storage_read}
+use Rattle.sites.proofs.line_at.Goals as goal
+use Rattle.sites.proofs.line_at.Goals.{then-own-ne-OWN-via-then-own-ne-OWN, then-own-ne-OWN-via-else-own-ne-OWN+then-t-i}
+
+pub returns-then-own-ne-OWN-clause-result_value : goal.returns-then-own-ne-OWN-clause-result_value
+returns-then-own-ne-OWN-clause-result_value c = λ e h. elim c.then-own-ne-OWN.branch [
+  | then-own-ne-OWN-via-then-own-ne-OWN w ↦ absurd (w.if-own-ne-OWN.true e)
+  | then-own-ne-OWN-via-else-own-ne-OWN+then-t-i w ↦ absurd (omega (arith, w.if-t-i.true, h))
+]
+
+pub returns-then-own-ne-OWN-clause-result_value_2 : goal.returns-then-own-ne-OWN-clause-result_value_2
+returns-then-own-ne-OWN-clause-result_value_2 c = λ _. refl
+
+pub returns-then-own-ne-OWN-clause-result_value_3 : goal.returns-then-own-ne-OWN-clause-result_value_3
+returns-then-own-ne-OWN-clause-result_value_3 c = λ _. refl
+
+pub returns-clause-result_value : goal.returns-clause-result_value
+returns-clause-result_value c = λ _ _. storage_read c.args.t c.args.own.now c.args.i c.requires.1
+
+pub returns-clause-result_value_2 : goal.returns-clause-result_value_2
+returns-clause-result_value_2 c = λ n. absurd (n c.if-own-ne-OWN.false)
+
+pub returns-clause-result_value_3 : goal.returns-clause-result_value_3
+returns-clause-result_value_3 c = λ n. absurd (n (omega (arith, c.if-t-i.false)))
