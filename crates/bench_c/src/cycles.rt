@@ -133,10 +133,8 @@ fn copy(w: &[u32], nodes: &mut [u32], p: u32, n: u32) -> usize
     requires { p + n ≤ 4294967295 }
     ensures { Copied w.now p n nodes.old nodes.new result }
 {
-    let mut k: u32 = 0;
-    while k < n {
+    for k in 0..n {
         put(nodes, k, graph::path_node(w, p + k));
-        k += 1;
     }
     put(nodes, n, graph::path_node(w, p));
     n as usize + 1
