@@ -11,51 +11,50 @@ use lib.Seq.{get_or-set_same}
 use lib.Dec.{eqb, ltb}
 use lib.IntN.{ℤ, pos, negsuc}
 use borrow.Author.Tests.{lt-ltb, ltb-true, ltb-false, eqb-true, eqb-false, eq-eqb, ne_eqb}
+use Rattle.std.specs.Prelude.{Option, Some, None, Result, Ok}
 use Rattle.spec.specs.Edge.{Node, signal, inst_out, Head}
 use Rattle.graph.specs.Table.{unbiased, node_of, node_words}
-use Rattle.graph.specs.Stands.{Stands, Heading, Headed, Read}
+use Rattle.graph.specs.Stands.{full, Stands, Heading, Headed, Read}
 use Rattle.graph.specs.Search.{next_report}
 use Rattle.graph.specs.Leaves.{HeadLeaves, ReadLeaves, Stretch, NextLeaves}
 use Rattle.graph.specs.declared.Node as D
 use Rattle.graph.specs.declared.Node.TheVariants as kinds
 use Rattle.graph.specs.Cycles.{Awaits, Next, words_from}
-use Rattle.graph.specs.declared.Added as A
-use Rattle.graph.specs.declared.Added.TheVariants as added
-use Rattle.graph.specs.declared.Cycle as C
-use Rattle.graph.specs.declared.Cycle.TheVariants as cycles
+use Rattle.graph.specs.declared.Full.{Full}
+use Rattle.graph.specs.declared.Cycle.{Cycle}
 use Rattle.graph.proofs.Tables.{pick_true, pick_false, miss}
 use Rattle.graph.proofs.Leaving.{no_number}
 use Rattle.consteval.specs.Worth.{biased}
 use Rattle.bench_c.specs.Cycles.{node_told, added_of, said, node_said, loop_at, Copied, Taken, HeadTold, ReadTold, Told, NextTold}
 
 -- a number below 512 is a node's
-small_at : (i : ℕ) → i < 512 → added_of i ≡ added.At i
+small_at : (i : ℕ) → i < 512 → added_of i ≡ Ok i
 small_at i l = rw (lt-ltb i 512 l, added_of)
 
-module _ (a : A.Added) (g g' : List ℕ) (n m : Node) (start : ℕ) (f : (hs : List Head) → Stands g hs → Headed a g' hs n start) (q : n ≡ m) where
-  pub head_at : (i : ℕ) → a ≡ added.At i → (hs : List Head) → Stands g hs → Headed (added_of i) g' hs m start
+module _ (a : Result ℕ Full) (g g' : List ℕ) (n m : Node) (start : ℕ) (f : (hs : List Head) → Stands g hs → Headed a g' hs n start) (q : n ≡ m) where
+  pub head_at : (i : ℕ) → a ≡ Ok i → (hs : List Head) → Stands g hs → Headed (added_of i) g' hs m start
   head_at i e hs H =
-      let h : Heading g' hs m start [] i = subst (λ (x : Node). Heading g' hs x start [] i) q (subst (λ (x : A.Added). Headed x g' hs n start) e (f hs H)) in
-      subst (λ (x : A.Added). Headed x g' hs m start) (sym (small_at i (omega (arith, h.node.within, h.stands.few)))) h
+      let h : Heading g' hs m start [] i = subst (λ (x : Node). Heading g' hs x start [] i) q (subst (λ (x : Result ℕ Full). Headed x g' hs n start) e (f hs H)) in
+      subst (λ (x : Result ℕ Full). Headed x g' hs m start) (sym (small_at i (omega (arith, h.node.within, h.stands.few)))) h
 
   -- no graph has a node past the last
-  pub head_past : (i : ℕ) → a ≡ added.At i → 512 ≤ i → (g'' : List ℕ) (hs : List Head) → Stands g hs → Headed added.Full g'' hs m start
+  pub head_past : (i : ℕ) → a ≡ Ok i → 512 ≤ i → (g'' : List ℕ) (hs : List Head) → Stands g hs → Headed full g'' hs m start
   head_past i e l g'' hs H =
-      let h : Heading g' hs n start [] i = subst (λ (x : A.Added). Headed x g' hs n start) e (f hs H) in
+      let h : Heading g' hs n start [] i = subst (λ (x : Result ℕ Full). Headed x g' hs n start) e (f hs H) in
       absurd (omega (arith, h.node.within, h.stands.few))
 
-  pub head_full : a ≡ added.Full → (hs : List Head) → Stands g hs → Headed added.Full g' hs m start
-  head_full e hs H = subst (λ (x : Node). Headed added.Full g' hs x start) q (subst (λ (x : A.Added). Headed x g' hs n start) e (f hs H))
+  pub head_full : a ≡ full → (hs : List Head) → Stands g hs → Headed full g' hs m start
+  head_full e hs H = subst (λ (x : Node). Headed full g' hs x start) q (subst (λ (x : Result ℕ Full). Headed x g' hs n start) e (f hs H))
 
-module _ (a : A.Added) (g g' : List ℕ) (from : ℕ) (n m : Node)
+module _ (a : Result ℕ Full) (g g' : List ℕ) (from : ℕ) (n m : Node)
     (f : (hs : List Head) (h : Node) (start : ℕ) (rs : List Node) → Heading g hs h start rs from → Read a g' hs h start rs from n) (q : n ≡ m) where
-  pub read_at : (j : ℕ) → a ≡ added.At j → (hs : List Head) (h : Node) (start : ℕ) (rs : List Node) → Heading g hs h start rs from → Read (added.At 0) g' hs h start rs from m
+  pub read_at : (j : ℕ) → a ≡ Ok j → (hs : List Head) (h : Node) (start : ℕ) (rs : List Node) → Heading g hs h start rs from → Read (Ok 0) g' hs h start rs from m
   read_at j e hs h start rs H =
-      subst (λ (x : Node). Read (added.At j) g' hs h start rs from x) q (subst (λ (x : A.Added). Read x g' hs h start rs from n) e (f hs h start rs H))
+      subst (λ (x : Node). Read (Ok j) g' hs h start rs from x) q (subst (λ (x : Result ℕ Full). Read x g' hs h start rs from n) e (f hs h start rs H))
 
-  pub read_full : a ≡ added.Full → (hs : List Head) (h : Node) (start : ℕ) (rs : List Node) → Heading g hs h start rs from → Read added.Full g' hs h start rs from m
+  pub read_full : a ≡ full → (hs : List Head) (h : Node) (start : ℕ) (rs : List Node) → Heading g hs h start rs from → Read full g' hs h start rs from m
   read_full e hs h start rs H =
-      subst (λ (x : Node). Read added.Full g' hs h start rs from x) q (subst (λ (x : A.Added). Read x g' hs h start rs from n) e (f hs h start rs H))
+      subst (λ (x : Node). Read full g' hs h start rs from x) q (subst (λ (x : Result ℕ Full). Read x g' hs h start rs from n) e (f hs h start rs H))
 
 -- an index is held as its value says
 biased_back : (x : ℕ) → biased (unbiased x) ≡ x
@@ -94,31 +93,31 @@ module _ (k n x o : ℕ) where
       go false false = refl
 
 -- what heading and reading leave of any words, by the node that the numbers say
-module _ (a : A.Added) (g g' : List ℕ) (n m : D.Node) (start : ℕ) (f : HeadLeaves a g n start g') (q : n ≡ m) where
-  leaves : (b : A.Added) → a ≡ b → HeadLeaves b g m start g'
-  leaves b e = subst (λ (x : A.Added). HeadLeaves x g m start g') e (subst (λ (x : D.Node). HeadLeaves a g x start g') q f)
+module _ (a : Result ℕ Full) (g g' : List ℕ) (n m : D.Node) (start : ℕ) (f : HeadLeaves a g n start g') (q : n ≡ m) where
+  leaves : (b : Result ℕ Full) → a ≡ b → HeadLeaves b g m start g'
+  leaves b e = subst (λ (x : Result ℕ Full). HeadLeaves x g m start g') e (subst (λ (x : D.Node). HeadLeaves a g x start g') q f)
 
-  pub told_at : (i : ℕ) → a ≡ added.At i → i < 512 → HeadTold i g m start g'
-  told_at i e l = inl (l, leaves (added.At i) e)
+  pub told_at : (i : ℕ) → a ≡ Ok i → i < 512 → HeadTold i g m start g'
+  told_at i e l = inl (l, leaves (Ok i) e)
 
   -- a number past the last is of words that count more nodes
-  pub told_past : (i : ℕ) → a ≡ added.At i → 512 ≤ i → {g'' : List ℕ} → g'' ≡ replicate (length g') 0 → length g' ≡ length g → HeadTold 512 g m start g''
+  pub told_past : (i : ℕ) → a ≡ Ok i → 512 ≤ i → {g'' : List ℕ} → g'' ≡ replicate (length g') 0 → length g' ≡ length g → HeadTold 512 g m start g''
   told_past i e l d z =
-      let N = (leaves (added.At i) e).0 in
+      let N = (leaves (Ok i) e).0 in
       inr (refl, omega (arith, N.number), d ∙ ap (λ y. replicate {A = ℕ} y 0) z)
 
-  pub told_full : a ≡ added.Full → HeadTold 512 g m start g'
-  told_full e = let F = leaves added.Full e in let k = F.0.many in let l = no_number g m F.0 in inr (refl, omega arith, F.1)
+  pub told_full : a ≡ full → HeadTold 512 g m start g'
+  told_full e = let F = leaves full e in let k = F.0.many in let l = no_number g m F.0 in inr (refl, omega arith, F.1)
 
-module _ (a : A.Added) (g g' : List ℕ) (from : ℕ) (n m : D.Node) (f : ReadLeaves a g from n g') (q : n ≡ m) where
-  read_leaves : (b : A.Added) → a ≡ b → ReadLeaves b g from m g'
-  read_leaves b e = subst (λ (x : A.Added). ReadLeaves x g from m g') e (subst (λ (x : D.Node). ReadLeaves a g from x g') q f)
+module _ (a : Result ℕ Full) (g g' : List ℕ) (from : ℕ) (n m : D.Node) (f : ReadLeaves a g from n g') (q : n ≡ m) where
+  read_leaves : (b : Result ℕ Full) → a ≡ b → ReadLeaves b g from m g'
+  read_leaves b e = subst (λ (x : Result ℕ Full). ReadLeaves x g from m g') e (subst (λ (x : D.Node). ReadLeaves a g from x g') q f)
 
-  pub told_read : (i : ℕ) → a ≡ added.At i → ReadTold 1 g from m g'
-  told_read i e = (refl, (i, read_leaves (added.At i) e))
+  pub told_read : (i : ℕ) → a ≡ Ok i → ReadTold 1 g from m g'
+  told_read i e = (refl, (i, read_leaves (Ok i) e))
 
-  pub told_unread : a ≡ added.Full → ReadTold 0 g from m g'
-  told_unread e = read_leaves added.Full e
+  pub told_unread : a ≡ full → ReadTold 0 g from m g'
+  told_unread e = read_leaves full e
 
 -- the first k nodes are copied
 pub record Copying (w : List ℕ) (p k : ℕ) (ns ns' : List ℕ) : Type 0 where
@@ -185,49 +184,49 @@ copied w p n k v ns₀ ns ns' a C d e = record {
         stored_before w p n v ns₀ ns ns' D e i s m ∙ sym (words_get w p n i (get_or w (3074 + p) 0 ∷ []) s)
 
 -- the next report
-module _ (a : C.Cycle) (g w w' : List ℕ) (f : (rs : List (List Node)) → Awaits g w rs → Next a g w' rs) (rs : List (List Node)) (H : Awaits g w rs) where
-  pub taken_none : a ≡ cycles.Done → rs ≡ []
-  taken_none e = subst (λ (x : C.Cycle). Next x g w' rs) e (f rs H)
+module _ (a : Option Cycle) (g w w' : List ℕ) (f : (rs : List (List Node)) → Awaits g w rs → Next a g w' rs) (rs : List (List Node)) (H : Awaits g w rs) where
+  pub taken_none : a ≡ None → rs ≡ []
+  taken_none e = subst (λ (x : Option Cycle). Next x g w' rs) e (f rs H)
 
-  module _ (p d : ℕ) (e : a ≡ cycles.Found p d) where
-    found : Next (cycles.Found p d) g w' rs
-    found = subst (λ (x : C.Cycle). Next x g w' rs) e (f rs H)
+  module _ (s : Cycle) (e : a ≡ Some s) where
+    found : Next (Some s) g w' rs
+    found = subst (λ (x : Option Cycle). Next x g w' rs) e (f rs H)
 
-    pub taken_not : d ≤ p → rs ≡ []
+    pub taken_not : s.to ≤ s.from → rs ≡ []
     taken_not l = absurd (omega (arith, found.2))
 
-    pub taken_loop : (ns ns' : List ℕ) (r : ℕ) → Copied w' p (d - p) ns ns' r → Taken r g w' ns' rs
+    pub taken_loop : (ns ns' : List ℕ) (r : ℕ) → Copied w' s.from (s.to - s.from) ns ns' r → Taken r g w' ns' rs
     taken_loop ns ns' r C =
         subst (λ (z : ℕ). Taken z g w' ns' rs) (sym C.number)
-        (loop_at w' p (d - p), found.0, words_length w' p (d - p) (get_or w' (3074 + p) 0), C.begins, found.1, found.4)
+        (loop_at w' s.from (s.to - s.from), found.0, words_length w' s.from (s.to - s.from) (get_or w' (3074 + s.from) 0), C.begins, found.1, found.4)
 
 -- what the next report gives and leaves of any words
-module _ (a : C.Cycle) (g w w' : List ℕ) (L : NextLeaves a g w w') (E : (a, w') ≡ next_report g w) where
-  told_of : (b : C.Cycle) (r : ℕ) (ns ns' : List ℕ) → a ≡ b → Told b r w' ns ns' → Told (next_report g w).0 r w' ns ns'
-  told_of b r ns ns' e T = subst (λ (x : C.Cycle). Told x r w' ns ns') (sym e ∙ ap (λ (x : C.Cycle × List ℕ). x.0) E) T
+module _ (a : Option Cycle) (g w w' : List ℕ) (L : NextLeaves a g w w') (E : (a, w') ≡ next_report g w) where
+  told_of : (b : Option Cycle) (r : ℕ) (ns ns' : List ℕ) → a ≡ b → Told b r w' ns ns' → Told (next_report g w).0 r w' ns ns'
+  told_of b r ns ns' e T = subst (λ (x : Option Cycle). Told x r w' ns ns') (sym e ∙ ap (λ (x : Option Cycle × List ℕ). x.0) E) T
 
-  next_nothing : (b : C.Cycle) (ns : List ℕ) → a ≡ b → Told b 0 w' ns ns → NextTold 0 g w w' ns ns
+  next_nothing : (b : Option Cycle) (ns : List ℕ) → a ≡ b → Told b 0 w' ns ns → NextTold 0 g w w' ns ns
   next_nothing b ns e T = record {
-    words = ap (λ (x : C.Cycle × List ℕ). x.1) E;
+    words = ap (λ (x : Option Cycle × List ℕ). x.1) E;
     told = told_of b 0 ns ns e T;
     fewer = λ h. absurd (omega arith);
     before = L.before;
     behind = L.behind;
   }
 
-  pub next_none : (ns : List ℕ) → a ≡ cycles.Done → NextTold 0 g w w' ns ns
-  next_none ns e = next_nothing cycles.Done ns e (refl, refl)
+  pub next_none : (ns : List ℕ) → a ≡ None → NextTold 0 g w w' ns ns
+  next_none ns e = next_nothing None ns e (refl, refl)
 
-  module _ (p d : ℕ) (e : a ≡ cycles.Found p d) where
-    pub next_no_nodes : (ns : List ℕ) → d ≤ p → NextTold 0 g w w' ns ns
-    next_no_nodes ns l = next_nothing (cycles.Found p d) ns e (λ h. absurd (omega arith), λ h. (refl, refl))
+  module _ (s : Cycle) (e : a ≡ Some s) where
+    pub next_no_nodes : (ns : List ℕ) → s.to ≤ s.from → NextTold 0 g w w' ns ns
+    next_no_nodes ns l = next_nothing (Some s) ns e (λ h. absurd (omega arith), λ h. (refl, refl))
 
-    pub next_told : p < d → (ns ns' : List ℕ) (r : ℕ) → Copied w' p (d - p) ns ns' r → NextTold r g w w' ns ns'
+    pub next_told : s.from < s.to → (ns ns' : List ℕ) (r : ℕ) → Copied w' s.from (s.to - s.from) ns ns' r → NextTold r g w w' ns ns'
     next_told l ns ns' r K =
-        let S : Stretch (cycles.Found p d) w w' = subst (λ (x : C.Cycle). Stretch x w w') e L.stretch in
+        let S : Stretch (Some s) w w' = subst (λ (x : Option Cycle). Stretch x w w') e L.stretch in
         record {
-          words = ap (λ (x : C.Cycle × List ℕ). x.1) E;
-          told = told_of (cycles.Found p d) r ns ns' e (λ h. K, λ h. absurd (omega arith));
+          words = ap (λ (x : Option Cycle × List ℕ). x.1) E;
+          told = told_of (Some s) r ns ns' e (λ h. K, λ h. absurd (omega arith));
           fewer = λ h. S.1;
           before = L.before;
           behind = L.behind;

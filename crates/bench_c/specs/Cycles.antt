@@ -1,33 +1,32 @@
 -- The answers of the graph as numbers, for programs in other languages.
 -- 01: The edge; The walk; Refused because of the state; Worthless checks.
 -- To a reader: definitions to believe: what the numbers that the functions of this crate return and store stand for.
-use Rattle.std.specs.Prelude.{◌≡◌, true, false, ◌⊎◌, List, [], ◌∷◌, ◌++◌, map, ℕ, zero, suc, ◌+◌, ◌-◌, ◌<◌, ◌≤◌, length, get_or, set, replicate, eqb, ltb}
+use Rattle.std.specs.Prelude.{◌≡◌, true, false, ◌⊎◌, List, [], ◌∷◌, ◌++◌, map, ℕ, zero, suc, ◌+◌, ◌-◌, ◌<◌, ◌≤◌, length, get_or, set, replicate, eqb, ltb, Option, Some, None, Result, Ok}
 use Rattle.std.proofs.Math.Option.{some, none}
 use Rattle.spec.specs.Edge.{Node, signal, inst_out}
 use Rattle.graph.specs.Table.{node_at, number_in}
+use Rattle.graph.specs.Stands.{full}
 use Rattle.graph.specs.Cycles.{Awaits, words_from}
 use Rattle.graph.specs.Search.{next_report}
 use Rattle.graph.specs.Leaves.{Keeps, Below, HeadLeaves, ReadLeaves}
 use Rattle.graph.specs.declared.Node as D
 use Rattle.graph.specs.declared.Node.TheVariants as kinds
 use Rattle.consteval.specs.Worth.{biased}
-use Rattle.graph.specs.declared.Added as A
-use Rattle.graph.specs.declared.Added.TheVariants as added
-use Rattle.graph.specs.declared.Cycle as C
-use Rattle.graph.specs.declared.Cycle.TheVariants as cycles
+use Rattle.graph.specs.declared.Full.{Full}
+use Rattle.graph.specs.declared.Cycle.{Cycle}
 
 -- 01, The edge: the code's node for four numbers: kind, name, index, output
 unfoldable pub node_told : ℕ → ℕ → ℕ → ℕ → D.Node
 node_told k n x o = elim (eqb k 0) [ true ↦ kinds.Signal n | false ↦ elim (eqb k 1) [ true ↦ kinds.Output n o | false ↦ kinds.OutputAt n x o ] ]
 
 -- 01, The edge; Refused because of the state: the answer that a number says: below 512 a node's number, else that a limit is passed
-abbrev pub added_of : ℕ → A.Added
-added_of r = elim (ltb r 512) [ true ↦ added.At r | false ↦ added.Full ]
+abbrev pub added_of : ℕ → Result ℕ Full
+added_of r = elim (ltb r 512) [ true ↦ Ok r | false ↦ full ]
 
 -- 01, The edge; Refused because of the state: the answer that a read's number says: 0 that a limit is passed, any other that it is read
-abbrev pub read_of : ℕ → A.Added
-read_of zero = added.Full
-read_of (suc k) = added.At k
+abbrev pub read_of : ℕ → Result ℕ Full
+read_of zero = full
+read_of (suc k) = Ok k
 
 -- 01, The edge: four numbers stored, as many as there is room for
 unfoldable pub said : List ℕ → ℕ → ℕ → ℕ → ℕ → List ℕ
@@ -68,19 +67,19 @@ Taken (suc k) g w ns rs = (l : List ℕ) × (qs : List (List Node)) × (length l
 -- 01, The edge; Refused because of the state; Worthless checks: what heading the node n gives and leaves of any words: its number, below 512, and
 -- every word; or 512, where its number is not below 512, and all words are 0
 abbrev pub HeadTold : ℕ → List ℕ → D.Node → ℕ → List ℕ → Type 0
-HeadTold r g n start g' = ((r < 512) × HeadLeaves (added.At r) g n start g') ⊎ ((r ≡ 512) × (512 ≤ number_in g n) × (g' ≡ replicate (length g) 0))
+HeadTold r g n start g' = ((r < 512) × HeadLeaves (Ok r) g n start g') ⊎ ((r ≡ 512) × (512 ≤ number_in g n) × (g' ≡ replicate (length g) 0))
 
 -- 01, The edge; Refused because of the state; Worthless checks: what a read of the node n gives and leaves of any words: 1, and every word
 -- as ReadLeaves has it; or 0, and all words are 0
 abbrev pub ReadTold : ℕ → List ℕ → ℕ → D.Node → List ℕ → Type 0
-ReadTold zero g from n g' = ReadLeaves added.Full g from n g'
-ReadTold (suc k) g from n g' = (k ≡ 0) × ((i : ℕ) × ReadLeaves (added.At i) g from n g')
+ReadTold zero g from n g' = ReadLeaves full g from n g'
+ReadTold (suc k) g from n g' = (k ≡ 0) × ((i : ℕ) × ReadLeaves (Ok i) g from n g')
 
--- 01, The walk; Worthless checks: what is told of an answer of the search, of any words: of a report from the place p to before d the nodes there, and the
+-- 01, The walk; Worthless checks: what is told of an answer of the search, of any words: of a report the nodes of its stretch, and the
 -- first of them again; nothing of a report with no nodes, and where there is none
-abbrev pub Told : C.Cycle → ℕ → List ℕ → List ℕ → List ℕ → Type 0
-Told (cycles.Found p d) r w ns ns' = (p < d → Copied w p (d - p) ns ns' r) × (d ≤ p → (r ≡ 0) × (ns' ≡ ns))
-Told cycles.Done r w ns ns' = (r ≡ 0) × (ns' ≡ ns)
+abbrev pub Told : Option Cycle → ℕ → List ℕ → List ℕ → List ℕ → Type 0
+Told (Some c) r w ns ns' = (c.from < c.to → Copied w c.from (c.to - c.from) ns ns' r) × (c.to ≤ c.from → (r ≡ 0) × (ns' ≡ ns))
+Told None r w ns ns' = (r ≡ 0) × (ns' ≡ ns)
 
 -- 01, The walk; Worthless checks: what asking for the next report gives and leaves of any words: every word of `w` as Search.next_report of graph has
 -- it, and what is told of its answer; from these follow the others: fewer steps left where a report is told, the words before 2050 as they were, and

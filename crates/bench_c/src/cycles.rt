@@ -9,7 +9,7 @@ ghost use Rattle.graph.specs.Cycles.{Roomy, Awaits};
 ghost use Rattle.graph.specs.Leaves.{BeginLeaves};
 ghost use Rattle.bench_c.specs.Cycles.{node_told, added_of, read_of, said, node_said, Copied, Taken, HeadTold, ReadTold, NextTold};
 
-use graph::{Added, Cycle, Node};
+use graph::Node;
 
 // The node that four numbers say.
 fn node(kind: u32, name: u32, index: u32, output: u32) -> Node
@@ -47,7 +47,7 @@ pub extern "C" fn drivercheck_graph_head(
     ensures head_told { HeadTold result g.old (node_told kind name index output) start g.new }
 {
     match graph::head(g, node(kind, name, index, output), start) {
-        Added::At(i) => {
+        Ok(i) => {
             if i < 512 {
                 return i;
             }
@@ -55,7 +55,7 @@ pub extern "C" fn drivercheck_graph_head(
             graph::clear(g);
             512
         }
-        Added::Full => 512,
+        Err(_) => 512,
     }
 }
 
@@ -74,8 +74,8 @@ pub extern "C" fn drivercheck_graph_read(
     ensures read_told { ReadTold result g.old from (node_told kind name index output) g.new }
 {
     match graph::read(g, from, node(kind, name, index, output)) {
-        Added::At(_) => 1,
-        Added::Full => 0,
+        Ok(_) => 1,
+        Err(_) => 0,
     }
 }
 
@@ -133,10 +133,8 @@ fn copy(w: &[u32], nodes: &mut [u32], p: u32, n: u32) -> usize
     requires { p + n ≤ 4294967295 }
     ensures { Copied w.now p n nodes.old nodes.new result }
 {
-    let mut k: u32 = 0;
-    while k < n {
+    for k in 0..n {
         put(nodes, k, graph::path_node(w, p + k));
-        k += 1;
     }
     put(nodes, n, graph::path_node(w, p));
     n as usize + 1
@@ -151,12 +149,12 @@ pub extern "C" fn drivercheck_graph_next(g: &[u32], w: &mut [u32], nodes: &mut [
     ensures next_told { NextTold result g.now w.old w.new nodes.old nodes.new }
 {
     match graph::next_cycle(g, w) {
-        Cycle::Done => 0,
-        Cycle::Found(p, d) => {
-            if d <= p {
+        None => 0,
+        Some(c) => {
+            if c.to <= c.from {
                 return 0;
             }
-            copy(w, nodes, p, d - p)
+            copy(w, nodes, c.from, c.to - c.from)
         }
     }
 }

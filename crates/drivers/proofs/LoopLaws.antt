@@ -6,6 +6,7 @@ use Prim.Native.Nat.{ℕ, suc, ◌+◌, ◌-◌, ◌<◌, ◌≤◌}
 use native.Mathlib.Omega.{arith}
 use native.Mathlib.Numerals.{add-one}
 use lib.ListN.{length, get_or}
+use Rattle.std.specs.Prelude.{Option, Some, None}
 use Rattle.spec.specs.Bytes.{Bytes, show_number, show_rest, show_form}
 use Rattle.spec.specs.Report.{Report, loop_report, show_node, show_nodes, show_report, show_reports}
 use Rattle.spec.specs.Edge.{Node, Head}
@@ -16,8 +17,7 @@ use Rattle.report.specs.Line.{field, walk_head, walk_node, walk_tail, node_of, n
 use Rattle.graph.specs.Table.{count, node_at, start_at}
 use Rattle.graph.specs.Stands.{Stands}
 use Rattle.graph.specs.Cycles.{words_from, Awaits, Next}
-use Rattle.graph.specs.declared.Cycle as C
-use Rattle.graph.specs.declared.Cycle.TheVariants as cycles
+use Rattle.graph.specs.declared.Cycle.{Cycle}
 use Rattle.drivers.specs.declared.emit.Place.{Place}
 use Rattle.drivers.specs.Emits.{Appends, Emits}
 use Rattle.drivers.specs.Loops.{node_bytes, path_nodes, path_report}
@@ -139,21 +139,21 @@ module _ {g : List ℕ} (hs : List Head) (H : Stands g hs) {m : ℕ} {write : Bo
     pub loops_out : left ≤ 0 → Emits write old p (loop_reports m hs (find_cycles hs)) mid q
     loops_out z = loops_none (none_left L.rest (omega (arith, L.few)))
 
-    module _ (w' : List ℕ) (c : C.Cycle) (next : (rs : List (List Node)) → Awaits g w rs → Next c g w' rs) where
-      pub loops_done : c ≡ cycles.Done → Emits write old p (loop_reports m hs (find_cycles hs)) mid q
+    module _ (w' : List ℕ) (c : Option Cycle) (next : (rs : List (List Node)) → Awaits g w rs → Next c g w' rs) where
+      pub loops_done : c ≡ None → Emits write old p (loop_reports m hs (find_cycles hs)) mid q
       loops_done e = loops_none (rw e at (next L.rest L.awaits))
 
-      pub loops_found : {from to : ℕ} → c ≡ cycles.Found from to → 0 < left → {new : Bytes} {r : Place} → Emits write mid q (path_report m g w' from to ∷ []) new r
+      pub loops_found : {s : Cycle} → c ≡ Some s → 0 < left → {new : Bytes} {r : Place} → Emits write mid q (path_report m g w' s.from s.to ∷ []) new r
           → Looping g w' hs m (left - 1) write old p new r
-      loops_found {from} {to} e z {new} {r} a = found (rw e at (next L.rest L.awaits))
+      loops_found {s} e z {new} {r} a = found (rw e at (next L.rest L.awaits))
         where
-          found : Next (cycles.Found from to) g w' L.rest → Looping g w' hs m (left - 1) write old p new r
+          found : Next (Some s) g w' L.rest → Looping g w' hs m (left - 1) write old p new r
           found (qs, A, l, d, f) =
               record {
                 rest = qs;
                 awaits = A;
                 few = omega (arith, L.few, ap length f);
-                emitting = emitting_then (path_report m g w' from to ∷ []) (loop_reports m hs qs)
+                emitting = emitting_then (path_report m g w' s.from s.to ∷ []) (loop_reports m hs qs)
                     (subst (λ (x : List Report). Emitting write old p (loop_reports m hs (find_cycles hs)) x mid q)
-                    (ap (loop_reports m hs) f ∙ cons_report g hs H m w' from to l qs (rw A.pending.state.nodes at (A.pending.state.small from (rw d at l)))) L.emitting) a;
+                    (ap (loop_reports m hs) f ∙ cons_report g hs H m w' s.from s.to l qs (rw A.pending.state.nodes at (A.pending.state.small s.from (rw d at l)))) L.emitting) a;
               }

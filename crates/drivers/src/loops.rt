@@ -12,7 +12,6 @@ ghost use Rattle.drivers.specs.Loops.{node_bytes, path_report};
 
 use crate::emit;
 use crate::emit::Place;
-use graph::Cycle;
 
 // More reports than any search gives: one for each of 512 roots, and for each of 512 nodes one more than it has next nodes.
 const REPORTS: u32 = 263168;
@@ -86,9 +85,9 @@ pub(crate) fn report_loops(
     while 0 < left {
         left -= 1;
         match graph::next_cycle(g, w) {
-            Cycle::Done => return q,
-            Cycle::Found(from, to) => {
-                q = report_loop(g, w, m, from, to, buf, q, write);
+            None => return q,
+            Some(c) => {
+                q = report_loop(g, w, m, c.from, c.to, buf, q, write);
                 continue;
             }
         }

@@ -8,6 +8,7 @@ use Prim.Native.Nat.{ℕ, zero, suc, ◌≤◌, ◌<◌, min}
 use native.Mathlib.Omega.{arith}
 use lib.ListN.{drop, get_or}
 use lib.Dec.{eqb}
+use Rattle.std.specs.Prelude.{Result, Ok}
 use Rattle.spec.specs.Bytes.{Bytes, bytes, number, show_number, show_rest, show_form}
 use Rattle.spec.specs.Syntax.{Kind, reg_kind, mem_kind, inst_kind, neg, not, clog2, add, sub, mul, eq, ne, lt, le, gt, ge, and, or, shl, shr, band, bor, bxor, Expr, Exprs, lit, truth, name, field, index, if_else, unary, binary, all, Header}
 use Rattle.spec.specs.Show.{show_expr, show_exprs}
@@ -18,9 +19,8 @@ use Rattle.spec.specs.Edge.{Node, signal, Head, Reads, no_reads, and_reads, expr
 use Rattle.spec.proofs.Nodes.{and_parts}
 use Rattle.spec.proofs.Numbers.{Digits, number_digits, number_show, if_case}
 use Rattle.spec.proofs.Parts.{Part, word_part, number_part}
-use Rattle.graph.specs.Stands.{Heading, Read}
-use Rattle.graph.specs.declared.Added as A
-use Rattle.graph.specs.declared.Added.TheVariants as added
+use Rattle.graph.specs.Stands.{full, Heading, Read}
+use Rattle.graph.specs.declared.Full.{Full}
 use Rattle.edges.specs.Reads.{kind_word, KindsOf, ReadAll}
 use Rattle.edges.specs.Shows.{ShowsExpr, NameRead, opens, begins, as_name, name_of, NamedBy}
 use Rattle.edges.proofs.ReadLaws.{read_none, read_one}
@@ -121,7 +121,7 @@ module _ (kinds : List ℕ) (m : ℕ) (g : List ℕ) (from : ℕ) {k : ℕ} (q :
       go (suc (suc (suc (suc (suc (suc j)))))) e l = unread (some inst_kind) (ap kind_word e) refl
 
   -- a signal is read
-  module _ (z : k ≡ 0 → ⊥) (l : k ≤ 3) (a : A.Added) (g' : List ℕ)
+  module _ (z : k ≡ 0 → ⊥) (l : k ≤ 3) (a : Result ℕ Full) (g' : List ℕ)
       (read : (hs : List Head) (n : Node) (start : ℕ) (rs : List Node) → Heading g hs n start rs from → Read a g' hs n start rs from (signal m)) where
     signal_kind : (o : Option Kind) → kind_word k ≡ o → name_reads o m ≡ record { nodes = signal m ∷ []; out = false }
     signal_kind o e = go k refl z l
@@ -133,15 +133,15 @@ module _ (kinds : List ℕ) (m : ℕ) (g : List ℕ) (from : ℕ) {k : ℕ} (q :
         go (suc (suc (suc zero))) f z l = ap (λ (x : Option Kind). name_reads x m) (sym e ∙ ap kind_word f)
         go (suc (suc (suc (suc j)))) f z l = absurd (omega arith)
 
-    signal_read : (b : Bool) → ((j : ℕ) → a ≡ added.At j → b ≡ true) → (a ≡ added.Full → b ≡ false) → NameRead b m kinds g g' from
+    signal_read : (b : Bool) → ((j : ℕ) → a ≡ Ok j → b ≡ true) → (a ≡ full → b ≡ false) → NameRead b m kinds g g' from
     signal_read b p r header w hs n start rs h =
         let e = signal_kind (kind_of header m) (ap kind_word q ∙ w m) in
         rw e (read_one hs n start from a b g' rs (signal m) (read hs n start rs h) p r)
 
-    pub name_at : {j : ℕ} → a ≡ added.At j → NameRead true m kinds g g' from
+    pub name_at : {j : ℕ} → a ≡ Ok j → NameRead true m kinds g g' from
     name_at e = signal_read true (λ j f. refl) (λ f. let x : ◌≡◌ {A = ℕ} 0 1 = cc in absurd (omega arith))
 
-    pub name_full : a ≡ added.Full → NameRead false m kinds g g' from
+    pub name_full : a ≡ full → NameRead false m kinds g g' from
     name_full e = signal_read false (λ j f. let x : ◌≡◌ {A = ℕ} 0 1 = cc in absurd (omega arith)) (λ f. refl)
 
 -- ---- `opens`, and the byte behind

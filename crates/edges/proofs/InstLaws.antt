@@ -10,12 +10,12 @@ use lib.ListN.{get_or}
 use lib.Dec.{ltb}
 use lib.IntN.{ℤ, negsuc}
 use borrow.Author.Tests.{ltb-true}
+use Rattle.std.specs.Prelude.{Result, Ok}
 use Rattle.spec.specs.Value.{Value}
 use Rattle.spec.specs.Edge.{Node, inst_out, no_reads, Head, is_inst, indexed_reads}
 use Rattle.graph.specs.Table.{unbiased}
-use Rattle.graph.specs.Stands.{Heading, Read}
-use Rattle.graph.specs.declared.Added as A
-use Rattle.graph.specs.declared.Added.TheVariants as added
+use Rattle.graph.specs.Stands.{full, Heading, Read}
+use Rattle.graph.specs.declared.Full.{Full}
 use Rattle.consteval.specs.Worth.{signed, worth}
 use Rattle.consteval.specs.declared.Value.{Value as Answer}
 use Rattle.consteval.specs.declared.Value.TheVariants.{Known, Missing, Outside}
@@ -71,11 +71,11 @@ module _ (i p : ℕ) {v : Answer} {z : Value} (qv : worth v ≡ z) where
   reads_known {x} e = ap (λ (u : ℤ). one_read (inst_out i (some u) p)) (sym (same_word x)) ∙ by_value (Known x) e
 
 module _ (g : List ℕ) (from : ℕ) where
-  module _ (m : Node) (a : A.Added) (g' : List ℕ) (read : (hs : List Head) (n : Node) (start : ℕ) (rs : List Node) → Heading g hs n start rs from → Read a g' hs n start rs from m) where
-    pub output_at : {j : ℕ} → a ≡ added.At j → NodesRead true (one_read m) g g' from
+  module _ (m : Node) (a : Result ℕ Full) (g' : List ℕ) (read : (hs : List Head) (n : Node) (start : ℕ) (rs : List Node) → Heading g hs n start rs from → Read a g' hs n start rs from m) where
+    pub output_at : {j : ℕ} → a ≡ Ok j → NodesRead true (one_read m) g g' from
     output_at e hs n start rs h = read_one hs n start from a true g' rs m (read hs n start rs h) (λ j f. refl) (λ f. let x : ◌≡◌ {A = ℕ} 0 1 = cc in absurd (omega arith))
 
-    pub output_full : a ≡ added.Full → NodesRead false (one_read m) g g' from
+    pub output_full : a ≡ full → NodesRead false (one_read m) g g' from
     output_full e hs n start rs h = read_one hs n start from a false g' rs m (read hs n start rs h) (λ j f. let x : ◌≡◌ {A = ℕ} 0 1 = cc in absurd (omega arith)) (λ f. refl)
 
   -- the index: its value
@@ -86,9 +86,9 @@ module _ (g : List ℕ) (from : ℕ) where
     pub index_outside : (g' : List ℕ) → v ≡ Outside → NodesRead false (indexed_reads i z p) g g' from
     index_outside g' e = rw (sym qv ∙ ap worth e) (λ hs n start rs h. read_out hs n start from g' rs)
 
-    module _ {x : ℕ} (e : v ≡ Known x) (a : A.Added) (g' : List ℕ) (read : (hs : List Head) (n : Node) (start : ℕ) (rs : List Node) → Heading g hs n start rs from → Read a g' hs n start rs from (inst_out i (some (unbiased x)) p)) where
-      pub index_at : {j : ℕ} → a ≡ added.At j → NodesRead true (indexed_reads i z p) g g' from
+    module _ {x : ℕ} (e : v ≡ Known x) (a : Result ℕ Full) (g' : List ℕ) (read : (hs : List Head) (n : Node) (start : ℕ) (rs : List Node) → Heading g hs n start rs from → Read a g' hs n start rs from (inst_out i (some (unbiased x)) p)) where
+      pub index_at : {j : ℕ} → a ≡ Ok j → NodesRead true (indexed_reads i z p) g g' from
       index_at f = rw (sym (reads_known i p qv e)) (output_at (inst_out i (some (unbiased x)) p) a g' read f)
 
-      pub index_full : a ≡ added.Full → NodesRead false (indexed_reads i z p) g g' from
+      pub index_full : a ≡ full → NodesRead false (indexed_reads i z p) g g' from
       index_full f = rw (sym (reads_known i p qv e)) (output_full (inst_out i (some (unbiased x)) p) a g' read f)

@@ -6,6 +6,7 @@ use mathlib.Core.List.{List, [], ◌∷◌, ◌++◌}
 use Prim.Native.Nat.{ℕ, zero, suc, ◌+◌, ◌<◌, ◌≤◌}
 use native.Mathlib.Omega.{arith}
 use lib.ListN.{length, get_or, replicate}
+use Rattle.std.specs.Prelude.{Result, Ok}
 use Rattle.spec.specs.Bytes.{Bytes}
 use Rattle.spec.specs.Value.{Value, Names}
 use Rattle.spec.specs.Edge.{Node, Reads, no_reads, and_reads, inst_out, Summary, index_of, has_output}
@@ -13,10 +14,10 @@ use Rattle.spec.proofs.Cleared.{ClearedUnless, cleared_of}
 use Rattle.lines.specs.Parts.{part_end, piece, follows}
 use Rattle.graph.specs.Table.{node_of}
 use Rattle.graph.specs.Leaves.{HeadLeaves, ReadLeaves}
-use Rattle.graph.specs.declared.Added as A
-use Rattle.graph.specs.declared.Added.TheVariants as added
+use Rattle.graph.specs.declared.Full.{Full}
 use Rattle.graph.specs.declared.Node as declared
 use Rattle.graph.specs.declared.Node.TheVariants as nodes
+use Rattle.graph.specs.Stands.{full}
 use Rattle.edges.specs.Shows.{one_read}
 use Rattle.edges.specs.Lines.{end_behind, number_at}
 use Rattle.edges.specs.Total.{parts_behind, reads_in_order, wire_reads, drive_reads}
@@ -56,11 +57,11 @@ module _ (from : ℕ) (g : List ℕ) where
   reads_out e g' c = reads_as e false g' (inl refl, c)
 
   -- one node is read
-  module _ (m : declared.Node) (a : A.Added) (g' : List ℕ) (l : ReadLeaves a g from m g') {q : Reads} (e : one_read (node_of m) ≡ q) where
-    pub read_at : {i : ℕ} → a ≡ added.At i → ReadsOrCleared true q from g g'
+  module _ (m : declared.Node) (a : Result ℕ Full) (g' : List ℕ) (l : ReadLeaves a g from m g') {q : Reads} (e : one_read (node_of m) ≡ q) where
+    pub read_at : {i : ℕ} → a ≡ Ok i → ReadsOrCleared true q from g g'
     read_at {i} f = reads_as e true g' (refl, (m, refl, i, g', subst (λ z. ReadLeaves z g from m g') f l, refl))
 
-    pub read_full : a ≡ added.Full → ReadsOrCleared false q from g g'
+    pub read_full : a ≡ full → ReadsOrCleared false q from g g'
     read_full f = let h = subst (λ z. ReadLeaves z g from m g') f l in reads_as e false g' (inr (inl (m, refl, h.0)), h.1)
 
   module _ (p q : Reads) (g₁ : List ℕ) where
@@ -107,11 +108,11 @@ module _ (f : Bytes → Reads) (s : Bytes) (a : ℕ) (from : ℕ) where
 
 -- ---- a head and its reads
 
-module _ (q : Reads) (g : List ℕ) (n : declared.Node) (start : ℕ) (a : A.Added) (g₁ : List ℕ) (l : HeadLeaves a g n start g₁) where
-  pub head_full : a ≡ added.Full → HeadThenReads false q g n start g₁
+module _ (q : Reads) (g : List ℕ) (n : declared.Node) (start : ℕ) (a : Result ℕ Full) (g₁ : List ℕ) (l : HeadLeaves a g n start g₁) where
+  pub head_full : a ≡ full → HeadThenReads false q g n start g₁
   head_full e = let h = subst (λ z. HeadLeaves z g n start g₁) e l in (inl h.0, h.1)
 
-  pub head_reads : {i : ℕ} → a ≡ added.At i → length g₁ ≡ length g → (r : Bool) (g' : List ℕ) → ReadsOrCleared r q i g₁ g' → HeadThenReads r q g n start g'
+  pub head_reads : {i : ℕ} → a ≡ Ok i → length g₁ ≡ length g → (r : Bool) (g' : List ℕ) → ReadsOrCleared r q i g₁ g' → HeadThenReads r q g n start g'
   head_reads {i} e k true g' h = (i, g₁, subst (λ z. HeadLeaves z g n start g₁) e l, h)
   head_reads {i} e k false g' h = (inr (i, g₁, subst (λ z. HeadLeaves z g n start g₁) e l, h.0), as_long g g₁ g' k h.1)
 

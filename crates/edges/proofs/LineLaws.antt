@@ -9,6 +9,7 @@ use native.Mathlib.Omega.{arith}
 use lib.ListN.{drop, get_or}
 use lib.Dec.{ltb}
 use borrow.Author.Tests.{ltb-true}
+use Rattle.std.specs.Prelude.{Result, Ok}
 use Rattle.spec.specs.Bytes.{Bytes, show_number, show_rest, show_form}
 use Rattle.spec.specs.Syntax.{Kind, Expr, Exprs, Index, whole, at_bit, high_low, LValue, wire, drive, Header}
 use Rattle.spec.specs.Show.{show_expr, show_index, show_lvalue, show_item}
@@ -20,9 +21,8 @@ use Rattle.spec.proofs.Nodes.{and_parts}
 use Rattle.spec.proofs.Parts.{number_part}
 use Rattle.spec.proofs.Shown.{expr_shown, lvalue_shown}
 use Rattle.runs.specs.Run.{ShowsItem}
-use Rattle.graph.specs.Stands.{Stands, Heading, Headed}
-use Rattle.graph.specs.declared.Added as A
-use Rattle.graph.specs.declared.Added.TheVariants as added
+use Rattle.graph.specs.Stands.{full, Stands, Heading, Headed}
+use Rattle.graph.specs.declared.Full.{Full}
 use Rattle.lines.specs.Parts.{piece}
 use Rattle.edges.specs.Reads.{kind_word, KindsOf, ReadAll, HeadAll}
 use Rattle.edges.specs.Shows.{ShowsExpr, ShowsExprs, ExprRead, PartsRead}
@@ -32,14 +32,14 @@ use Rattle.edges.proofs.ExprLaws.{and_none}
 use Rattle.edges.proofs.PartLaws.{EndsAt, Ended, ended, ended_next, number_here, both_true}
 
 -- the node that was headed is that of the line
-pub as_headed : (v : A.Added) {i : ℕ} → v ≡ added.At i → (g : List ℕ) (hs : List Head) {m n : Node} {s t : ℕ} → m ≡ n → s ≡ t → Headed v g hs m s → Heading g hs n t [] i
+pub as_headed : (v : Result ℕ Full) {i : ℕ} → v ≡ Ok i → (g : List ℕ) (hs : List Head) {m n : Node} {s t : ℕ} → m ≡ n → s ≡ t → Headed v g hs m s → Heading g hs n t [] i
 as_headed v {i} e g hs {m} {n} {s} {t} p q h =
-    let k : Headed (added.At i) g hs m s = rw e at h in
+    let k : Headed (Ok i) g hs m s = rw e at h in
     rw (← p, ← q) k
 
-pub as_full : (v : A.Added) → v ≡ added.Full → (g : List ℕ) (hs : List Head) {m n : Node} {s t : ℕ} → m ≡ n → s ≡ t → Headed v g hs m s → Headed added.Full g hs n t
+pub as_full : (v : Result ℕ Full) → v ≡ full → (g : List ℕ) (hs : List Head) {m n : Node} {s t : ℕ} → m ≡ n → s ≡ t → Headed v g hs m s → Headed full g hs n t
 as_full v e g hs {m} {n} {s} {t} p q h =
-    let k : Headed added.Full g hs m s = rw e at h in
+    let k : Headed full g hs m s = rw e at h in
     rw (← p, ← q) k
 
 -- ---- `wire_heads`
@@ -70,16 +70,16 @@ module _ (x : Bytes) (d : ℕ) {a : ℕ} (fa : EndsAt x 5 a) {b : ℕ} (fb : End
         here = record { shown = i.here; deep = omega arith; ranged = u.1 };
       }
 
-  module _ (v : A.Added) (g₁ : List ℕ) (headed : (hs : List Head) → Stands g hs → Headed v g₁ hs (signal m) t) where
+  module _ (v : Result ℕ Full) (g₁ : List ℕ) (headed : (hs : List Head) → Stands g hs → Headed v g₁ hs (signal m) t) where
     -- one node too many
-    pub wire_full : v ≡ added.Full → WireHeads false x d kinds names g g₁
+    pub wire_full : v ≡ full → WireHeads false x d kinds names g g₁
     unfolding line_heads
     wire_full e n y start s header w hs k =
         let p = wire_parts n y start s in
         head_full hs (signal n) start (expr_reads y header names) g₁ (as_full v e g₁ hs p.name p.place (headed hs k))
 
     -- the expression is read
-    pub wire_reads : {i : ℕ} → v ≡ added.At i → {u : Bytes} → u ≡ piece x a b → {l : ℕ} → d - 1 ≤ l → (r : Bool) (g' : List ℕ)
+    pub wire_reads : {i : ℕ} → v ≡ Ok i → {u : Bytes} → u ≡ piece x a b → {l : ℕ} → d - 1 ≤ l → (r : Bool) (g' : List ℕ)
         → ExprRead r u l kinds names g₁ g' i → WireHeads r x d kinds names g g'
     unfolding line_heads
     wire_reads {i} e {u} qu {l} ql r g' f n y start s header w hs k =
@@ -189,7 +189,7 @@ module _ (x : Bytes) (d : ℕ) {a : ℕ} (fa : EndsAt x 6 a) {u : Bytes} (qu : u
   drive_high l = drive_none (λ lv q. drives_high k lv q l)
 
   module _ (low : 2 ≤ k) (high : k ≤ 3) {c : ℕ} (fc : EndsAt u b c) {t : ℕ} (qt : t ≡ number_at u b c)
-      (v : A.Added) (g₁ : List ℕ) (headed : (hs : List Head) → Stands g hs → Headed v g₁ hs (signal m) t) where
+      (v : Result ℕ Full) (g₁ : List ℕ) (headed : (hs : List Head) → Stands g hs → Headed v g₁ hs (signal m) t) where
     start_here : (lv : LValue) (e : Expr) → ShowsItem x d (drive lv e) → Ended u b c (show_number lv.start) (show_index lv.index)
     start_here lv e s = ended_next u b (show_index lv.index) (number_part lv.start) (drive_parts lv e s).start_at fc
 
@@ -209,11 +209,11 @@ module _ (x : Bytes) (d : ℕ) {a : ℕ} (fa : EndsAt x 6 a) {u : Bytes} (qu : u
         rw z (f lv e s header w hs h)
 
     -- one node too many
-    pub drive_full : v ≡ added.Full → DriveHeads false x d kinds names g g₁
+    pub drive_full : v ≡ full → DriveHeads false x d kinds names g g₁
     drive_full e = drive_one false g₁ (λ lv y s header w hs h.
         head_full hs (signal lv.name) lv.start (drive_reads header lv y) g₁ (as_full v e g₁ hs (same_node lv y s) (same_start lv y s) (headed hs h)))
 
-    module _ {i : ℕ} (e : v ≡ added.At i) {q : ℕ} (fq : EndsAt x a q) {z : Bytes} (qz : z ≡ piece x a q) {l : ℕ} (ql : l ≡ d - 1) (b₁ : Bool) (g₂ : List ℕ) (f : ExprRead b₁ z l kinds names g₁ g₂ i) where
+    module _ {i : ℕ} (e : v ≡ Ok i) {q : ℕ} (fq : EndsAt x a q) {z : Bytes} (qz : z ≡ piece x a q) {l : ℕ} (ql : l ≡ d - 1) (b₁ : Bool) (g₂ : List ℕ) (f : ExprRead b₁ z l kinds names g₁ g₂ i) where
       -- the expression is read
       first_read : (lv : LValue) (y : Expr) → ShowsItem x d (drive lv y) → (header : List Header) → KindsOf kinds header
           → (hs : List Head) → Stands g hs → ReadAll b₁ g₂ hs (signal lv.name) lv.start [] i (expr_reads y header names)

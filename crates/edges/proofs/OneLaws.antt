@@ -10,13 +10,13 @@ use lib.ListN.{get_or}
 use lib.Dec.{ltb}
 use lib.IntN.{ℤ, pos, negsuc}
 use borrow.Author.Tests.{ltb-true, ltb-false}
+use Rattle.std.specs.Prelude.{Ok}
 use Rattle.spec.specs.Bytes.{Bytes}
 use Rattle.spec.specs.Value.{Value, Names}
 use Rattle.spec.specs.Edge.{Node, signal, inst_out, Reads, Summary}
 use Rattle.consteval.specs.Worth.{biased}
 use Rattle.graph.specs.Table.{unbiased, node_of}
 use Rattle.graph.specs.Leaves.{HeadLeaves, ReadFull, ReadLeaves}
-use Rattle.graph.specs.declared.Added.TheVariants as added
 use Rattle.graph.specs.declared.Node as declared
 use Rattle.graph.specs.declared.Node.TheVariants as nodes
 use Rattle.graph.proofs.Leaving.{one_number, not_placed, one_head, not_read, one_read}
@@ -48,9 +48,9 @@ one_node {m} {k} {n} e f = sym (code_back m) ∙ ap code_of (e ∙ sym f) ∙ co
 
 module _ (from : ℕ) where
   -- the same node read from the same words leaves the same words
-  same_read : (g : List ℕ) {m k : declared.Node} → m ≡ k → {i j : ℕ} (g₁ g₂ : List ℕ) → ReadLeaves (added.At i) g from m g₁ → ReadLeaves (added.At j) g from k g₂ → g₂ ≡ g₁
+  same_read : (g : List ℕ) {m k : declared.Node} → m ≡ k → {i j : ℕ} (g₁ g₂ : List ℕ) → ReadLeaves (Ok i) g from m g₁ → ReadLeaves (Ok j) g from k g₂ → g₂ ≡ g₁
   same_read g {m} {k} e {i} {j} g₁ g₂ p q =
-      sym (one_read g m from (added.At i) (added.At j) g₁ g₂ p (subst (λ (z : declared.Node). ReadLeaves (added.At j) g from z g₂) (sym e) q)).1
+      sym (one_read g m from (Ok i) (Ok j) g₁ g₂ p (subst (λ (z : declared.Node). ReadLeaves (Ok j) g from z g₂) (sym e) q)).1
 
   one_reads : (ns : List Node) (g g' g'' : List ℕ) → ReadsLeave from ns g g' → ReadsLeave from ns g g'' → g' ≡ g''
   one_reads [] g g' g'' p q = p ∙ sym q
@@ -74,12 +74,12 @@ module _ (from : ℕ) where
 
 module _ (g : List ℕ) (n : declared.Node) (start : ℕ) where
   -- the same node headed has the same number and leaves the same words
-  module _ {i j : ℕ} {g₁ g₂ : List ℕ} (p : HeadLeaves (added.At i) g n start g₁) (q : HeadLeaves (added.At j) g n start g₂) where
+  module _ {i j : ℕ} {g₁ g₂ : List ℕ} (p : HeadLeaves (Ok i) g n start g₁) (q : HeadLeaves (Ok j) g n start g₂) where
     same_number : j ≡ i
     same_number = one_number g n q.0 p.0
 
     same_words : g₂ ≡ g₁
-    same_words = (one_head g n start (added.At j) (added.At i) g₂ g₁ q p).1
+    same_words = (one_head g n start (Ok j) (Ok i) g₂ g₁ q p).1
 
     moved : (P : ℕ → List ℕ → Type 0) → P j g₂ → P i g₁
     moved P h = subst (λ (z : List ℕ). P i z) same_words (subst (λ (z : ℕ). P z g₂) same_number h)

@@ -10,6 +10,7 @@ use lib.ListN.{drop, get_or}
 use lib.Dec.{ltb}
 use lib.IntN.{ℤ}
 use borrow.Author.Tests.{ltb-true, eq-eqb, ne_eqb}
+use Rattle.std.specs.Prelude.{Result, Ok}
 use Rattle.spec.specs.Bytes.{Bytes, show_number, show_rest, show_form}
 use Rattle.spec.specs.Syntax.{Expr, lit, truth, name, field, index, if_else, unary, binary, all, Place, single, at, Conn, Inst, inst, Header}
 use Rattle.spec.specs.Show.{show_expr, show_place, show_conns, show_item}
@@ -23,9 +24,8 @@ use Rattle.spec.proofs.Parts.{number_part}
 use Rattle.spec.proofs.Shown.{expr_shown, place_shown, conn_shown}
 use Rattle.runs.specs.Run.{ShowsItem}
 use Rattle.graph.specs.Table.{unbiased}
-use Rattle.graph.specs.Stands.{Stands, Headed}
-use Rattle.graph.specs.declared.Added as A
-use Rattle.graph.specs.declared.Added.TheVariants as added
+use Rattle.graph.specs.Stands.{full, Stands, Headed}
+use Rattle.graph.specs.declared.Full.{Full}
 use Rattle.consteval.specs.Worth.{worth}
 use Rattle.consteval.specs.declared.Value.{Value as Answer}
 use Rattle.consteval.specs.declared.Value.TheVariants.{Known, Missing, Outside}
@@ -262,7 +262,7 @@ module _ (o : ℕ) (z : Value) (s : Summary) (x : Bytes) (d : ℕ) (kinds : List
     {a : ℕ} (fa : EndsAt x 5 a) {b : ℕ} (fb : EndsAt x a b) {c : ℕ} (fc : EndsAt x b c) {e : ℕ} (fe : EndsAt x c e)
     {m : ℕ} (qm : m ≡ number_at x 5 a) {nd : Node} (qn : nd ≡ inst_out m (index_of z) o)
     {t : ℕ} (qt : t ≡ number_at x c e)
-    (v : A.Added) (g₁ : List ℕ) (headed : (hs : List Head) → Stands g hs → Headed v g₁ hs nd t) where
+    (v : Result ℕ Full) (g₁ : List ℕ) (headed : (hs : List Head) → Stands g hs → Headed v g₁ hs nd t) where
   node_here : (i : Inst) → ShowsItem x d (inst i) → nd ≡ inst_out i.name (index_of z) o
   node_here i h =
       let r = (ranged x d i h fa fb).name_small in
@@ -274,12 +274,12 @@ module _ (o : ℕ) (z : Value) (s : Summary) (x : Bytes) (d : ℕ) (kinds : List
       number_here x c e i.start (start_at x d i h fa fb fc fe) (omega arith) qt
 
   -- one node too many
-  pub output_full : v ≡ added.Full → OutputHead false o z s x d kinds names g g₁
+  pub output_full : v ≡ full → OutputHead false o z s x d kinds names g g₁
   output_full f i h header w hs k =
       head_full hs (inst_out i.name (index_of z) o) i.start (conn_reads header names s o i.conns) g₁ (as_full v f g₁ hs (node_here i h) (start_here i h) (headed hs k))
 
   -- the connections are read
-  pub output_reads : {j : ℕ} → v ≡ added.At j → {l : ℕ} → l ≡ d - 2 → (r : Bool) (g' : List ℕ) → ConnsRead r o s (drop e x) l kinds names g₁ g' j → OutputHead r o z s x d kinds names g g'
+  pub output_reads : {j : ℕ} → v ≡ Ok j → {l : ℕ} → l ≡ d - 2 → (r : Bool) (g' : List ℕ) → ConnsRead r o s (drop e x) l kinds names g₁ g' j → OutputHead r o z s x d kinds names g g'
   unfolding item_depth
   output_reads {j} f {l} ql r g' p i h header w hs k =
       let y : suc (max (place_depth i.place) (conns_depth i.conns)) ≤ d = h.deep in

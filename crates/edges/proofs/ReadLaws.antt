@@ -5,11 +5,11 @@ use mathlib.Core.Bool.{Bool, true, false, ◌||◌, or-true}
 use mathlib.Core.Logic.{◌⊎◌, inl, inr}
 use mathlib.Core.List.{List, [], ◌∷◌, ◌++◌, append-nil, append_assoc}
 use Prim.Native.Nat.{ℕ}
+use Rattle.std.specs.Prelude.{Result, Ok, Err}
 use Rattle.spec.specs.Edge.{Node, Reads, no_reads, and_reads, Head, Heads, no_heads, one_head, over_graph}
 use Rattle.spec.proofs.Nodes.{or_parts}
-use Rattle.graph.specs.Stands.{Stands, Heading, head_of, Headed, Read}
-use Rattle.graph.specs.declared.Added as A
-use Rattle.graph.specs.declared.Added.TheVariants as added
+use Rattle.graph.specs.Stands.{full, Stands, Heading, head_of, Headed, Read}
+use Rattle.graph.specs.declared.Full.{Full}
 use Rattle.graph.proofs.Limits.{over_behind, over_reads}
 use Rattle.edges.specs.Reads.{ReadAll, HeadAll}
 
@@ -34,10 +34,10 @@ module _ (hs : List Head) (n : Node) (start i : ℕ) where
   read_none g rs h = (rw (append-nil rs) h, refl)
 
   -- one node is read
-  pub read_one : (a : A.Added) (b : Bool) (g : List ℕ) (rs : List Node) (m : Node) → Read a g hs n start rs i m → ((j : ℕ) → a ≡ added.At j → b ≡ true) → (a ≡ added.Full → b ≡ false)
+  pub read_one : (a : Result ℕ Full) (b : Bool) (g : List ℕ) (rs : List Node) (m : Node) → Read a g hs n start rs i m → ((j : ℕ) → a ≡ Ok j → b ≡ true) → (a ≡ full → b ≡ false)
       → ReadAll b g hs n start rs i (record { nodes = m ∷ []; out = false })
-  read_one (added.At j) b g rs m r p q = rw (p j refl) (r, refl)
-  read_one added.Full b g rs m r p q = rw (q refl) r
+  read_one (Ok j) b g rs m r p q = rw (p j refl) (r, refl)
+  read_one (Err e) b g rs m r p q = rw (q refl) r
 
   -- an index is outside INT
   pub read_out : (g : List ℕ) (rs : List Node) → ReadAll false g hs n start rs i (record { nodes = []; out = true })
@@ -65,7 +65,7 @@ module _ (hs : List Head) (n : Node) (start : ℕ) (q : Reads) where
   head_one false g i r = r
 
   -- its node is one too many
-  pub head_full : (g : List ℕ) → Headed added.Full g hs n start → HeadAll false g hs (one_head n start q)
+  pub head_full : (g : List ℕ) → Headed full g hs n start → HeadAll false g hs (one_head n start q)
   head_full g e = true_right q.out _ (over_reads hs n start [] q.nodes e)
 
 module _ (hs : List Head) where

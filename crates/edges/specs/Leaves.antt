@@ -2,13 +2,12 @@
 -- 01: The line; The site; The edge; The walk; Refused because of the state; Worthless checks.
 -- To a reader: definitions that contracts of this and other crates cite; each such contract is proved; OneWire, OneDrive and OneInst are statements,
 -- proved in proofs/OneLaws (one_wire, one_drive, one_inst); check_drivers' own promise cites none of them.
-use Rattle.std.specs.Prelude.{◌≡◌, Bool, true, false, ◌⊎◌, List, [], ◌∷◌, ℕ, ◌<◌, ◌≤◌, length, get_or, replicate}
+use Rattle.std.specs.Prelude.{◌≡◌, Bool, true, false, ◌⊎◌, List, [], ◌∷◌, ℕ, ◌<◌, ◌≤◌, length, get_or, replicate, Ok}
 use Rattle.spec.specs.Bytes.{Bytes}
 use Rattle.spec.specs.Value.{Value, Names}
 use Rattle.spec.specs.Edge.{Node, Reads, inst_out, Summary, index_of, has_output}
 use Rattle.graph.specs.Table.{node_of}
 use Rattle.graph.specs.Leaves.{NoPlace, HeadLeaves, ReadFull, ReadLeaves}
-use Rattle.graph.specs.declared.Added.TheVariants as added
 use Rattle.graph.specs.declared.Node as declared
 use Rattle.graph.specs.declared.Node.TheVariants as nodes
 use Rattle.edges.specs.Lines.{end_behind, number_at, name_end, module_end}
@@ -18,14 +17,14 @@ use Rattle.edges.specs.Total.{wire_reads, drive_lv, drive_reads, inst_reads}
 -- ReadLeaves says
 abbrev pub ReadsLeave : ℕ → List Node → List ℕ → List ℕ → Type 0
 ReadsLeave from [] g g' = g' ≡ g
-ReadsLeave from (n ∷ ns) g g' = (m : declared.Node) × (node_of m ≡ n) × (i : ℕ) × (g₁ : List ℕ) × ReadLeaves (added.At i) g from m g₁ × ReadsLeave from ns g₁ g'
+ReadsLeave from (n ∷ ns) g g' = (m : declared.Node) × (node_of m ≡ n) × (i : ℕ) × (g₁ : List ℕ) × ReadLeaves (Ok i) g from m g₁ × ReadsLeave from ns g₁ g'
 
 -- 01, Refused because of the state: reading one of the nodes ns, after those before it, is refused: the node or its edge is one too many
 abbrev pub FullAmong : ℕ → List Node → List ℕ → Type 0
 FullAmong from [] g = ⊥
 FullAmong from (n ∷ ns) g =
     ((m : declared.Node) × (node_of m ≡ n) × ReadFull g from m)
-    ⊎ ((m : declared.Node) × (node_of m ≡ n) × (i : ℕ) × (g₁ : List ℕ) × ReadLeaves (added.At i) g from m g₁ × FullAmong from ns g₁)
+    ⊎ ((m : declared.Node) × (node_of m ≡ n) × (i : ℕ) × (g₁ : List ℕ) × ReadLeaves (Ok i) g from m g₁ × FullAmong from ns g₁)
 
 -- 01, Refused because of the state: reading q is refused: an index is outside INT, or a node or an edge is one too many
 abbrev pub ReadsRefused : Reads → ℕ → List ℕ → Type 0
@@ -40,12 +39,12 @@ ReadsOrCleared false q from g g' = ReadsRefused q from g × (g' ≡ replicate (l
 -- 01, Refused because of the state: heading the node n at this START and then reading q is refused: n has no place; or it is headed, and reading is
 -- refused
 abbrev pub HeadRefused : Reads → List ℕ → declared.Node → ℕ → Type 0
-HeadRefused q g n start = NoPlace g n ⊎ ((i : ℕ) × (g₁ : List ℕ) × HeadLeaves (added.At i) g n start g₁ × ReadsRefused q i g₁)
+HeadRefused q g n start = NoPlace g n ⊎ ((i : ℕ) × (g₁ : List ℕ) × HeadLeaves (Ok i) g n start g₁ × ReadsRefused q i g₁)
 
 -- 01, The edge; The walk; Refused because of the state; Worthless checks: what heading the node n at this START and then reading q leave, by the
 -- answer: the head's node i, which reads q; or it is refused, and every word is 0
 abbrev pub HeadThenReads : Bool → Reads → List ℕ → declared.Node → ℕ → List ℕ → Type 0
-HeadThenReads true q g n start g' = (i : ℕ) × (g₁ : List ℕ) × HeadLeaves (added.At i) g n start g₁ × ReadsOrCleared true q i g₁ g'
+HeadThenReads true q g n start g' = (i : ℕ) × (g₁ : List ℕ) × HeadLeaves (Ok i) g n start g₁ × ReadsOrCleared true q i g₁ g'
 HeadThenReads false q g n start g' = HeadRefused q g n start × (g' ≡ replicate (length g) 0)
 
 -- 01, The line: `(wire NAME E START)`: the number that stands at NAME, whatever the bytes are

@@ -15,7 +15,7 @@ ghost use Rattle.edges.specs.Total.{field_by, field_read, expr_read, parts_read,
 ghost use Rattle.edges.specs.Leaves.{ReadsOrCleared, WireLeaves, DriveLeaves, OutputLeaves, InstLeaves};
 
 use consteval::Value;
-use graph::{Added, Node};
+use graph::Node;
 use lines::bytes::{is_minus, is_open, is_space};
 use lines::{numbers, parts};
 
@@ -32,8 +32,8 @@ fn name_read(kinds: &[u8], n: u32, g: &mut [u32], from: u32) -> bool
         return true;
     }
     match graph::read(g, from, Node::Signal(n)) {
-        Added::At(_) => true,
-        Added::Full => false,
+        Ok(_) => true,
+        Err(_) => false,
     }
 }
 
@@ -135,8 +135,8 @@ fn output_read(i: u32, p: u32, g: &mut [u32], from: u32) -> bool
     ensures reads_or_cleared { ReadsOrCleared result (one_read (inst_out i none p)) from g.old g.new }
 {
     match graph::read(g, from, Node::Output(i, p)) {
-        Added::At(_) => true,
-        Added::Full => false,
+        Ok(_) => true,
+        Err(_) => false,
     }
 }
 
@@ -157,8 +157,8 @@ fn index_read(
 {
     match consteval::eval(e, depth, names, used) {
         Value::Known(v) => match graph::read(g, from, Node::OutputAt(i, v, p)) {
-            Added::At(_) => true,
-            Added::Full => false,
+            Ok(_) => true,
+            Err(_) => false,
         },
         Value::Missing => true,
         Value::Outside => {
@@ -303,7 +303,7 @@ pub fn wire_heads(
     let n = number_at(x, 5, a);
     let start = number_at(x, b, next_end(x, b));
     match graph::head(g, Node::Signal(n), start) {
-        Added::At(i) => {
+        Ok(i) => {
             expr_reads(
                 parts::between(x, a, b),
                 under(depth, 1),
@@ -314,7 +314,7 @@ pub fn wire_heads(
                 i,
             )
         }
-        Added::Full => false,
+        Err(_) => false,
     }
 }
 
@@ -347,14 +347,14 @@ pub fn drive_heads(
     let c = next_end(lv, b);
     let start = number_at(lv, b, c);
     match graph::head(g, Node::Signal(n), start) {
-        Added::At(i) => {
+        Ok(i) => {
             let e = parts::between(x, a, next_end(x, a));
             if !expr_reads(e, under(depth, 1), kinds, names, used, g, i) {
                 return false;
             }
             parts_read(lv, c, under(depth, 2), kinds, names, used, g, i)
         }
-        Added::Full => false,
+        Err(_) => false,
     }
 }
 
@@ -540,7 +540,7 @@ fn output_head(
     let end = next_end(x, c);
     let n = output_node(number_at(x, 5, a), index, o);
     match graph::head(g, n, number_at(x, c, end)) {
-        Added::At(i) => conns_read(
+        Ok(i) => conns_read(
             x,
             end,
             under(depth, 2),
@@ -554,7 +554,7 @@ fn output_head(
             g,
             i,
         ),
-        Added::Full => false,
+        Err(_) => false,
     }
 }
 

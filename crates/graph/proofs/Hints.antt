@@ -4,12 +4,12 @@ use mathlib.Core.List.{List}
 use Prim.Native.Nat.{ℕ, ◌+◌, ◌<◌, ◌≤◌}
 use native.Mathlib.Omega.{arith}
 use lib.ListN.{length, get_or, set, length-set}
+use Rattle.std.specs.Prelude.{Result, Ok, Err}
 use Rattle.spec.specs.Graph.{Once}
 use Rattle.spec.specs.Edge.{Node, Head, edges_from}
 use Rattle.graph.specs.Table.{count, edge_total, node_at, Found}
 use Rattle.graph.specs.Stands.{nodes, Holds, Stands, IsNode, Got}
-use Rattle.graph.specs.declared.Added as A
-use Rattle.graph.specs.declared.Added.TheVariants as added
+use Rattle.graph.specs.declared.Full.{Full}
 use Rattle.graph.proofs.Tables.{miss, linked_same}
 use Rattle.graph.proofs.Stands.{one_number, node_same, Alike, alike_nodes, alike_edges, alike_source, alike_target}
 
@@ -81,13 +81,13 @@ module _ (g : List ℕ) (s v : ℕ) {g' : List ℕ} (d : g' ≡ set g (15874 + s
     }
 
   -- `add` from where the hint is stored
-  pub add_hinted : (n : Node) (i : ℕ) → (Once (nodes g) → Found g n i) → (r : A.Added) (h : List ℕ)
+  pub add_hinted : (n : Node) (i : ℕ) → (Once (nodes g) → Found g n i) → (r : Result ℕ Full) (h : List ℕ)
       → (Found g' n i → (hs : List Head) → Stands g' hs → Got r g' h hs n) → (hs : List Head) → Stands g hs → Got r g h hs n
   add_hinted n i F r h f hs H = go r (f (found_frame H (F H.once)) hs (hint_frame H))
     where
       kept : (j : ℕ) (m : Node) → IsNode g j m → IsNode g' j m
       kept j m q = record { within = let l = q.within in omega (arith, (alike H).counts); same = (alike H).same j q.within ∙ q.same }
 
-      go : (r : A.Added) → Got r g' h hs n → Got r g h hs n
-      go (added.At k) (p, q, t) = (p, q, λ j m z. t j m (kept j m z))
-      go added.Full (c, x) = (sym (alike H).counts ∙ c, λ z. x (rw (alike_nodes (alike H) (fw H)) z))
+      go : (r : Result ℕ Full) → Got r g' h hs n → Got r g h hs n
+      go (Ok k) (p, q, t) = (p, q, λ j m z. t j m (kept j m z))
+      go (Err e) (c, x) = (sym (alike H).counts ∙ c, λ z. x (rw (alike_nodes (alike H) (fw H)) z))

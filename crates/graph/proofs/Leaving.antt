@@ -8,14 +8,14 @@ use native.Mathlib.Omega.{arith}
 use lib.ListN.{length, get_or, set, length-set, replicate}
 use lib.Dec.{eqb, ltb}
 use borrow.Author.Tests.{lt-ltb, le-ltb, ltb-true, ltb-false, eq-eqb, ne_eqb, eqb-true, eqb-false}
+use Rattle.std.specs.Prelude.{Result, Ok, Err}
 use Rattle.spec.specs.Graph.{Once}
 use Rattle.spec.specs.Edge.{Node, Head, over_graph, same_node}
 use Rattle.spec.proofs.Nodes.{same_node_yes}
 use Rattle.graph.specs.Table.{node_of, count, edge_total, headed_at, node_at, Found, stored, edge_there, pushed, slot_of, hint, first_from, number_in}
-use Rattle.graph.specs.Stands.{nodes, Stands, Heading, head_of, Headed, Read, number_of, heads_number, ClearedAtFull}
+use Rattle.graph.specs.Stands.{full, nodes, Stands, Heading, head_of, Headed, Read, number_of, heads_number, ClearedAtFull}
 use Rattle.graph.specs.Leaves.{one_more, hinted, with_node, with_head, with_edge, Numbered, NoPlace, Placed, HeadLeaves, Edged, NoEdge, ReadFull, ReadLeaves, OneHead, OneRead}
-use Rattle.graph.specs.declared.Added as A
-use Rattle.graph.specs.declared.Added.TheVariants as added
+use Rattle.graph.specs.declared.Full.{Full}
 use Rattle.graph.specs.declared.Node as D
 use Rattle.graph.specs.declared.Node.TheVariants as kinds
 use Rattle.graph.proofs.Tables.{pick_true, pick_false, miss}
@@ -166,17 +166,17 @@ module _ (g : List ℕ) (n : D.Node) (i h : ℕ) (ei : i ≡ number_in g n) (eh 
   unfolding hinted
   looked = e ∙ ap (λ z. set g (15874 + z) i) eh ∙ ap (set g (15874 + slot_of n)) ei
 
-  pub placed_old : i < c → Placed (added.At i) g n g₁
+  pub placed_old : i < c → Placed (Ok i) g n g₁
   unfolding with_node
   placed_old l = (
     record { number = ei; new = λ a. absurd (omega (arith, counted)) },
     looked ∙ sym (pick_true (ltb (number_in g n) (count g)) _ _ (lt-ltb (number_in g n) (count g) (omega (arith, ei, counted)))),
   )
 
-  pub placed_full : c ≤ i → 512 ≤ c → Placed added.Full g n g₁
+  pub placed_full : c ≤ i → 512 ≤ c → Placed full g n g₁
   placed_full l f = (record { many = omega (arith, counted); none = (number_located g n i ei).none (omega (arith, counted)) }, looked)
 
-  pub placed_new : c ≤ i → c < 512 → {g₂ : List ℕ} → g₂ ≡ one_more g₁ n → Placed (added.At c) g n g₂
+  pub placed_new : c ≤ i → c < 512 → {g₂ : List ℕ} → g₂ ≡ one_more g₁ n → Placed (Ok c) g n g₂
   unfolding with_node
   placed_new l f {g₂} d =
       let q : c ≡ i = let w = (number_located g n i ei).within in omega (arith, counted) in (
@@ -185,29 +185,29 @@ module _ (g : List ℕ) (n : D.Node) (i h : ℕ) (ei : i ≡ number_in g n) (eh 
       )
 
 -- the ways of `head` and `read` from where the node is placed
-module _ (a : A.Added) (g : List ℕ) (n : D.Node) (g₁ : List ℕ) (P : Placed a g n g₁) where
-  full : a ≡ added.Full → NoPlace g n × (g₁ ≡ hinted g n)
-  full e = subst (λ (x : A.Added). Placed x g n g₁) e P
+module _ (a : Result ℕ Full) (g : List ℕ) (n : D.Node) (g₁ : List ℕ) (P : Placed a g n g₁) where
+  unplaced : a ≡ full → NoPlace g n × (g₁ ≡ hinted g n)
+  unplaced e = subst (λ (x : Result ℕ Full). Placed x g n g₁) e P
 
-  full_size : a ≡ added.Full → length g₁ ≡ length g
-  full_size e = ap length (full e).1 ∙ hinted_size g n
+  full_size : a ≡ full → length g₁ ≡ length g
+  full_size e = ap length (unplaced e).1 ∙ hinted_size g n
 
   cleared : {g₂ : List ℕ} → length g₁ ≡ length g → g₂ ≡ replicate (length g₁) 0 → g₂ ≡ replicate (length g) 0
   cleared q d = d ∙ ap (λ z. replicate {A = ℕ} z 0) q
 
-  module _ (i : ℕ) (e : a ≡ added.At i) where
+  module _ (i : ℕ) (e : a ≡ Ok i) where
     there : Numbered g n i × (g₁ ≡ with_node g n)
-    there = subst (λ (x : A.Added). Placed x g n g₁) e P
+    there = subst (λ (x : Result ℕ Full). Placed x g n g₁) e P
 
     size : length g₁ ≡ length g
     size = ap length there.1 ∙ with_node_size g n
 
   module _ (start : ℕ) where
-    pub headed_full : a ≡ added.Full → {g₂ : List ℕ} → g₂ ≡ replicate (length g₁) 0 → HeadLeaves added.Full g n start g₂
-    headed_full e d = ((full e).0, cleared (full_size e) d)
+    pub headed_full : a ≡ full → {g₂ : List ℕ} → g₂ ≡ replicate (length g₁) 0 → HeadLeaves full g n start g₂
+    headed_full e d = ((unplaced e).0, cleared (full_size e) d)
 
-    module _ (i : ℕ) (e : a ≡ added.At i) {x : ℕ} (ex : x ≡ headed_at g₁ i) where
-      pub headed_new : x ≡ 0 → {g₂ g₃ : List ℕ} → g₂ ≡ set g₁ (2562 + i) 1 → g₃ ≡ set g₂ (2050 + i) start → HeadLeaves (added.At i) g n start g₃
+    module _ (i : ℕ) (e : a ≡ Ok i) {x : ℕ} (ex : x ≡ headed_at g₁ i) where
+      pub headed_new : x ≡ 0 → {g₂ g₃ : List ℕ} → g₂ ≡ set g₁ (2562 + i) 1 → g₃ ≡ set g₂ (2050 + i) start → HeadLeaves (Ok i) g n start g₃
       unfolding with_head
       headed_new z p q =
           let t = there i e in (
@@ -216,37 +216,37 @@ module _ (a : A.Added) (g : List ℕ) (n : D.Node) (g₁ : List ℕ) (P : Placed
                 ∙ ap (λ v. with_head v i start) t.1,
           )
 
-      pub headed_old : ¬ (x ≡ 0) → HeadLeaves (added.At i) g n start g₁
+      pub headed_old : ¬ (x ≡ 0) → HeadLeaves (Ok i) g n start g₁
       unfolding with_head
       headed_old z =
           let t = there i e in
           (t.0, sym (pick_false (eqb (headed_at g₁ i) 0) _ _ (ne_eqb (headed_at g₁ i) 0 (λ c. z (ex ∙ c)))) ∙ ap (λ v. with_head v i start) t.1)
 
   module _ (from : ℕ) where
-    pub read_no_node : a ≡ added.Full → {g₂ : List ℕ} → g₂ ≡ replicate (length g₁) 0 → ReadLeaves added.Full g from n g₂
-    read_no_node e d = (inl (full e).0, cleared (full_size e) d)
+    pub read_no_node : a ≡ full → {g₂ : List ℕ} → g₂ ≡ replicate (length g₁) 0 → ReadLeaves full g from n g₂
+    read_no_node e d = (inl (unplaced e).0, cleared (full_size e) d)
 
-    module _ (i : ℕ) (e : a ≡ added.At i) {r : Bool} (er : r ≡ edge_there g₁ 3074 from i) where
+    module _ (i : ℕ) (e : a ≡ Ok i) {r : Bool} (er : r ≡ edge_there g₁ 3074 from i) where
       told : edge_there (with_node g n) 3074 from i ≡ r
       told = sym (er ∙ ap (λ z. edge_there z 3074 from i) (there i e).1)
 
-      as_told : (v : Bool) → r ≡ v → (g₂ : List ℕ) → Edged v (with_node g n) from i g₂ → ReadLeaves (added.At i) g from n g₂
+      as_told : (v : Bool) → r ≡ v → (g₂ : List ℕ) → Edged v (with_node g n) from i g₂ → ReadLeaves (Ok i) g from n g₂
       as_told v f g₂ d = ((there i e).0, subst (λ (x : Bool). Edged x (with_node g n) from i g₂) (sym (told ∙ f)) d)
 
-      pub read_edge_there : r ≡ true → ReadLeaves (added.At i) g from n g₁
+      pub read_edge_there : r ≡ true → ReadLeaves (Ok i) g from n g₁
       read_edge_there f = as_told true f g₁ (there i e).1
 
       module _ (f : r ≡ false) {x : ℕ} (ex : x ≡ edge_total g₁) where
         total : x ≡ edge_total (with_node g n)
         total = ex ∙ ap (λ z. edge_total z) (there i e).1
 
-        pub read_no_edge : 4096 ≤ x → {g₂ : List ℕ} → g₂ ≡ replicate (length g₁) 0 → ReadLeaves added.Full g from n g₂
+        pub read_no_edge : 4096 ≤ x → {g₂ : List ℕ} → g₂ ≡ replicate (length g₁) 0 → ReadLeaves full g from n g₂
         read_no_edge l d =
             let N = (there i e).0 in
             let E : NoEdge (with_node g n) from i = record { none = told ∙ f; many = omega (arith, total) } in
             (inr (subst (λ z. Numbered g n z × NoEdge (with_node g n) from z) N.number (N, E)), cleared (size i e) d)
 
-        pub read_edge_new : x < 4096 → {g₂ g₃ : List ℕ} → g₂ ≡ pushed g₁ 3074 x from i → g₃ ≡ set g₂ 1 (x + 1) → ReadLeaves (added.At i) g from n g₃
+        pub read_edge_new : x < 4096 → {g₂ g₃ : List ℕ} → g₂ ≡ pushed g₁ 3074 x from i → g₃ ≡ set g₂ 1 (x + 1) → ReadLeaves (Ok i) g from n g₃
         unfolding with_edge
         read_edge_new l {g₂} {g₃} p q =
             as_told false f g₃
@@ -265,19 +265,19 @@ module _ (g : List ℕ) (n : D.Node) where
       omega arith
 
   pub one_head : (start : ℕ) → OneHead g n start
-  one_head start (added.At i) (added.At j) g' g'' p q =
+  one_head start (Ok i) (Ok j) g' g'' p q =
       let e = one_number p.0 q.0 in
-      (ap {B = A.Added} (λ z. added.At z) e, p.1 ∙ ap (λ z. with_head (with_node g n) z start) e ∙ sym q.1)
-  one_head start (added.At i) added.Full g' g'' p q = absurd (not_placed p.0 q.0)
-  one_head start added.Full (added.At j) g' g'' p q = absurd (not_placed q.0 p.0)
-  one_head start added.Full added.Full g' g'' p q = (refl, p.1 ∙ sym q.1)
+      (ap {B = Result ℕ Full} (λ z. Ok z) e, p.1 ∙ ap (λ z. with_head (with_node g n) z start) e ∙ sym q.1)
+  one_head start (Ok i) (Err d) g' g'' p q = absurd (not_placed p.0 q.0)
+  one_head start (Err e) (Ok j) g' g'' p q = absurd (not_placed q.0 p.0)
+  one_head start (Err e) (Err d) g' g'' p q = (refl, p.1 ∙ sym q.1)
 
   module _ (from : ℕ) where
     one_edged : (v : Bool) (i : ℕ) (g' g'' : List ℕ) → Edged v (with_node g n) from i g' → Edged v (with_node g n) from i g'' → g' ≡ g''
     one_edged true i g' g'' p q = p ∙ sym q
     one_edged false i g' g'' p q = p.1 ∙ sym q.1
 
-    pub not_read : (i : ℕ) (g' : List ℕ) → ReadLeaves (added.At i) g from n g' → ReadFull g from n → ⊥
+    pub not_read : (i : ℕ) (g' : List ℕ) → ReadLeaves (Ok i) g from n g' → ReadFull g from n → ⊥
     not_read i g' p (inl P) = not_placed p.0 P
     not_read i g' p (inr M) =
         let E : NoEdge (with_node g n) from i = subst (λ z. NoEdge (with_node g n) from z) (sym p.0.number) M.1 in
@@ -286,33 +286,33 @@ module _ (g : List ℕ) (n : D.Node) where
         omega (arith, x.0)
 
     pub one_read : OneRead g from n
-    one_read (added.At i) (added.At j) g' g'' p q =
+    one_read (Ok i) (Ok j) g' g'' p q =
         let e = one_number p.0 q.0 in (
-          ap {B = A.Added} (λ z. added.At z) e,
+          ap {B = Result ℕ Full} (λ z. Ok z) e,
           one_edged (edge_there (with_node g n) 3074 from i) i g' g'' p.1
               (subst (λ z. Edged (edge_there (with_node g n) 3074 from z) (with_node g n) from z g'') (sym e) q.1),
         )
-    one_read (added.At i) added.Full g' g'' p q = absurd (not_read i g' p q.0)
-    one_read added.Full (added.At j) g' g'' p q = absurd (not_read j g'' q p.0)
-    one_read added.Full added.Full g' g'' p q = (refl, p.1 ∙ sym q.1)
+    one_read (Ok i) (Err d) g' g'' p q = absurd (not_read i g' p q.0)
+    one_read (Err e) (Ok j) g' g'' p q = absurd (not_read j g'' q p.0)
+    one_read (Err e) (Err d) g' g'' p q = (refl, p.1 ∙ sym q.1)
 
 -- the number of an answer is that of the heads
-headed_number : (a : A.Added) (g' : List ℕ) (hs : List Head) (n : Node) (start : ℕ) → Headed a g' hs n start → number_of a ≡ heads_number (hs ++ head_of n start [] ∷ [])
-headed_number (added.At i) g' hs n start H = sym (pick_false (over_graph (hs ++ head_of n start [] ∷ [])) 20 0 (stands_within (hs ++ head_of n start [] ∷ []) H.stands))
-headed_number added.Full g' hs n start H = sym (pick_true (over_graph (hs ++ head_of n start [] ∷ [])) 20 0 H)
+headed_number : (a : Result ℕ Full) (g' : List ℕ) (hs : List Head) (n : Node) (start : ℕ) → Headed a g' hs n start → number_of a ≡ heads_number (hs ++ head_of n start [] ∷ [])
+headed_number (Ok i) g' hs n start H = sym (pick_false (over_graph (hs ++ head_of n start [] ∷ [])) 20 0 (stands_within (hs ++ head_of n start [] ∷ []) H.stands))
+headed_number (Err e) g' hs n start H = sym (pick_true (over_graph (hs ++ head_of n start [] ∷ [])) 20 0 H)
 
-read_number : (a : A.Added) (g' : List ℕ) (hs : List Head) (x : Node) (start : ℕ) (rs : List Node) (i : ℕ) (m : Node) → Read a g' hs x start rs i m
+read_number : (a : Result ℕ Full) (g' : List ℕ) (hs : List Head) (x : Node) (start : ℕ) (rs : List Node) (i : ℕ) (m : Node) → Read a g' hs x start rs i m
     → number_of a ≡ heads_number (hs ++ head_of x start (rs ++ m ∷ []) ∷ [])
-read_number (added.At j) g' hs x start rs i m H = sym (pick_false (over_graph (hs ++ head_of x start (rs ++ m ∷ []) ∷ [])) 20 0 (stands_within (hs ++ head_of x start (rs ++ m ∷ []) ∷ []) H.stands))
-read_number added.Full g' hs x start rs i m H = sym (pick_true (over_graph (hs ++ head_of x start (rs ++ m ∷ []) ∷ [])) 20 0 H)
+read_number (Ok j) g' hs x start rs i m H = sym (pick_false (over_graph (hs ++ head_of x start (rs ++ m ∷ []) ∷ [])) 20 0 (stands_within (hs ++ head_of x start (rs ++ m ∷ []) ∷ []) H.stands))
+read_number (Err e) g' hs x start rs i m H = sym (pick_true (over_graph (hs ++ head_of x start (rs ++ m ∷ []) ∷ [])) 20 0 H)
 
 -- all that `head` and `read` promise, from what they say of a graph and of any words
-pub headed_all : (a : A.Added) (g : List ℕ) (n : D.Node) (start : ℕ) (g' : List ℕ) → ((hs : List Head) → Stands g hs → Headed a g' hs (node_of n) start) → ClearedAtFull a g' → HeadLeaves a g n start g'
+pub headed_all : (a : Result ℕ Full) (g : List ℕ) (n : D.Node) (start : ℕ) (g' : List ℕ) → ((hs : List Head) → Stands g hs → Headed a g' hs (node_of n) start) → ClearedAtFull a g' → HeadLeaves a g n start g'
     → ((hs : List Head) → Stands g hs → Headed a g' hs (node_of n) start)
     × (ClearedAtFull a g' × (HeadLeaves a g n start g' × ((hs : List Head) → Stands g hs → number_of a ≡ heads_number (hs ++ head_of (node_of n) start [] ∷ []))))
 headed_all a g n start g' f z l = (f, (z, (l, λ hs H. headed_number a g' hs (node_of n) start (f hs H))))
 
-pub read_all : (a : A.Added) (g : List ℕ) (n : D.Node) (from : ℕ) (g' : List ℕ)
+pub read_all : (a : Result ℕ Full) (g : List ℕ) (n : D.Node) (from : ℕ) (g' : List ℕ)
     → ((hs : List Head) (x : Node) (start : ℕ) (rs : List Node) → Heading g hs x start rs from → Read a g' hs x start rs from (node_of n)) → ClearedAtFull a g' → ReadLeaves a g from n g'
     → ((hs : List Head) (x : Node) (start : ℕ) (rs : List Node) → Heading g hs x start rs from → Read a g' hs x start rs from (node_of n))
     × (ClearedAtFull a g' × (ReadLeaves a g from n g'

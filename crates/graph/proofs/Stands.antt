@@ -12,6 +12,7 @@ use lib.ListN.{length, get_or, set, length-set}
 use lib.Seq.{get_or-set_same}
 use lib.Dec.{eqb, ltb}
 use borrow.Author.Tests.{lt-ltb, le-ltb, eqb-true, eqb-false, eq-eqb, ne_eqb}
+use Rattle.std.specs.Prelude.{Result, Ok, Err}
 use Rattle.spec.specs.Graph.{◌∈◌, Once}
 use Rattle.spec.specs.DepthFirst.{among, each_once}
 use Rattle.spec.specs.Edge.{Node, same_node, Head, all_nodes, head_nodes, all_reads, reads_of, edges_from, edge_count, over_graph}
@@ -21,13 +22,17 @@ use Rattle.spec.proofs.Nodes.{same_node_yes, node_in, headed_all, read_all}
 use Rattle.spec.proofs.Lists.{among_yes, among_no}
 use Rattle.spec.proofs.HeadLaws.{true_left, true_right}
 use Rattle.graph.specs.Table.{count, edge_total, node_words, node_at, start_at, headed_at, nodes_below, source, target, edges_below, out, Linked, pushed, stored, Found, node_of}
-use Rattle.graph.specs.Stands.{nodes, edges, Holds, Stands, IsNode, Heading, head_of, Got, Headed, Read}
+use Rattle.graph.specs.Stands.{nodes, edges, Holds, Stands, IsNode, Heading, head_of, Got, Headed, Read, full}
 use Rattle.graph.specs.declared.Node as D
-use Rattle.graph.specs.declared.Added as A
-use Rattle.graph.specs.declared.Added.TheVariants as added
+use Rattle.graph.specs.declared.Full.{Full}
 use Rattle.graph.proofs.Tables.{pick_true, pick_false, miss, linked_same, edges_same, pushed_length, pushed_other, pushed_linked, pushed_edges, pushed_source, pushed_target, source_before, target_before}
 use Rattle.graph.proofs.Words.{same_no}
 use Rattle.graph.proofs.Heads.{in_among, out_among, more_nodes, nodes_more, more_own, more_other, start_first, start_none, start_other, start_new, heads_other, heads_own, unheaded_reads, unheaded_count, edges_as_many, edge_count_by, node_count_by, grown_nodes, nodes_grown, grown_heads, grown_start, grown_other, grown_reads, grown_read, grown_edges_old, grown_edges_new}
+
+-- an answer that is no number
+pub full_else : (a : Result ℕ Full) → ((i : ℕ) → ¬ (a ≡ Ok i)) → a ≡ full
+full_else (Ok i) h = absurd (h i refl)
+full_else (Err e) h = refl
 
 -- nodes by their numbers
 module _ (g : List ℕ) where
@@ -348,17 +353,17 @@ no_place g n f i = let (j, h, e) = below_in g (count g) n i in f j h e
 
 -- the ways of `add`
 module _ (g : List ℕ) (n : D.Node) {r : ℕ} (F : Found g (node_of n) r) where
-  pub add_found : r < count g → (hs : List Head) → Stands g hs → Got (added.At r) g g hs (node_of n)
+  pub add_found : r < count g → (hs : List Head) → Stands g hs → Got (Ok r) g g hs (node_of n)
   add_found h hs H = let q : IsNode g r (node_of n) = record { within = h; same = F.here h } in (found_holds H q, q, λ j m p. p)
 
   missing : count g ≤ r → ¬ (node_of n ∈ nodes g)
   missing h = let w = F.within in no_place g (node_of n) (λ i l. F.before i (omega arith))
 
-  pub add_full : count g ≤ r → 512 ≤ count g → (g' : List ℕ) (hs : List Head) → Stands g hs → Got added.Full g g' hs (node_of n)
+  pub add_full : count g ≤ r → 512 ≤ count g → (g' : List ℕ) (hs : List Head) → Stands g hs → Got full g g' hs (node_of n)
   add_full h f g' hs H = let l = H.few in (omega arith, missing h)
 
   pub add_new : count g ≤ r → count g < 512 → (k a x o : ℕ) → node_words k a x o ≡ node_of n → {g' : List ℕ} → g' ≡ stored g k a x o
-      → {c : ℕ} → c ≡ count g → (hs : List Head) → Stands g hs → Got (added.At c) g g' hs (node_of n)
+      → {c : ℕ} → c ≡ count g → (hs : List Head) → Stands g hs → Got (Ok c) g g' hs (node_of n)
   add_new h l k a x o e d q hs H =
       let u : ¬ (node_words k a x o ∈ nodes g) = rw e (missing h) in
       rw (d, q, ← e) (node_holds H k a x o l u, node_is H k a x o l u, node_kept H k a x o l u)
@@ -742,37 +747,37 @@ module _ {g : List ℕ} {x y : Node} (hs : List Head) (start : ℕ) (rs : List N
         }
 
 -- what `add` left, taken on by `head` and `read`
-module _ (a : A.Added) (g g' : List ℕ) (hs : List Head) (n : Node) (got : Stands g hs → Got a g g' hs n) (H : Stands g hs) where
-  pub got_at : {i : ℕ} → a ≡ added.At i → Got (added.At i) g g' hs n
+module _ (a : Result ℕ Full) (g g' : List ℕ) (hs : List Head) (n : Node) (got : Stands g hs → Got a g g' hs n) (H : Stands g hs) where
+  pub got_at : {i : ℕ} → a ≡ Ok i → Got (Ok i) g g' hs n
   got_at e = rw e at (got H)
 
-  pub got_full : a ≡ added.Full → Got added.Full g g' hs n
+  pub got_full : a ≡ full → Got full g g' hs n
   got_full e = rw e at (got H)
 
-module _ (a : A.Added) (g g' : List ℕ) (n : Node) (start : ℕ) (got : (hs : List Head) → Stands g hs → Got a g g' hs n) (hs : List Head) (H : Stands g hs) where
-  pub head_full : a ≡ added.Full → Headed added.Full g' hs n start
+module _ (a : Result ℕ Full) (g g' : List ℕ) (n : Node) (start : ℕ) (got : (hs : List Head) → Stands g hs → Got a g g' hs n) (hs : List Head) (H : Stands g hs) where
+  pub head_full : a ≡ full → Headed full g' hs n start
   head_full e = let f = got_full a g g' hs n (got hs) H e in head_over H n f.0 f.1 start
 
-  module _ {i : ℕ} (e : a ≡ added.At i) {h : ℕ} (d : h ≡ headed_at g' i) where
-    pub head_old : ¬ (h ≡ 0) → Headed (added.At i) g' hs n start
+  module _ {i : ℕ} (e : a ≡ Ok i) {h : ℕ} (d : h ≡ headed_at g' i) where
+    pub head_old : ¬ (h ≡ 0) → Headed (Ok i) g' hs n start
     head_old z = let f = got_at a g g' hs n (got hs) H e in head_again f.0 f.1 start (λ c. z (d ∙ c))
 
-    pub head_new : h ≡ 0 → {g'' g''' : List ℕ} → g'' ≡ set g' (2562 + i) 1 → g''' ≡ set g'' (2050 + i) start → Headed (added.At i) g''' hs n start
+    pub head_new : h ≡ 0 → {g'' g''' : List ℕ} → g'' ≡ set g' (2562 + i) 1 → g''' ≡ set g'' (2050 + i) start → Headed (Ok i) g''' hs n start
     head_new z p q = let f = got_at a g g' hs n (got hs) H e in rw (q, p) (head_first f.0 f.1 start (sym d ∙ z))
 
-module _ (a : A.Added) (g g' : List ℕ) (y : Node) (from : ℕ) (got : (hs : List Head) → Stands g hs → Got a g g' hs y)
+module _ (a : Result ℕ Full) (g g' : List ℕ) (y : Node) (from : ℕ) (got : (hs : List Head) → Stands g hs → Got a g g' hs y)
     (hs : List Head) (x : Node) (start : ℕ) (rs : List Node) (R : Heading g hs x start rs from) where
   abbrev fewer : List Head
   fewer = hs ++ head_of x start rs ∷ []
 
-  pub read_full : a ≡ added.Full → Read added.Full g' hs x start rs from y
+  pub read_full : a ≡ full → Read full g' hs x start rs from y
   read_full e =
       let f = got_full a g g' fewer y (got fewer) R.stands e in
       full_over R.stands y f.0 f.1 (hs ++ head_of x start (rs ++ y ∷ []) ∷ []) (nodes_grown hs x start rs y) (grown_nodes hs x start rs y)
 
-  module _ {j : ℕ} (e : a ≡ added.At j) {b : Bool}
+  module _ {j : ℕ} (e : a ≡ Ok j) {b : Bool}
       (has : (k : ℕ) → Linked g' 3074 k → from < 512 → b ≡ among eqb j (out from (edges_below g' 3074 k))) where
-    abbrev got' : Got (added.At j) g g' fewer y
+    abbrev got' : Got (Ok j) g g' fewer y
     got' = got_at a g g' fewer y (got fewer) R.stands e
 
     own : IsNode g' from x
@@ -781,12 +786,12 @@ module _ (a : A.Added) (g g' : List ℕ) (y : Node) (from : ℕ) (got : (hs : Li
     told : b ≡ among eqb j (out from (edges g'))
     told = let w = own.within in let f = got'.0.few in has (edge_total g') got'.0.linked (omega arith)
 
-    pub read_there : b ≡ true → Read (added.At j) g' hs x start rs from y
+    pub read_there : b ≡ true → Read (Ok j) g' hs x start rs from y
     read_there t = read_again hs start rs got'.0 own got'.1 (sym told ∙ t)
 
     module _ (f : b ≡ false) {k : ℕ} (d : k ≡ edge_total g') where
-      pub read_many : 4096 ≤ k → Read added.Full g' hs x start rs from y
+      pub read_many : 4096 ≤ k → Read full g' hs x start rs from y
       read_many l = read_over hs start rs got'.0 own got'.1 (sym told ∙ f) (omega (arith, d))
 
-      pub read_new : k < 4096 → {g'' g''' : List ℕ} → g'' ≡ pushed g' 3074 k from j → g''' ≡ set g'' 1 (k + 1) → Read (added.At j) g''' hs x start rs from y
+      pub read_new : k < 4096 → {g'' g''' : List ℕ} → g'' ≡ pushed g' 3074 k from j → g''' ≡ set g'' 1 (k + 1) → Read (Ok j) g''' hs x start rs from y
       read_new l p q = rw (q, p, d) (read_first hs start rs got'.0 own got'.1 (sym told ∙ f) (omega (arith, d)))

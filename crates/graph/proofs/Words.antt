@@ -1,6 +1,6 @@
 -- The words of a node against the specification's nodes. Assumes nothing.
 use mathlib.Core.Path.{◌≡◌, refl, sym, ◌∙◌, ap}
-use mathlib.Core.Bool.{Bool, true, false, ◌&&◌, true≢false}
+use mathlib.Core.Bool.{Bool, true, false, true≢false}
 use mathlib.Core.Logic.{◌⊎◌, inl, inr}
 use mathlib.Core.Option.{some, none}
 use Prim.Native.Nat.{ℕ, ◌-◌, ◌<◌, ◌≤◌}
@@ -80,14 +80,10 @@ module _ (k n x o : ℕ) where
           above : (m : ℕ) → ¬ (m ≡ 0) → ¬ (m ≡ 1) → 2 ≤ m
           above m d c = omega arith
 
--- the ways of `is_node`, with the words of the node
+-- whether the node that four words say is a signal
 module _ (k n x o : ℕ) where
   words_same : {w : Node} (m : Node) → node_words k n x o ≡ w → same_node w m ≡ same_node (node_words k n x o) m
   words_same m e = ap (λ z. same_node z m) (sym e)
-
-  off : (a b c : Bool) → b ≡ false → false ≡ a && b && c
-  off true b c e = rw e
-  off false b c e = refl
 
   pub signal_not : (a : ℕ) → ¬ (k ≡ 0) → false ≡ same_node (node_words k n x o) (signal a)
   signal_not a h = go (kinds_of k n x o)
@@ -99,38 +95,3 @@ module _ (k n x o : ℕ) where
 
   pub signal_same : (a : ℕ) → k ≡ 0 → eqb n a ≡ same_node (node_words k n x o) (signal a)
   signal_same a h = words_same (signal a) (words_signal k n x o h)
-
-  pub output_not : (a p : ℕ) → ¬ (k ≡ 1) → false ≡ same_node (node_words k n x o) (inst_out a none p)
-  output_not a p h = go (kinds_of k n x o)
-    where
-      go : (k ≡ 0) ⊎ ((k ≡ 1) ⊎ (2 ≤ k)) → false ≡ same_node (node_words k n x o) (inst_out a none p)
-      go (inl e) = words_same (inst_out a none p) (words_signal k n x o e)
-      go (inr (inl e)) = absurd (h e)
-      go (inr (inr e)) = off (eqb n a) false (eqb o p) refl ∙ words_same (inst_out a none p) (words_indexed k n x o e)
-
-  pub output_other : (a p : ℕ) → k ≡ 1 → ¬ (n ≡ a) → false ≡ same_node (node_words k n x o) (inst_out a none p)
-  output_other a p h d = ap (λ z. z && true && eqb o p) (sym (ne_eqb n a d)) ∙ words_same (inst_out a none p) (words_output k n x o h)
-
-  pub output_same : (a p : ℕ) → k ≡ 1 → n ≡ a → eqb o p ≡ same_node (node_words k n x o) (inst_out a none p)
-  output_same a p h d = ap (λ z. z && true && eqb o p) (sym (eq-eqb n a d)) ∙ words_same (inst_out a none p) (words_output k n x o h)
-
-  pub indexed_not : (a y p : ℕ) → k < 2 → false ≡ same_node (node_words k n x o) (inst_out a (some (unbiased y)) p)
-  indexed_not a y p h = go (kinds_of k n x o)
-    where
-      go : (k ≡ 0) ⊎ ((k ≡ 1) ⊎ (2 ≤ k)) → false ≡ same_node (node_words k n x o) (inst_out a (some (unbiased y)) p)
-      go (inl e) = words_same (inst_out a (some (unbiased y)) p) (words_signal k n x o e)
-      go (inr (inl e)) = off (eqb n a) false (eqb o p) refl ∙ words_same (inst_out a (some (unbiased y)) p) (words_output k n x o e)
-      go (inr (inr e)) = absurd (omega arith)
-
-  module _ (a y p : ℕ) (h : 2 ≤ k) where
-    indexed : eqb n a && eqb x y && eqb o p ≡ same_node (node_words k n x o) (inst_out a (some (unbiased y)) p)
-    indexed = ap (λ z. eqb n a && z && eqb o p) (sym (unbiased_eq x y)) ∙ words_same (inst_out a (some (unbiased y)) p) (words_indexed k n x o h)
-
-    pub indexed_other : ¬ (n ≡ a) → false ≡ same_node (node_words k n x o) (inst_out a (some (unbiased y)) p)
-    indexed_other d = ap (λ z. z && eqb x y && eqb o p) (sym (ne_eqb n a d)) ∙ indexed
-
-    pub indexed_apart : n ≡ a → ¬ (x ≡ y) → false ≡ same_node (node_words k n x o) (inst_out a (some (unbiased y)) p)
-    indexed_apart e d = off (eqb n a) (eqb x y) (eqb o p) (ne_eqb x y d) ∙ indexed
-
-    pub indexed_same : n ≡ a → x ≡ y → eqb o p ≡ same_node (node_words k n x o) (inst_out a (some (unbiased y)) p)
-    indexed_same e d = ap (λ z. true && z && eqb o p) (sym (eq-eqb x y d)) ∙ ap (λ z. z && eqb x y && eqb o p) (sym (eq-eqb n a e)) ∙ indexed

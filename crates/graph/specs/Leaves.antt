@@ -2,16 +2,14 @@
 -- 01: The edge; The walk; Refused because of the state; Worthless checks.
 -- To a reader: definitions that contracts of this and other crates cite; each such contract is proved; OneHead and OneRead are statements, proved in
 -- proofs/Leaving (one_head, one_read); check_drivers' own promise cites none of them.
-use Rattle.std.specs.Prelude.{◌≡◌, Bool, true, false, ◌⊎◌, List, ℕ, suc, ◌+◌, ◌<◌, ◌≤◌, length, get_or, set, replicate, eqb, ltb}
+use Rattle.std.specs.Prelude.{◌≡◌, Bool, true, false, ◌⊎◌, List, ℕ, suc, ◌+◌, ◌<◌, ◌≤◌, length, get_or, set, replicate, eqb, ltb, Option, Some, None, Result, Ok, Err}
 use Rattle.spec.specs.Edge.{Node, Head}
 use Rattle.graph.specs.Table.{node_of, count, edge_total, node_at, headed_at, edge_there, pushed, stored, slot_of, number_in}
 use Rattle.graph.specs.Stands.{Stands}
 use Rattle.graph.specs.Reach.{words_below, Clean, reach_inputs}
 use Rattle.graph.specs.Cycles.{Roomy, in_order, Pending, Awaits}
-use Rattle.graph.specs.declared.Added as A
-use Rattle.graph.specs.declared.Added.TheVariants as added
-use Rattle.graph.specs.declared.Cycle as C
-use Rattle.graph.specs.declared.Cycle.TheVariants as cycles
+use Rattle.graph.specs.declared.Cycle.{Cycle}
+use Rattle.graph.specs.declared.Full.{Full}
 use Rattle.graph.specs.declared.Node as declared
 use Rattle.graph.specs.declared.Node.TheVariants as nodes
 
@@ -57,14 +55,14 @@ pub record NoPlace (g : List ℕ) (n : declared.Node) : Type 0 where
   pub none : (i : ℕ) → i < count g → ¬ (node_at g i ≡ node_of n)
 
 -- 01, The edge; Refused because of the state: what finding or adding the node n gives and leaves of any words
-abbrev pub Placed : A.Added → List ℕ → declared.Node → List ℕ → Type 0
-Placed (added.At i) g n g' = Numbered g n i × (g' ≡ with_node g n)
-Placed added.Full g n g' = NoPlace g n × (g' ≡ hinted g n)
+abbrev pub Placed : Result ℕ Full → List ℕ → declared.Node → List ℕ → Type 0
+Placed (Ok i) g n g' = Numbered g n i × (g' ≡ with_node g n)
+Placed (Err e) g n g' = NoPlace g n × (g' ≡ hinted g n)
 
 -- 01, The edge; Refused because of the state; Worthless checks: what heading the node n gives and leaves of any words: every word; at a limit all are 0
-abbrev pub HeadLeaves : A.Added → List ℕ → declared.Node → ℕ → List ℕ → Type 0
-HeadLeaves (added.At i) g n start g' = Numbered g n i × (g' ≡ with_head (with_node g n) i start)
-HeadLeaves added.Full g n start g' = NoPlace g n × (g' ≡ replicate (length g) 0)
+abbrev pub HeadLeaves : Result ℕ Full → List ℕ → declared.Node → ℕ → List ℕ → Type 0
+HeadLeaves (Ok i) g n start g' = Numbered g n i × (g' ≡ with_head (with_node g n) i start)
+HeadLeaves (Err e) g n start g' = NoPlace g n × (g' ≡ replicate (length g) 0)
 
 -- 01, The edge; Refused because of the state: what a read of the node i leaves, by whether its edge was there: the words as they were; or one edge
 -- more, of at most 4,096
@@ -83,17 +81,17 @@ ReadFull g from n = NoPlace g n ⊎ (Numbered g n (number_in g n) × NoEdge (wit
 
 -- 01, The edge; Refused because of the state; Worthless checks: what a read of the node n gives and leaves of any words: every word; at a limit all are
 -- 0. There is one edge more exactly where the links do not find it
-abbrev pub ReadLeaves : A.Added → List ℕ → ℕ → declared.Node → List ℕ → Type 0
-ReadLeaves (added.At i) g from n g' = Numbered g n i × Edged (edge_there (with_node g n) 3074 from i) (with_node g n) from i g'
-ReadLeaves added.Full g from n g' = ReadFull g from n × (g' ≡ replicate (length g) 0)
+abbrev pub ReadLeaves : Result ℕ Full → List ℕ → ℕ → declared.Node → List ℕ → Type 0
+ReadLeaves (Ok i) g from n g' = Numbered g n i × Edged (edge_there (with_node g n) 3074 from i) (with_node g n) from i g'
+ReadLeaves (Err e) g from n g' = ReadFull g from n × (g' ≡ replicate (length g) 0)
 
 -- 01, Worthless checks: heading leaves nothing free: whatever the words, there is only one such answer, and only one such list of words
 abbrev pub OneHead : List ℕ → declared.Node → ℕ → Type 0
-OneHead g n start = (a b : A.Added) (g' g'' : List ℕ) → HeadLeaves a g n start g' → HeadLeaves b g n start g'' → (a ≡ b) × (g' ≡ g'')
+OneHead g n start = (a b : Result ℕ Full) (g' g'' : List ℕ) → HeadLeaves a g n start g' → HeadLeaves b g n start g'' → (a ≡ b) × (g' ≡ g'')
 
 -- 01, Worthless checks: and so of a read
 abbrev pub OneRead : List ℕ → ℕ → declared.Node → Type 0
-OneRead g from n = (a b : A.Added) (g' g'' : List ℕ) → ReadLeaves a g from n g' → ReadLeaves b g from n g'' → (a ≡ b) × (g' ≡ g'')
+OneRead g from n = (a b : Result ℕ Full) (g' g'' : List ℕ) → ReadLeaves a g from n g' → ReadLeaves b g from n g'' → (a ≡ b) × (g' ≡ g'')
 
 -- 01, The edge; Worthless checks: what the search for inputs gives and leaves of any words, as Reach.reach_inputs has it; and what follows: at most 512
 -- names, the first two words as they were, and every word behind the 1,538 where g stands for a graph and no node is marked
@@ -131,13 +129,13 @@ pub record StepLeaves (g w w' : List ℕ) : Type 0 where
   pub behind : (ps : List (List ℕ)) (m : ℕ) → Pending g w (suc m) ps → (j : ℕ) → 3589 ≤ j → get_or w' j 0 ≡ get_or w j 0
 
 -- 01, The walk: a report is a stretch that ends where the path ends, and leaves fewer steps
-abbrev pub Stretch : C.Cycle → List ℕ → List ℕ → Type 0
-Stretch (cycles.Found p d) w w' = (d ≡ get_or w' 3586 0) × (get_or w' 3588 0 < get_or w 3588 0)
-Stretch cycles.Done w w' = Unit {0}
+abbrev pub Stretch : Option Cycle → List ℕ → List ℕ → Type 0
+Stretch (Some c) w w' = (c.to ≡ get_or w' 3586 0) × (get_or w' 3588 0 < get_or w 3588 0)
+Stretch None w w' = Unit {0}
 
 -- 01, The walk; Worthless checks: that a report is a stretch, and which words asking for the next one keeps: the words of `reach` and the order of the
 -- nodes; every word from 3589 on only where w awaits reports. What it gives and what becomes of every word, of any words, Search.next_report says
-pub record NextLeaves (r : C.Cycle) (g w w' : List ℕ) : Type 0 where
+pub record NextLeaves (r : Option Cycle) (g w w' : List ℕ) : Type 0 where
   pub stretch : Stretch r w w'
   pub before : Keeps (Below 2050) w w'
   pub behind : (rs : List (List Node)) → Awaits g w rs → (j : ℕ) → 3589 ≤ j → get_or w' j 0 ≡ get_or w j 0

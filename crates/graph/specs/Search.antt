@@ -1,11 +1,10 @@
 -- The search for cycles on any words, also on words that are no state of a search: what a step gives and leaves, and what asking for a report does.
 -- 01: The walk; Refused because of the state; Worthless checks.
 -- To a reader: definitions that contracts of this and other crates cite; each such contract is proved; check_drivers' own promise cites none of them.
-use Rattle.std.specs.Prelude.{true, false, List, ℕ, zero, suc, ◌+◌, get_or, set, eqb, ltb}
+use Rattle.std.specs.Prelude.{true, false, List, ℕ, zero, suc, ◌+◌, get_or, set, eqb, ltb, Option, Some, None}
 use Rattle.graph.specs.Table.{count, headed_at, target, link}
 use Rattle.graph.specs.Cycles.{entered}
-use Rattle.graph.specs.declared.Cycle as C
-use Rattle.graph.specs.declared.Cycle.TheVariants as cycles
+use Rattle.graph.specs.declared.Cycle.{Cycle}
 use Rattle.graph.specs.declared.Step as S
 use Rattle.graph.specs.declared.Step.TheVariants as steps
 
@@ -47,16 +46,16 @@ search_step g w = path_step g w (get_or w 3586 0)
 
 -- 01, The walk: what is done with a step that leaves these words and f steps more: no more reports; the next step; or a report of the path from p to its
 -- end, for which the steps left are stored
-abbrev pub after_step : (List ℕ → C.Cycle × List ℕ) → ℕ → S.Step → List ℕ → C.Cycle × List ℕ
-after_step more f steps.Done w = (cycles.Done, w)
+abbrev pub after_step : (List ℕ → Option Cycle × List ℕ) → ℕ → S.Step → List ℕ → Option Cycle × List ℕ
+after_step more f steps.Done w = (None, w)
 after_step more f steps.Silent w = more w
-after_step more f (steps.Report p) w = let w' = set w 3588 f in (cycles.Found p (get_or w' 3586 0), w')
+after_step more f (steps.Report p) w = let w' = set w 3588 f in (Some (record { from = p; to = get_or w' 3586 0 }), w')
 
 -- 01, The walk: the first report that at most f steps give, or that they give none, and what they leave
-unfoldable pub searched : List ℕ → ℕ → List ℕ → C.Cycle × List ℕ
-searched g zero w = (cycles.Done, w)
+unfoldable pub searched : List ℕ → ℕ → List ℕ → Option Cycle × List ℕ
+searched g zero w = (None, w)
 searched g (suc f) w = after_step (searched g f) f (search_step g w).0 (search_step g w).1
 
 -- 01, The walk; Worthless checks: what asking for the next report gives and leaves of any words: the search goes on for as many steps as are left
-abbrev pub next_report : List ℕ → List ℕ → C.Cycle × List ℕ
+abbrev pub next_report : List ℕ → List ℕ → Option Cycle × List ℕ
 next_report g w = searched g (get_or w 3588 0) w

@@ -1,15 +1,14 @@
 -- The heads for which a graph's slice stands. 01: The edge; The walk; Refused because of the state;
 -- Worthless checks; Forms for specific places.
 -- To a reader: definitions that contracts of this and other crates cite; each such contract is proved; check_drivers' own promise needs only graph_places.
-use Rattle.std.specs.Prelude.{◌≡◌, true, false, List, [], ◌∷◌, ◌++◌, ℕ, ◌<◌, ◌≤◌, length, eqb, ltb}
+use Rattle.std.specs.Prelude.{◌≡◌, true, false, List, [], ◌∷◌, ◌++◌, ℕ, ◌<◌, ◌≤◌, length, eqb, ltb, Result, Ok, Err}
 use Rattle.spec.specs.Graph.{◌∈◌, Once}
 use Rattle.spec.specs.DepthFirst.{among}
 use Rattle.spec.specs.Edge.{Node, same_node, Head, all_nodes, head_nodes, all_reads, edges_from, over_graph}
 use Rattle.spec.specs.FindCycles.{start_of}
 use Rattle.spec.specs.Cleared.{Cleared, ByNumber}
 use Rattle.graph.specs.Table.{count, edge_total, node_at, start_at, headed_at, nodes_below, source, target, edges_below, out, Linked}
-use Rattle.graph.specs.declared.Added as A
-use Rattle.graph.specs.declared.Added.TheVariants as added
+use Rattle.graph.specs.declared.Full.{Full}
 
 -- 01, The edge: the nodes, the last first
 abbrev pub nodes : List ℕ → List Node
@@ -57,32 +56,36 @@ pub record Heading (g : List ℕ) (hs : List Head) (n : Node) (start : ℕ) (rs 
   pub stands : Stands g (hs ++ head_of n start rs ∷ [])
   pub node : IsNode g i n
 
+-- 01, Refused because of the state: the answer where a limit is passed
+abbrev pub full : Result ℕ Full
+full = Err (record {})
+
 -- 01, The edge; Refused because of the state: what finding or adding the node n for the heads hs leaves: it is there, and every node
 -- has its number still; or there are 512 nodes and it is none of them
-abbrev pub Got : A.Added → List ℕ → List ℕ → List Head → Node → Type 0
-Got (added.At i) g g' hs n = Holds g' hs (n ∷ []) × IsNode g' i n × ((j : ℕ) (m : Node) → IsNode g j m → IsNode g' j m)
-Got added.Full g g' hs n = count g ≡ 512 × ¬ (n ∈ nodes g)
+abbrev pub Got : Result ℕ Full → List ℕ → List ℕ → List Head → Node → Type 0
+Got (Ok i) g g' hs n = Holds g' hs (n ∷ []) × IsNode g' i n × ((j : ℕ) (m : Node) → IsNode g j m → IsNode g' j m)
+Got (Err e) g g' hs n = count g ≡ 512 × ¬ (n ∈ nodes g)
 
 -- 01, The edge; Refused because of the state: what a head leaves: it stands behind the heads hs, with nothing read so far, and its node
 -- is the node i; or a limit is passed
-abbrev pub Headed : A.Added → List ℕ → List Head → Node → ℕ → Type 0
-Headed (added.At i) g hs n start = Heading g hs n start [] i
-Headed added.Full g hs n start = over_graph (hs ++ head_of n start [] ∷ []) ≡ true
+abbrev pub Headed : Result ℕ Full → List ℕ → List Head → Node → ℕ → Type 0
+Headed (Ok i) g hs n start = Heading g hs n start [] i
+Headed (Err e) g hs n start = over_graph (hs ++ head_of n start [] ∷ []) ≡ true
 
 -- 01, The edge; Refused because of the state: what a read leaves: the head reads one node more; or a limit is passed
-abbrev pub Read : A.Added → List ℕ → List Head → Node → ℕ → List Node → ℕ → Node → Type 0
-Read (added.At j) g hs n start rs i m = Heading g hs n start (rs ++ m ∷ []) i
-Read added.Full g hs n start rs i m = over_graph (hs ++ head_of n start (rs ++ m ∷ []) ∷ []) ≡ true
+abbrev pub Read : Result ℕ Full → List ℕ → List Head → Node → ℕ → List Node → ℕ → Node → Type 0
+Read (Ok j) g hs n start rs i m = Heading g hs n start (rs ++ m ∷ []) i
+Read (Err e) g hs n start rs i m = over_graph (hs ++ head_of n start (rs ++ m ∷ []) ∷ []) ≡ true
 
 -- 01, Forms for specific places; Refused because of the state: 01's number of each answer: 20 where a limit is passed, else 0
-abbrev pub number_of : A.Added → ℕ
-number_of (added.At i) = 0
-number_of added.Full = 20
+abbrev pub number_of : Result ℕ Full → ℕ
+number_of (Ok i) = 0
+number_of (Err e) = 20
 
 -- 01, Refused because of the state: 01's number of a module with these heads, as far as its nodes and edges say it: 20 where they pass a limit
 abbrev pub heads_number : List Head → ℕ
 heads_number hs = elim (over_graph hs) [ true ↦ 20 | false ↦ 0 ]
 
 -- 01, Refused because of the state; Worthless checks: where the number is not 0 every place of the slice is 0, whatever was lent
-abbrev pub ClearedAtFull : A.Added → List ℕ → Type 0
+abbrev pub ClearedAtFull : Result ℕ Full → List ℕ → Type 0
 ClearedAtFull a g = ByNumber (number_of a) (Unit {0}) (Cleared g)

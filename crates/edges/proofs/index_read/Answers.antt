@@ -3,17 +3,17 @@ use Rattle.edges.proofs.InstLaws.{index_missing, index_outside, index_at, index_
 use Rattle.edges.proofs.LeaveLaws.{reads_none, reads_out, read_at, read_full}
 use Rattle.edges.proofs.index_read.Goals as goal
 
-pub returns-in-At-clause-nodes_read : goal.returns-in-At-clause-nodes_read
-returns-in-At-clause-nodes_read c = index_at c.args.g.now c.args.from c.args.i c.args.p c.eval.ensures c.in-Known.is c.read.result _ c.read.ensures.read c.in-At.is
+pub returns-in-Ok-clause-nodes_read : goal.returns-in-Ok-clause-nodes_read
+returns-in-Ok-clause-nodes_read c = index_at c.args.g.now c.args.from c.args.i c.args.p c.eval.ensures c.in-Known.is c.read.result _ c.read.ensures.read c.in-Ok.is
 
-pub returns-in-At-clause-reads_or_cleared : goal.returns-in-At-clause-reads_or_cleared
-returns-in-At-clause-reads_or_cleared c = read_at c.args.from c.args.g.now (nodes.OutputAt c.args.i c.in-Known.v c.args.p) c.read.result _ c.read.ensures.read_leaves (reads_known c.args.i c.args.p c.eval.ensures c.in-Known.is) c.in-At.is
+pub returns-in-Ok-clause-reads_or_cleared : goal.returns-in-Ok-clause-reads_or_cleared
+returns-in-Ok-clause-reads_or_cleared c = read_at c.args.from c.args.g.now (nodes.OutputAt c.args.i c.in-Known.v c.args.p) c.read.result _ c.read.ensures.read_leaves (reads_known c.args.i c.args.p c.eval.ensures c.in-Known.is) c.in-Ok.is
 
-pub returns-in-Full-clause-nodes_read : goal.returns-in-Full-clause-nodes_read
-returns-in-Full-clause-nodes_read c = index_full c.args.g.now c.args.from c.args.i c.args.p c.eval.ensures c.in-Known.is c.read.result _ c.read.ensures.read c.in-Full.is
+pub returns-in-Err-clause-nodes_read : goal.returns-in-Err-clause-nodes_read
+returns-in-Err-clause-nodes_read c = index_full c.args.g.now c.args.from c.args.i c.args.p c.eval.ensures c.in-Known.is c.read.result _ c.read.ensures.read c.in-Err.is
 
-pub returns-in-Full-clause-reads_or_cleared : goal.returns-in-Full-clause-reads_or_cleared
-returns-in-Full-clause-reads_or_cleared c = read_full c.args.from c.args.g.now (nodes.OutputAt c.args.i c.in-Known.v c.args.p) c.read.result _ c.read.ensures.read_leaves (reads_known c.args.i c.args.p c.eval.ensures c.in-Known.is) c.in-Full.is
+pub returns-in-Err-clause-reads_or_cleared : goal.returns-in-Err-clause-reads_or_cleared
+returns-in-Err-clause-reads_or_cleared c = read_full c.args.from c.args.g.now (nodes.OutputAt c.args.i c.in-Known.v c.args.p) c.read.result _ c.read.ensures.read_leaves (reads_known c.args.i c.args.p c.eval.ensures c.in-Known.is) c.in-Err.is
 
 pub returns-in-Missing-clause-nodes_read : goal.returns-in-Missing-clause-nodes_read
 returns-in-Missing-clause-nodes_read c = index_missing c.args.g.now c.args.from c.args.i c.args.p c.eval.ensures c.in-Missing.is

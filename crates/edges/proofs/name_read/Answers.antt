@@ -16,14 +16,14 @@ returns-then-k-gt3-clause-name_read c = name_other c.args.kinds.now c.args.n c.a
 pub returns-then-k-gt3-clause-reads_or_cleared : goal.returns-then-k-gt3-clause-reads_or_cleared
 returns-then-k-gt3-clause-reads_or_cleared c = reads_none c.args.from c.args.g.now (kind_other c.args.kinds.now c.args.n c.byte-k.ensures c.if-k-gt3.true)
 
-pub returns-in-At-clause-name_read : goal.returns-in-At-clause-name_read
-returns-in-At-clause-name_read c = name_at c.args.kinds.now c.args.n c.args.g.now c.args.from c.byte-k.ensures c.if-k-eq0.false c.if-k-gt3.false c.read.result _ c.read.ensures.read c.in-At.is
+pub returns-in-Ok-clause-name_read : goal.returns-in-Ok-clause-name_read
+returns-in-Ok-clause-name_read c = name_at c.args.kinds.now c.args.n c.args.g.now c.args.from c.byte-k.ensures c.if-k-eq0.false c.if-k-gt3.false c.read.result _ c.read.ensures.read c.in-Ok.is
 
-pub returns-in-At-clause-reads_or_cleared : goal.returns-in-At-clause-reads_or_cleared
-returns-in-At-clause-reads_or_cleared c = read_at c.args.from c.args.g.now (nodes.Signal c.args.n) c.read.result _ c.read.ensures.read_leaves (kind_signal c.args.kinds.now c.args.n c.byte-k.ensures c.if-k-eq0.false c.if-k-gt3.false) c.in-At.is
+pub returns-in-Ok-clause-reads_or_cleared : goal.returns-in-Ok-clause-reads_or_cleared
+returns-in-Ok-clause-reads_or_cleared c = read_at c.args.from c.args.g.now (nodes.Signal c.args.n) c.read.result _ c.read.ensures.read_leaves (kind_signal c.args.kinds.now c.args.n c.byte-k.ensures c.if-k-eq0.false c.if-k-gt3.false) c.in-Ok.is
 
-pub returns-in-Full-clause-name_read : goal.returns-in-Full-clause-name_read
-returns-in-Full-clause-name_read c = name_full c.args.kinds.now c.args.n c.args.g.now c.args.from c.byte-k.ensures c.if-k-eq0.false c.if-k-gt3.false c.read.result _ c.read.ensures.read c.in-Full.is
+pub returns-in-Err-clause-name_read : goal.returns-in-Err-clause-name_read
+returns-in-Err-clause-name_read c = name_full c.args.kinds.now c.args.n c.args.g.now c.args.from c.byte-k.ensures c.if-k-eq0.false c.if-k-gt3.false c.read.result _ c.read.ensures.read c.in-Err.is
 
-pub returns-in-Full-clause-reads_or_cleared : goal.returns-in-Full-clause-reads_or_cleared
-returns-in-Full-clause-reads_or_cleared c = read_full c.args.from c.args.g.now (nodes.Signal c.args.n) c.read.result _ c.read.ensures.read_leaves (kind_signal c.args.kinds.now c.args.n c.byte-k.ensures c.if-k-eq0.false c.if-k-gt3.false) c.in-Full.is
+pub returns-in-Err-clause-reads_or_cleared : goal.returns-in-Err-clause-reads_or_cleared
+returns-in-Err-clause-reads_or_cleared c = read_full c.args.from c.args.g.now (nodes.Signal c.args.n) c.read.result _ c.read.ensures.read_leaves (kind_signal c.args.kinds.now c.args.n c.byte-k.ensures c.if-k-eq0.false c.if-k-gt3.false) c.in-Err.is
