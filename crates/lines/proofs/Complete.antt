@@ -51,9 +51,7 @@ module _ (d : ℕ) (t : Bytes) (f : Cat → ℕ → Parsed) (reads : Reads d t f
       let g = reads q.a w.0 (i + 1) (tail ++ r) b (rest_stops (shows n (shift q) w.1) r) (omega arith) in
       let k = span_next t (i + 1) x (tail ++ r) b in
       let z : i + 1 + length x + length tail ≡ i + suc (length (x ++ tail)) = omega (arith, length-append x tail) in
-      let s : suc left - 1 ≡ left = omega arith in
-      parts_more f t q i r₀ (suc left) (omega arith) (λ u. omega arith) a (i + 1 + length x) (range q.a w.0) g
-      ∙ ap (λ (m : ℕ). parts_at f m t (shift q) (i + 1 + length x) (r₀ && range q.a w.0)) s
+      parts_more f t q i r₀ (suc left) left refl (λ u. omega arith) a (i + 1 + length x) (range q.a w.0) g
       ∙ parts_complete n left (shift q) w.1 (i + 1 + length x) r (r₀ && range q.a w.0) (omega arith) k (omega arith)
       ∙ good_same z (and_assoc r₀ (range q.a w.0) (all_range n (shift q) w.1))
 

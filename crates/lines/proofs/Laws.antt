@@ -386,10 +386,10 @@ module _ (f : Cat → ℕ → Parsed) (t : List ℕ) (q : Shape) (i : ℕ) (rang
   unfolding parts_at
   parts_bad left h e g b = rw (parts_suc left h, ne_eqb _ _ e, eq-eqb _ _ g, b, parts_at)
 
-  pub parts_more : (left : ℕ) → 0 < left → (get_or t i 0 ≡ 41 → ⊥) → get_or t i 0 ≡ 32 → (j : ℕ) (r : Bool) → f q.a (i + 1) ≡ Good j r
-      → parts_at f left t q i range ≡ parts_at f (left - 1) t (shift q) j (range && r)
+  pub parts_more : (left m : ℕ) → left ≡ suc m → (get_or t i 0 ≡ 41 → ⊥) → get_or t i 0 ≡ 32 → (j : ℕ) (r : Bool) → f q.a (i + 1) ≡ Good j r
+      → parts_at f left t q i range ≡ parts_at f m t (shift q) j (range && r)
   unfolding parts_at
-  parts_more left h e g j r b = ap (λ (n : ℕ). parts_at f n t q i range) (parts_suc left h) ∙ rw (ne_eqb _ _ e, eq-eqb _ _ g, b, parts_at)
+  parts_more left m h e g j r b = ap (λ (n : ℕ). parts_at f n t q i range) h ∙ rw (ne_eqb _ _ e, eq-eqb _ _ g, b, parts_at)
 
 -- a form with its bracket, its word and its shape
 pub form_start : (d : ℕ) (c : Cat) (t : List ℕ) (at : ℕ) (w : Word) (q : Shape) → get_or t at 0 ≡ 40 → (d ≡ 0 → ⊥) → w ≡ word_at t (at + 1) → q ≡ shape c w.key

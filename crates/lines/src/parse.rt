@@ -97,8 +97,7 @@ pub fn word_at(s: &[u8], at: usize) -> Word
 {
     let mut i = at;
     let mut code: u64 = 0;
-    let mut k: u64 = 0;
-    while k < 8 {
+    for k in 0..8 {
         let c = at8(s, i);
         if !is_word(c) {
             return Word {
@@ -108,7 +107,6 @@ pub fn word_at(s: &[u8], at: usize) -> Word
         }
         code = code * 256 + c as u64;
         i += 1;
-        k += 1;
     }
     Word { key: 0, next: i }
 }
@@ -124,17 +122,18 @@ fn more(a: u64, d: u8) -> u64
 fn digits(s: &[u8], at: usize) -> Number
     ensures { result ≡ digits_from (drop at s.now) at 0 }
 {
-    let mut i = at;
     let mut a: u64 = 0;
-    while i < s.len() {
+    for i in at..s.len() {
         let c = s[i];
         if !is_digit(c) {
             return Number::Is { value: a, next: i };
         }
         a = more(a, c - b'0');
-        i += 1;
     }
-    Number::Is { value: a, next: i }
+    Number::Is {
+        value: a,
+        next: s.len().max(at),
+    }
 }
 
 // The number at a position: 0, or a digit that is not 0 and all digits behind it.
@@ -525,9 +524,8 @@ pub(crate) fn part(s: &[u8], at: usize, cat: Cat, depth: u32) -> Parsed
     let mut i = w.next;
     let mut q = shape_of(cat, w.key);
     let mut range = true;
-    let mut left = s.len();
-    while 0 < left {
-        left -= 1;
+    // No form has as many parts as the text has bytes.
+    for _ in 0..s.len() {
         match class_of(at8(s, i)) {
             Class::Close => {
                 if q.need == 0 {

@@ -26,9 +26,8 @@ pub(crate) enum Step {
 fn closes(s: &[u8], at: usize) -> bool
     ensures { result ≡ closes_at 1 (drop at s.now) }
 {
-    let mut i = at;
     let mut k: u32 = 1;
-    while i < s.len() {
+    for i in at..s.len() {
         match class_of(s[i]) {
             Class::Feed => return false,
             Class::Open => {
@@ -36,21 +35,14 @@ fn closes(s: &[u8], at: usize) -> bool
                     return false;
                 }
                 k += 1;
-                i += 1;
-                continue;
             }
             Class::Close => {
                 if k == 1 {
                     return is_feed(at8(s, i + 1));
                 }
                 k -= 1;
-                i += 1;
-                continue;
             }
-            _ => {
-                i += 1;
-                continue;
-            }
+            _ => {}
         }
     }
     false
@@ -68,26 +60,19 @@ pub(crate) fn set_line(s: &[u8]) -> u32
     requires { length s.now ≤ 32768 }
     ensures { result ≡ set_line s.now }
 {
-    let mut i = 0;
     let mut n: u32 = 1;
-    while i < s.len() {
-        match class_of(s[i]) {
-            Class::Feed => {
-                n += 1;
-                i += 1;
-                continue;
-            }
+    for &b in s {
+        match class_of(b) {
+            Class::Feed => n += 1,
             Class::Refused => return n,
-            _ => {
-                i += 1;
-                continue;
-            }
+            _ => {}
         }
     }
-    if i == 0 {
-        return 0;
+    match s.last() {
+        None => 0,
+        Some(&b) if is_feed(b) => 0,
+        Some(_) => n,
     }
-    if is_feed(s[i - 1]) { 0 } else { n }
 }
 
 // The number behind a space.

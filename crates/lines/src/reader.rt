@@ -10,7 +10,7 @@ ghost use Rattle.lines.specs.Pass.{Fitting, Fills};
 
 use crate::parse::EACH_NAME;
 use crate::read::{TEXT, Verdict, set_line};
-use crate::tables::{KINDS, MODS, Read, answer, clear_bytes, clear_mods, enter_line, start};
+use crate::tables::{KINDS, MODS, Read, answer, enter_line, start};
 
 #[derive(Clone, Copy)]
 struct Reader<'a> {
@@ -55,8 +55,8 @@ pub fn read_text(text: &[u8], kinds: &mut [u8], mods: &mut [u32]) -> Read
     if mods.len() < MODS {
         return Read::Short;
     }
-    clear_bytes(kinds);
-    clear_mods(mods);
+    kinds.fill(0);
+    mods.fill(0);
     if TEXT < text.len() {
         return Read::Refused(1, 0);
     }
@@ -67,8 +67,8 @@ pub fn read_text(text: &[u8], kinds: &mut [u8], mods: &mut [u32]) -> Read
     let mut seen = [0u8; EACH_NAME];
     match fill(text, &mut seen, kinds, mods) {
         Verdict::Refused(k, n) => {
-            clear_bytes(kinds);
-            clear_mods(mods);
+            kinds.fill(0);
+            mods.fill(0);
             Read::Refused(k, n)
         }
         Verdict::Formed(m) => Read::Accepted(m),

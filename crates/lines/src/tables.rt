@@ -1,5 +1,5 @@
 // The tables of a text that is well formed: the kinds of each module's names, and where each module's header, items and end are.
-ghost use Rattle.std.specs.Prelude.{◌≡◌, ◌+◌, ◌*◌, ◌<◌, length, replicate};
+ghost use Rattle.std.specs.Prelude.{◌≡◌, ◌+◌, ◌*◌, ◌<◌, length};
 ghost use Rattle.lines.specs.Tables.{second_behind, second_key, flag_of, entries, marked};
 ghost use Rattle.lines.specs.Pass.{at_first_line, at_fault, behind_module, behind_line, Standing, step_at, behind, seen_behind, kinds_behind, mods_behind, answer_of, fault_row};
 ghost use Rattle.lines.specs.Read.{step_number};
@@ -159,7 +159,7 @@ pub(crate) fn enter_line(
             let flag = flag_of(second_key(text, at));
             let first = (feed + 1) as u32;
             enter(mods, p.modules as usize, flag, first);
-            clear_bytes(seen);
+            seen.fill(0);
             behind_module(p, feed + 1, first)
         }
         Step::Kind(feed, name) => {
@@ -191,26 +191,6 @@ pub(crate) fn answer(p: Progress) -> Verdict
         return Verdict::Formed(p.modules);
     }
     Verdict::Refused(p.fault, p.row)
-}
-
-pub(crate) fn clear_bytes(s: &mut [u8])
-    ensures { s.new ≡ replicate (length s.old) 0 }
-{
-    let mut i = 0;
-    while i < s.len() {
-        s[i] = 0;
-        i += 1;
-    }
-}
-
-pub(crate) fn clear_mods(s: &mut [u32])
-    ensures { s.new ≡ replicate (length s.old) 0 }
-{
-    let mut i = 0;
-    while i < s.len() {
-        s[i] = 0;
-        i += 1;
-    }
 }
 
 // The lent tables are too short, the text is refused with a number and a line, or it is accepted and has so many modules.

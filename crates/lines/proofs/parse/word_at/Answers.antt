@@ -26,12 +26,6 @@ overflow_add-code c = let h = word_range _ (sym c.is_word.ensures ∙ c.if-not-i
 pub overflow_add-i : goal.overflow_add-i
 overflow_add-i c = let h = word_range _ (sym c.is_word.ensures ∙ c.if-not-is_word.false) in let l = inside c.args.s.now c.loop-k.i (λ z. omega (arith, c.at8-c.ensures)) in omega arith
 
-pub overflow_add-k : goal.overflow_add-k
-overflow_add-k c = omega arith
-
-pub loop-k-smaller : goal.loop-k-smaller
-loop-k-smaller c = omega arith
-
 pub loop-k-preserved : goal.loop-k-preserved
 loop-k-preserved c = let h = word_range _ (sym c.is_word.ensures ∙ c.if-not-is_word.false) in (omega arith, cap_step c.loop-k.code _ c.loop-k.k c.loop-k.invariant.1 (omega arith), c.loop-k.invariant.2 ∙ word_more c.args.s.now c.loop-k.i c.loop-k.code c.loop-k.k c.loop-k-test.true (rw c.at8-c.ensures at (sym c.is_word.ensures ∙ c.if-not-is_word.false)) ∙ rw c.at8-c.ensures)
 

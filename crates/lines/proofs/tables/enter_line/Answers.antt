@@ -94,7 +94,7 @@ pub returns-in-Fault : goal.returns-in-Fault
 returns-in-Fault c = behind_by c.args.text.now c.args.at c.args.p c.args.seen.now c.args.kinds.now c.args.mods.now (Fault c.in-Fault.k) (sym c.in-Fault.is ∙ c.line_step.ensures) _ _ _ _ c.stopped.ensures refl refl refl
 
 pub returns-in-Module : goal.returns-in-Module
-returns-in-Module c = behind_by c.args.text.now c.args.at c.args.p c.args.seen.now c.args.kinds.now c.args.mods.now (Module c.in-Module.feed) (sym c.in-Module.is ∙ c.line_step.ensures) _ _ _ _ c.behind_module.ensures c.clear_bytes.ensures refl (c.enter.ensures ∙ ap (λ (f : ℕ). entries c.args.mods.now c.args.p.modules f (c.in-Module.feed + 1) (c.in-Module.feed + 1) (c.in-Module.feed + 1)) (c.flag_of-flag.ensures ∙ ap flag_of c.second_key.ensures))
+returns-in-Module c = behind_by c.args.text.now c.args.at c.args.p c.args.seen.now c.args.kinds.now c.args.mods.now (Module c.in-Module.feed) (sym c.in-Module.is ∙ c.line_step.ensures) _ _ _ _ c.behind_module.ensures (c.fill.ensures.after (λ y e. e)) refl (c.enter.ensures ∙ ap (λ (f : ℕ). entries c.args.mods.now c.args.p.modules f (c.in-Module.feed + 1) (c.in-Module.feed + 1) (c.in-Module.feed + 1)) (c.flag_of-flag.ensures ∙ ap flag_of c.second_key.ensures))
 
 pub returns-in-Kind : goal.returns-in-Kind
 returns-in-Kind c = behind_by c.args.text.now c.args.at c.args.p c.args.seen.now c.args.kinds.now c.args.mods.now (Kind c.in-Kind.feed c.in-Kind.name) (sym c.in-Kind.is ∙ c.line_step.ensures) _ _ _ _ c.behind_line.ensures refl (ap (λ (k : ℕ). set c.args.kinds.now ((c.args.p.modules - 1) * name_bound + c.in-Kind.name) k) (c.kind_of-k.ensures ∙ ap kind_of c.second_key-in-Kind.ensures)) c.mark.ensures
