@@ -14,6 +14,7 @@ use mir.Val.{has_key}
 use types.Run.{OneOf, miss}
 use borrow.Enum.Refused.{Among, opened}
 use denote.Enum.Declared.{tag_of}
+use denote.Enum.Bare.{sameb, same_true, same_false}
 use borrow.Author.Tests.{eq-eqb, ne_eqb, lt-ltb, le-ltb, ltb-true, ltb-false, eqb-true, eqb-false}
 use Rattle.lines.specs.Bytes.{class_of, is_digit, is_word}
 use Rattle.spec.specs.Bytes.{bytes}
@@ -167,9 +168,6 @@ module _ (ks : List ℕ) (b : ℕ) (r : Class) (q : r ≡ class_of b) (o : Among
   pub not_close : T (not (has_key ks 2)) → b ≡ 41 → ⊥
   not_close m e = not_class Close m (class_close b e)
 
-  pub not_minus : T (not (has_key ks 5)) → b ≡ 45 → ⊥
-  not_minus m e = not_class Minus m (class_minus b e)
-
   pub not_feed : T (not (has_key ks 6)) → b ≡ 10 → ⊥
   not_feed m e = not_class Feed m (class_feed b e)
 
@@ -195,16 +193,24 @@ module _ (t : Bool) (b x k : ℕ) (q : t ≡ eqb b k) (e : b ≡ x) where
   pub byte_not : t ≡ false → x ≡ k → ⊥
   byte_not f z = eqb-false b k (sym q ∙ f) (e ∙ z)
 
-pub no_digit : (c : Class) → (Digit ≡ c → ⊥) → false ≡ is_digit c
-no_digit Space f = refl
-no_digit Open f = refl
-no_digit Close f = refl
-no_digit Digit f = absurd (f refl)
-no_digit Letter f = refl
-no_digit Minus f = refl
-no_digit Feed f = refl
-no_digit Refused f = refl
-no_digit Other f = refl
+-- `==` with a class of one byte only: a test of that byte
+pub one_class : (b : ℕ) (r c : Class) (k : ℕ) → r ≡ class_of b → (b ≡ k → c ≡ class_of b) → (Says c b → b ≡ k) → sameb the_type r c ≡ eqb b k
+one_class b r c k q f g = go (sameb the_type r c) refl
+  where
+    go : (x : Bool) → sameb the_type r c ≡ x → x ≡ eqb b k
+    go true e = sym (eq-eqb b k (g (class_is b r c q (same_true the_type tt r c e))))
+    go false e = sym (ne_eqb b k (λ z. same_false the_type r c e (q ∙ sym (f z))))
+
+pub digit_class : (c : Class) → sameb the_type c Digit ≡ is_digit c
+digit_class Space = refl
+digit_class Open = refl
+digit_class Close = refl
+digit_class Digit = refl
+digit_class Letter = refl
+digit_class Minus = refl
+digit_class Feed = refl
+digit_class Refused = refl
+digit_class Other = refl
 
 pub no_word : (c : Class) → (Digit ≡ c → ⊥) → (Letter ≡ c → ⊥) → false ≡ is_word c
 no_word Space f g = refl

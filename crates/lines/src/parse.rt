@@ -3,8 +3,9 @@
 ghost use Rattle.std.specs.Prelude.{◌≡◌, ◌&&◌, drop, ◌-◌};
 ghost use Rattle.lines.specs.Parse.{word_at, more_digit, digits_from, number_at, numbered, counted, int_at, op_of, kind_of, either, worded, no_shape, fixed, behind, expr_shape, lone, width_shape, stmt_shape, item_shape, line_shape, shape, shift, literal, atom, scan};
 
-use crate::bytes::{Class, at8, class_of, is_digit, is_minus, is_open, is_word};
+use crate::bytes::{Class, class_of, is_digit, is_minus, is_open, is_word};
 use crate::keys;
+use crate::parts::byte;
 
 // Names and MOD are below 256; START and literals below 2,147,483,648.
 pub(crate) const NAMES: u64 = 256;
@@ -98,7 +99,7 @@ pub fn word_at(s: &[u8], at: usize) -> Word
     let mut i = at;
     let mut code: u64 = 0;
     for k in 0..8 {
-        let c = at8(s, i);
+        let c = byte(s, i);
         if !is_word(c) {
             return Word {
                 key: code * 16 + k,
@@ -140,7 +141,7 @@ fn digits(s: &[u8], at: usize) -> Number
 pub(crate) fn number_at(s: &[u8], at: usize) -> Number
     ensures { result ≡ number_at s.now at }
 {
-    let c = at8(s, at);
+    let c = byte(s, at);
     if c == b'0' {
         return Number::Is {
             value: 0,
@@ -178,10 +179,10 @@ fn counted(n: Number) -> Parsed
 fn int(s: &[u8], at: usize) -> Parsed
     ensures { result ≡ int_at s.now at }
 {
-    if !is_minus(at8(s, at)) {
+    if !is_minus(byte(s, at)) {
         return numbered(number_at(s, at), NUMBERS);
     }
-    if at8(s, at + 1) == b'0' {
+    if byte(s, at + 1) == b'0' {
         return Parsed::Bad;
     }
     numbered(number_at(s, at + 1), NUMBERS + 1)
@@ -456,7 +457,7 @@ fn shift(q: Shape) -> Shape
 fn literal(s: &[u8], at: usize) -> Parsed
     ensures { result ≡ literal s.now at }
 {
-    if is_digit(at8(s, at)) {
+    if is_digit(byte(s, at)) {
         return numbered(number_at(s, at), NUMBERS);
     }
     let w = word_at(s, at);
@@ -487,7 +488,7 @@ fn atom(s: &[u8], at: usize, cat: Cat) -> Parsed
         }
         Cat::E => literal(s, at),
         Cat::X => {
-            if is_minus(at8(s, at)) {
+            if is_minus(byte(s, at)) {
                 worded(true, at + 1)
             } else {
                 literal(s, at)
@@ -514,7 +515,7 @@ fn atom(s: &[u8], at: usize, cat: Cat) -> Parsed
 pub(crate) fn part(s: &[u8], at: usize, cat: Cat, depth: u32) -> Parsed
     ensures { result ≡ scan depth cat s.now at }
 {
-    if !is_open(at8(s, at)) {
+    if !is_open(byte(s, at)) {
         return atom(s, at, cat);
     }
     if depth == 0 {
@@ -526,7 +527,7 @@ pub(crate) fn part(s: &[u8], at: usize, cat: Cat, depth: u32) -> Parsed
     let mut range = true;
     // No form has as many parts as the text has bytes.
     for _ in 0..s.len() {
-        match class_of(at8(s, i)) {
+        match class_of(byte(s, i)) {
             Class::Close => {
                 if q.need == 0 {
                     return Parsed::Good { next: i + 1, range };

@@ -2,9 +2,10 @@
 ghost use Rattle.std.specs.Prelude.{◌≡◌, ◌≤◌, length, drop};
 ghost use Rattle.lines.specs.Read.{closes_at, not_written, set_line, number_after, module_step, kind_step, head_step, line_step};
 
-use crate::bytes::{Class, at8, class_of, is_feed, is_open, is_space};
+use crate::bytes::{Class, class_of, is_feed, is_open, is_space};
 use crate::keys;
 use crate::parse::{Cat, NAMES, Number, Parsed, number_at, part, word_at};
+use crate::parts::byte;
 
 pub(crate) const TEXT: usize = 32768;
 
@@ -38,7 +39,7 @@ fn closes(s: &[u8], at: usize) -> bool
             }
             Class::Close => {
                 if k == 1 {
-                    return is_feed(at8(s, i + 1));
+                    return is_feed(byte(s, i + 1));
                 }
                 k -= 1;
             }
@@ -79,7 +80,7 @@ pub(crate) fn set_line(s: &[u8]) -> u32
 pub fn number_after(s: &[u8], at: usize) -> Number
     ensures { result ≡ number_after s.now at }
 {
-    if !is_space(at8(s, at)) {
+    if !is_space(byte(s, at)) {
         return Number::None;
     }
     number_at(s, at + 1)
@@ -112,7 +113,7 @@ fn kind_step(n: Number, seen: &[u8], feed: usize) -> Step
                 return Step::Fault(5);
             }
             let name = value as usize;
-            if at8(seen, name) != 0 {
+            if byte(seen, name) != 0 {
                 return Step::Fault(7);
             }
             Step::Kind(feed, name)
@@ -151,13 +152,13 @@ fn head_step(s: &[u8], at: usize, feed: usize, modules: u32, items: bool, seen: 
 pub(crate) fn line_step(s: &[u8], at: usize, modules: u32, items: bool, seen: &[u8]) -> Step
     ensures { result ≡ line_step s.now at modules items seen.now }
 {
-    if !is_open(at8(s, at)) {
+    if !is_open(byte(s, at)) {
         return Step::Fault(3);
     }
     match part(s, at, Cat::L, DEPTH) {
         Parsed::Bad => Step::Fault(not_written(s, at + 1)),
         Parsed::Good { next, range } => {
-            if !is_feed(at8(s, next)) {
+            if !is_feed(byte(s, next)) {
                 return Step::Fault(not_written(s, at + 1));
             }
             if !range {

@@ -5,9 +5,10 @@ ghost use Rattle.lines.specs.Pass.{at_first_line, at_fault, behind_module, behin
 ghost use Rattle.lines.specs.Read.{step_number};
 ghost use Rattle.lines.specs.Verdict.{number_of, line_of};
 
-use crate::bytes::{at8, is_open, is_space};
+use crate::bytes::{is_open, is_space};
 use crate::keys;
 use crate::parse::{EACH_NAME, Number, kind_of, word_at};
+use crate::parts::byte;
 use crate::read::{Step, Verdict, line_step, number_after};
 
 // How long the tables of kinds and of modules' places are.
@@ -21,7 +22,7 @@ fn second_behind(s: &[u8], n: Number) -> u64
     match n {
         Number::None => 0,
         Number::Is { value: _, next } => {
-            if !is_space(at8(s, next)) {
+            if !is_space(byte(s, next)) {
                 return 0;
             }
             let w = word_at(s, next + 1);
@@ -34,7 +35,7 @@ fn second_behind(s: &[u8], n: Number) -> u64
 fn second_key(s: &[u8], at: usize) -> u64
     ensures { result ≡ second_key s.now at }
 {
-    if !is_open(at8(s, at)) {
+    if !is_open(byte(s, at)) {
         return 0;
     }
     let w = word_at(s, at + 1);

@@ -13,7 +13,7 @@ use Rattle.lines.proofs.Laws.{byte_is, byte_not}
 use Rattle.lines.proofs.parse.atom.Goals as goal
 
 pub overflow_add-at : goal.overflow_add-at
-overflow_add-at c = let h = inside c.args.s.now c.args.at (λ e. omega (arith, byte_is _ _ _ 45 c.is_minus.ensures c.at8.ensures c.if-is_minus.true)) in omega arith
+overflow_add-at c = let h = inside c.args.s.now c.args.at (λ e. omega (arith, byte_is _ _ _ 45 c.is_minus.ensures c.byte.ensures c.if-is_minus.true)) in omega arith
 
 pub returns-in-Name : goal.returns-in-Name
 returns-in-Name c = rw c.in-Name.is (c.numbered.ensures ∙ ap (λ (n : Number). numbered n name_bound) c.number_at.ensures)
@@ -45,10 +45,10 @@ pub returns-in-E : goal.returns-in-E
 returns-in-E c = rw c.in-E.is c.literal.ensures
 
 pub returns-then-is_minus : goal.returns-then-is_minus
-returns-then-is_minus c = rw c.in-X.is (c.worded-then-is_minus.ensures ∙ place_single c.args.s.now c.args.at (byte_is _ _ _ 45 c.is_minus.ensures c.at8.ensures c.if-is_minus.true))
+returns-then-is_minus c = rw c.in-X.is (c.worded-then-is_minus.ensures ∙ place_single c.args.s.now c.args.at (byte_is _ _ _ 45 c.is_minus.ensures c.byte.ensures c.if-is_minus.true))
 
 pub returns-else-is_minus : goal.returns-else-is_minus
-returns-else-is_minus c = rw c.in-X.is (c.literal-else-is_minus.ensures ∙ place_at c.args.s.now c.args.at (byte_not _ _ _ 45 c.is_minus.ensures c.at8.ensures c.if-is_minus.false))
+returns-else-is_minus c = rw c.in-X.is (c.literal-else-is_minus.ensures ∙ place_at c.args.s.now c.args.at (byte_not _ _ _ 45 c.is_minus.ensures c.byte.ensures c.if-is_minus.false))
 
 pub returns-in-T : goal.returns-in-T
 unfolding key code_after

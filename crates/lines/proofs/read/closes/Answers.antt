@@ -28,7 +28,7 @@ pub overflow_add-i : goal.overflow_add-i
 overflow_add-i c = omega arith
 
 pub returns-then-k-eq1 : goal.returns-then-k-eq1
-returns-then-k-eq1 c = c.is_feed.ensures ∙ ap (λ (x : ℕ). eqb x 10) c.at8.ensures ∙ closes_last c.args.s.now c.loop-i.i c.loop-i.k c.loop-i-test.true (class_is _ _ Close c.class_of.ensures c.in-Close.is) c.if-k-eq1.true ∙ sym c.loop-i.invariant.2
+returns-then-k-eq1 c = c.is_feed.ensures ∙ ap (λ (x : ℕ). eqb x 10) c.byte.ensures ∙ closes_last c.args.s.now c.loop-i.i c.loop-i.k c.loop-i-test.true (class_is _ _ Close c.class_of.ensures c.in-Close.is) c.if-k-eq1.true ∙ sym c.loop-i.invariant.2
 
 pub overflow_sub-k : goal.overflow_sub-k
 overflow_sub-k c = omega arith
