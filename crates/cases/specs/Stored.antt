@@ -1,12 +1,11 @@
 -- A file of stored cases, and what is counted over it. 01: The report. compare/README.md: Stored cases.
 -- To a reader: definitions to believe; the promise of run, which counts the cases and those that differ, cites file_of and tally.
-use Rattle.std.specs.Prelude.{Bool, true, false, List, [], ◌∷◌, ℕ, zero, suc, ◌+◌, ◌-◌, eqb, ltb, length, get_or, take, drop}
+use Rattle.std.specs.Prelude.{Bool, true, false, List, [], ◌∷◌, Option, Some, None, ℕ, zero, suc, ◌+◌, ◌-◌, eqb, ltb, length, get_or, take, drop}
 use Rattle.spec.specs.Bytes.{Bytes, bytes}
 use Rattle.lines.specs.Parse.{key, word_at}
 use Rattle.lines.specs.Parts.{part_end, piece}
 use Rattle.lines.specs.Read.{number_after}
 use Rattle.lines.specs.declared.parse.Number.{Number}
-use Rattle.lines.specs.declared.parse.Number.TheVariants.{None, Is}
 use Rattle.cases.specs.Answer.{agrees}
 use Rattle.cases.specs.declared.record.Record.{Record}
 use Rattle.cases.specs.declared.record.Record.TheVariants as stored
@@ -43,14 +42,14 @@ closed s name at text answer =
     ]
 
 -- a record with that number as ANSWERLEN; without one it is bad
-abbrev pub answered : Bytes → ℕ → ℕ → Number → Record
+abbrev pub answered : Bytes → ℕ → ℕ → Option Number → Record
 answered s name text None = stored.Bad
-answered s name text (Is answer at) = closed s name at text answer
+answered s name text (Some answer) = closed s name answer.next text answer.value
 
 -- a record with that number as TEXTLEN; without one it is bad
-abbrev pub texted : Bytes → ℕ → Number → Record
+abbrev pub texted : Bytes → ℕ → Option Number → Record
 texted s name None = stored.Bad
-texted s name (Is text at) = answered s name text (number_after s at)
+texted s name (Some text) = answered s name text.value (number_after s text.next)
 
 -- a record whose name ends at `name`, with two numbers behind it, each behind one space
 unfoldable pub named : Bytes → ℕ → Record

@@ -4,7 +4,7 @@ ghost use Rattle.std.specs.Prelude.{◌≡◌, take};
 ghost use Rattle.cases.specs.Stored.{case_key, sized, closed, named, record_of};
 
 use lines::bytes::{Class, class_of, is_feed, is_open};
-use lines::parse::{Number, word_at};
+use lines::parse::word_at;
 use lines::parts::{byte, part_end};
 use lines::read::number_after;
 
@@ -82,19 +82,13 @@ fn closed(s: &[u8], name: usize, at: usize, text: u64, answer: u64) -> Record
 fn named(s: &[u8], name: usize) -> Record
     ensures { result ≡ named s.now name }
 {
-    match number_after(s, name) {
-        Number::None => Record::Bad,
-        Number::Is {
-            value: text,
-            next: i,
-        } => match number_after(s, i) {
-            Number::None => Record::Bad,
-            Number::Is {
-                value: answer,
-                next: j,
-            } => closed(s, name, j, text, answer),
-        },
-    }
+    let Some(text) = number_after(s, name) else {
+        return Record::Bad;
+    };
+    let Some(answer) = number_after(s, text.next) else {
+        return Record::Bad;
+    };
+    closed(s, name, answer.next, text.value, answer.value)
 }
 
 // The record that these bytes begin with.

@@ -4,7 +4,7 @@ ghost use Rattle.lines.specs.Read.{closes_at, not_written, set_line, number_afte
 
 use crate::bytes::{Class, class_of, is_feed, is_open, is_space};
 use crate::keys;
-use crate::parse::{Cat, NAMES, Number, Parsed, number_at, part, word_at};
+use crate::parse::{Cat, NAMES, Number, number_at, part, word_at};
 use crate::parts::byte;
 
 pub(crate) const TEXT: usize = 32768;
@@ -77,48 +77,44 @@ pub(crate) fn set_line(s: &[u8]) -> u32
 }
 
 // The number behind a space.
-pub fn number_after(s: &[u8], at: usize) -> Number
+pub fn number_after(s: &[u8], at: usize) -> Option<Number>
     ensures { result ≡ number_after s.now at }
 {
     if !is_space(byte(s, at)) {
-        return Number::None;
+        return None;
     }
     number_at(s, at + 1)
 }
 
-fn module_step(n: Number, modules: u32, feed: usize) -> Step
+fn module_step(n: Option<Number>, modules: u32, feed: usize) -> Step
     ensures { result ≡ module_step n modules feed }
 {
-    match n {
-        Number::None => Step::Fault(4),
-        Number::Is { value, next: _ } => {
-            if value != modules as u64 {
-                return Step::Fault(6);
-            }
-            if MODULES <= modules {
-                return Step::Fault(7);
-            }
-            Step::Module(feed)
-        }
+    let Some(n) = n else {
+        return Step::Fault(4);
+    };
+    if n.value != modules as u64 {
+        return Step::Fault(6);
     }
+    if MODULES <= modules {
+        return Step::Fault(7);
+    }
+    Step::Module(feed)
 }
 
-fn kind_step(n: Number, seen: &[u8], feed: usize) -> Step
+fn kind_step(n: Option<Number>, seen: &[u8], feed: usize) -> Step
     ensures { result ≡ kind_step n seen.now feed }
 {
-    match n {
-        Number::None => Step::Fault(4),
-        Number::Is { value, next: _ } => {
-            if NAMES <= value {
-                return Step::Fault(5);
-            }
-            let name = value as usize;
-            if byte(seen, name) != 0 {
-                return Step::Fault(7);
-            }
-            Step::Kind(feed, name)
-        }
+    let Some(n) = n else {
+        return Step::Fault(4);
+    };
+    if NAMES <= n.value {
+        return Step::Fault(5);
     }
+    let name = n.value as usize;
+    if byte(seen, name) != 0 {
+        return Step::Fault(7);
+    }
+    Step::Kind(feed, name)
 }
 
 // A line that is well written and in range, by its head.
@@ -155,18 +151,16 @@ pub(crate) fn line_step(s: &[u8], at: usize, modules: u32, items: bool, seen: &[
     if !is_open(byte(s, at)) {
         return Step::Fault(3);
     }
-    match part(s, at, Cat::L, DEPTH) {
-        Parsed::Bad => Step::Fault(not_written(s, at + 1)),
-        Parsed::Good { next, range } => {
-            if !is_feed(byte(s, next)) {
-                return Step::Fault(not_written(s, at + 1));
-            }
-            if !range {
-                return Step::Fault(5);
-            }
-            head_step(s, at + 1, next, modules, items, seen)
-        }
+    let Some(p) = part(s, at, Cat::L, DEPTH) else {
+        return Step::Fault(not_written(s, at + 1));
+    };
+    if !is_feed(byte(s, p.next)) {
+        return Step::Fault(not_written(s, at + 1));
     }
+    if !p.range {
+        return Step::Fault(5);
+    }
+    head_step(s, at + 1, p.next, modules, items, seen)
 }
 
 // The lowest fault of the text on its first faulty line, or how many modules a well formed text has.

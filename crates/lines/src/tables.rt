@@ -16,19 +16,16 @@ pub const KINDS: usize = 32 * EACH_NAME;
 
 pub const MODS: usize = 32 * 4;
 
-fn second_behind(s: &[u8], n: Number) -> u64
+fn second_behind(s: &[u8], n: Option<Number>) -> u64
     ensures { result ≡ second_behind n s.now }
 {
-    match n {
-        Number::None => 0,
-        Number::Is { value: _, next } => {
-            if !is_space(byte(s, next)) {
-                return 0;
-            }
-            let w = word_at(s, next + 1);
-            w.key
-        }
+    let Some(n) = n else {
+        return 0;
+    };
+    if !is_space(byte(s, n.next)) {
+        return 0;
     }
+    word_at(s, n.next + 1).key
 }
 
 // The word behind the number of the form at a position.
@@ -38,8 +35,7 @@ fn second_key(s: &[u8], at: usize) -> u64
     if !is_open(byte(s, at)) {
         return 0;
     }
-    let w = word_at(s, at + 1);
-    second_behind(s, number_after(s, w.next))
+    second_behind(s, number_after(s, word_at(s, at + 1).next))
 }
 
 fn flag_of(key: u64) -> u32

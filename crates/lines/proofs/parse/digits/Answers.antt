@@ -1,6 +1,5 @@
 use Rattle.lines.proofs.Laws.{digit_range, digits_end, digits_stop, digits_more}
-use Rattle.lines.specs.Parse.{digits_from}
-use Rattle.lines.specs.declared.parse.Number.TheVariants.{Is}
+use Rattle.lines.specs.Parse.{valued, digits_from}
 use lib.ListN.{drop}
 use native.Mathlib.Omega.{arith}
 use mathlib.Core.Path.{◌≡◌, refl, sym, ap, ◌∙◌}
@@ -25,4 +24,4 @@ loop-i-preserved c = (λ h. absurd (omega arith), c.loop-i.invariant.1 ∙ digit
 pub returns : goal.returns
 returns c =
     let z : c.max.result ≡ c.loop-i.i = grind (arith, c.max.ensures, c.loop-i.invariant.0, c.loop-i.auto.i-end) in
-    ap (Is c.loop-i.a) z ∙ digits_end c.args.s.now c.loop-i.i c.loop-i.a c.loop-i-test.false ∙ sym c.loop-i.invariant.1
+    ap (valued c.loop-i.a) z ∙ digits_end c.args.s.now c.loop-i.i c.loop-i.a c.loop-i-test.false ∙ sym c.loop-i.invariant.1

@@ -1,3 +1,4 @@
+use Rattle.std.specs.Prelude.{Some}
 use Rattle.lines.proofs.Laws.{inside, number_zero, number_none, number_some}
 use Rattle.lines.specs.Bytes.{class_of, is_digit}
 use Prim.Native.Nat.{ℕ}
@@ -15,4 +16,4 @@ pub returns-then-not-is_digit : goal.returns-then-not-is_digit
 returns-then-not-is_digit c = number_none c.args.s.now c.args.at (λ e. c.if-c-eq48.false (c.byte-c.ensures ∙ e)) (ap (λ (x : ℕ). is_digit (class_of x)) (sym c.byte-c.ensures) ∙ sym c.is_digit.ensures ∙ c.if-not-is_digit.true)
 
 pub returns : goal.returns
-returns c = c.digits.ensures ∙ number_some c.args.s.now c.args.at (λ e. c.if-c-eq48.false (c.byte-c.ensures ∙ e)) (ap (λ (x : ℕ). is_digit (class_of x)) (sym c.byte-c.ensures) ∙ sym c.is_digit.ensures ∙ c.if-not-is_digit.false)
+returns c = ap Some c.digits.ensures ∙ number_some c.args.s.now c.args.at (λ e. c.if-c-eq48.false (c.byte-c.ensures ∙ e)) (ap (λ (x : ℕ). is_digit (class_of x)) (sym c.byte-c.ensures) ∙ sym c.is_digit.ensures ∙ c.if-not-is_digit.false)
