@@ -2,7 +2,6 @@
 #![tactic(auto)]
 
 use input::Input;
-use lines::read::Verdict;
 use report::Put;
 use std::io;
 
@@ -22,8 +21,8 @@ fn print_refused(rt: &impl Print, number: u32, line: u32) -> io::Result<()> {
 
 fn print_verdict(rt: &impl Print, text: &[u8]) -> io::Result<()> {
     match lines::reader::read(text) {
-        Verdict::Refused(number, line) => print_refused(rt, number, line),
-        Verdict::Formed(_) => Ok(()),
+        Err(r) => print_refused(rt, r.number, r.line),
+        Ok(_) => Ok(()),
     }
 }
 

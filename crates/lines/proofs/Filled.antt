@@ -11,8 +11,7 @@ use Rattle.spec.specs.Bytes.{Bytes}
 use Rattle.spec.specs.Syntax.{name_bound, Header}
 use Rattle.spec.specs.Refusal.{lines, decode_lines, gather, Gathered, decode, at_start, lines_fault}
 use Rattle.lines.specs.Tables.{put_header, put_kinds, marked, header_size, items_size, put_mods}
-use Rattle.lines.specs.Verdict.{told, modules_in}
-use Rattle.lines.specs.declared.read.Verdict.TheVariants.{Refused}
+use Rattle.lines.specs.Verdict.{refused_as, told, modules_in}
 use Rattle.lines.specs.declared.tables.Progress.{Progress}
 use Rattle.lines.proofs.Going.{Going}
 
@@ -57,4 +56,4 @@ pub record Reading (t : Bytes) (kinds₀ mods₀ : List ℕ) (p : Progress) (see
   pub kinds_kept : length kinds ≡ length kinds₀
   pub mods_kept : length mods ≡ length mods₀
   pub goes_on : p.fault ≡ 0 → Filling t p.next p.row p.modules p.items p.first seen kinds₀ mods₀ kinds mods
-  pub stopped : (p.fault ≡ 0 → ⊥) → (length t ≤ p.next) × (Refused p.fault p.row ≡ told (lines_fault at_start 1 (lines t)) (modules_in (lines t)))
+  pub stopped : (p.fault ≡ 0 → ⊥) → (length t ≤ p.next) × (refused_as p.fault p.row ≡ told (lines_fault at_start 1 (lines t)) (modules_in (lines t)))

@@ -14,14 +14,14 @@ use Rattle.spec.specs.Refusal.{Verdict, lines, Before, has_name}
 use Rattle.spec.proofs.Numbers.{if_case}
 use Rattle.lines.specs.Parse.{kind_of}
 use Rattle.lines.specs.Read.{step_number, line_step}
-use Rattle.lines.specs.Verdict.{modules_in, told}
+use Rattle.lines.specs.Verdict.{modules_in, refused_as, told}
 use Rattle.lines.specs.Tables.{entries, marked, second_key, flag_of}
 use Rattle.lines.specs.Pass.{at_first_line, step_at, behind, seen_behind, kinds_behind, mods_behind, answer_of, Fitting, Standing, Fills}
 use Rattle.lines.proofs.Filled.{Filling, Reading}
 use Rattle.lines.specs.declared.read.Step.{Step}
 use Rattle.lines.specs.declared.read.Step.TheVariants.{Fault, Module, Kind, Val, Item}
-use Rattle.lines.specs.declared.read.Verdict.{Verdict as Answer}
-use Rattle.lines.specs.declared.read.Verdict.TheVariants.{Refused, Formed}
+use Rattle.lines.specs.declared.read.Refusal.{Refusal}
+use Rattle.std.specs.Prelude.{Result, Ok}
 use Rattle.lines.specs.declared.tables.Progress.{Progress}
 use Rattle.lines.proofs.Steps.{Right, line_right}
 use Rattle.lines.proofs.Turns.{pass_room, going_start, going_right, going_module, going_kind, going_val, going_item, going_fault, going_end}
@@ -260,7 +260,7 @@ module _ (t : Bytes) (kinds₀ mods₀ : List ℕ) (fit : Fitting t kinds₀ mod
       reading_further = rw e (further t p.next p seen kinds mods standing)
 
   -- nothing is left to read
-  pub reading_end : length t ≤ p.next → (r : Answer) → r ≡ answer_of p → Fills t kinds₀ mods₀ r kinds mods
+  pub reading_end : length t ≤ p.next → (r : Result ℕ Refusal) → r ≡ answer_of p → Fills t kinds₀ mods₀ r kinds mods
   unfolding answer_of
   reading_end h r e = go (eqb p.fault 0) refl
     where
@@ -272,5 +272,5 @@ module _ (t : Bytes) (kinds₀ mods₀ : List ℕ) (fit : Fitting t kinds₀ mod
           let u = (w.stopped (eqb-false p.fault 0 z)).1 in
           (e ∙ rw (z, answer_of) u, λ v. absurd (no (u ∙ ap (λ (x : Verdict). told x (modules_in (lines t))) v)))
         where
-          no : {k n m : ℕ} → Refused k n ≡ Formed m → ⊥
+          no : {k n m : ℕ} → refused_as k n ≡ Ok m → ⊥
           no e = let z : ◌≡◌ {A = ℕ} 0 1 = cc e in omega arith

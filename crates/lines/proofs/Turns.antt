@@ -16,11 +16,11 @@ use Rattle.spec.specs.Show.{show_line}
 use Rattle.spec.specs.Refusal.{Verdict, well_formed, refused, lines, ends_in_feed, Before, at_start, after_line, has_name, line_fault, lines_fault, decode_lines, gather, in_set, byte_fault, set_fault, refusal, decode}
 use Rattle.spec.proofs.Shown.{decode_show_line, show_line_set}
 use Rattle.lines.specs.Read.{fault_line, set_line, line_step}
-use Rattle.lines.specs.Verdict.{told, Ended, modules_in}
+use Rattle.lines.specs.Verdict.{refused_as, told, Ended, modules_in}
 use Rattle.lines.proofs.Going.{Going}
 use Rattle.lines.specs.declared.read.Step.{Step}
 use Rattle.lines.specs.declared.read.Step.TheVariants.{Module, Kind, Val, Item}
-use Rattle.lines.specs.declared.read.Verdict.TheVariants.{Refused, Formed}
+use Rattle.std.specs.Prelude.{Ok}
 use Rattle.lines.proofs.Laws.{if_case, inside}
 use Rattle.lines.proofs.Steps.{line_right, lines_feed, shown_fault, behind_feed, Passed, Failed, Right, Seen}
 
@@ -143,20 +143,20 @@ module _ (t : Bytes) (at n modules : ℕ) (items : Bool) (seen : List ℕ) (g : 
 
 -- a line with a fault ends the reading
 pub going_fault : (t : Bytes) (at n modules : ℕ) (items : Bool) (seen : List ℕ) (g : Going t at n modules items seen) (k : ℕ)
-    → Failed t at (record { modules = modules; has_item = items; kinds = g.kinds }) k → Refused k n ≡ told (lines_fault at_start 1 (lines t)) (modules_in (lines t))
+    → Failed t at (record { modules = modules; has_item = items; kinds = g.kinds }) k → refused_as k n ≡ told (lines_fault at_start 1 (lines t)) (modules_in (lines t))
 unfolding lines_fault
 going_fault t at n modules items seen g k f = go k f.fault f.above
   where
     b : Before
     b = record { modules = modules; has_item = items; kinds = g.kinds }
 
-    go : (k : ℕ) → line_fault b f.line ≡ k → 0 < k → Refused k n ≡ told (lines_fault at_start 1 (lines t)) (modules_in (lines t))
+    go : (k : ℕ) → line_fault b f.line ≡ k → 0 < k → refused_as k n ≡ told (lines_fault at_start 1 (lines t)) (modules_in (lines t))
     go zero e h = absurd (omega arith)
     go (suc k) e h =
         let u : lines_fault b n (f.line ∷ f.others) ≡ refused (suc k) n = rw (e, lines_fault) in
         ap (λ (v : Verdict). told v (modules_in (lines t))) (sym (g.verdict ∙ ap (lines_fault b n) f.rows ∙ u))
 
-pub going_end : (t : Bytes) (at n modules : ℕ) (items : Bool) (seen : List ℕ) → Going t at n modules items seen → length t ≤ at → Formed modules ≡ told (lines_fault at_start 1 (lines t)) (modules_in (lines t))
+pub going_end : (t : Bytes) (at n modules : ℕ) (items : Bool) (seen : List ℕ) → Going t at n modules items seen → length t ≤ at → Ok modules ≡ told (lines_fault at_start 1 (lines t)) (modules_in (lines t))
 unfolding lines_fault modules_in lines decode_lines gather
 going_end t at n modules items seen g h =
     let e : drop at t ≡ [] = drop_of_length-le t h in
@@ -167,7 +167,7 @@ going_end t at n modules items seen g h =
 
 -- ---- the whole text
 
-pub text_long : (t : Bytes) → 32768 < length t → Refused 1 0 ≡ told (refusal t) (length (decode t))
+pub text_long : (t : Bytes) → 32768 < length t → refused_as 1 0 ≡ told (refusal t) (length (decode t))
 unfolding refusal
 text_long t h = rw (lt-ltb 32768 (length t) h, refusal)
 
@@ -198,13 +198,13 @@ set_two t = go (byte_fault 1 t) (bytes_two t 1 (omega arith))
     go (refused k n) w = w
     go well_formed w = if_case Twos (ends_in_feed t) well_formed (refused 2 (length (lines t))) (λ _. tt) (λ e. (refl, some_line t e))
 
-pub text_set : (t : Bytes) (n : ℕ) → length t ≤ 32768 → n ≡ set_line t → (n ≡ 0 → ⊥) → Refused 2 n ≡ told (refusal t) (length (decode t))
+pub text_set : (t : Bytes) (n : ℕ) → length t ≤ 32768 → n ≡ set_line t → (n ≡ 0 → ⊥) → refused_as 2 n ≡ told (refusal t) (length (decode t))
 unfolding refusal set_line
 text_set t n h e f = go (set_fault t) refl (set_two t)
   where
-    go : (v : Verdict) → set_fault t ≡ v → Twos v → Refused 2 n ≡ told (refusal t) (length (decode t))
+    go : (v : Verdict) → set_fault t ≡ v → Twos v → refused_as 2 n ≡ told (refusal t) (length (decode t))
     go well_formed q w = absurd (f (e ∙ ap fault_line q))
-    go (refused k m) q w = rw (le-ltb 32768 (length t) h, q, refusal) (ap₂ Refused (sym w.0) (e ∙ ap fault_line q))
+    go (refused k m) q w = rw (le-ltb 32768 (length t) h, q, refusal) (ap₂ refused_as (sym w.0) (e ∙ ap fault_line q))
 
 fine_set : (t : Bytes) (n : ℕ) → n ≡ set_line t → n ≡ 0 → set_fault t ≡ well_formed
 unfolding set_line

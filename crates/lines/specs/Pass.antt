@@ -1,18 +1,17 @@
 -- One pass over the lines of a text: what a line does to where the reading stands and to the tables, and what the whole pass answers and leaves.
 -- 01: The line; Refused because of the text; Refused because of the state.
 -- To a reader: definitions that contracts of this crate cite; each such contract is proved; check_drivers' own promise cites none of them.
-use Rattle.std.specs.Prelude.{◌≡◌, Bool, true, false, List, ℕ, ◌+◌, ◌*◌, ◌-◌, ◌≤◌, ◌<◌, eqb, length, drop, set, replicate}
+use Rattle.std.specs.Prelude.{◌≡◌, Bool, true, false, Result, Ok, List, ℕ, ◌+◌, ◌*◌, ◌-◌, ◌≤◌, ◌<◌, eqb, length, drop, set, replicate}
 use Rattle.spec.specs.Bytes.{Bytes}
 use Rattle.spec.specs.Syntax.{name_bound}
 use Rattle.spec.specs.Refusal.{well_formed, lines, ends_in_feed, at_start, lines_fault, decode}
 use Rattle.lines.specs.Parse.{kind_of}
 use Rattle.lines.specs.Read.{line_step}
 use Rattle.lines.specs.Tables.{entries, marked, put_kinds, put_mods, second_key, flag_of}
-use Rattle.lines.specs.Verdict.{told, Ended, modules_in}
+use Rattle.lines.specs.Verdict.{refused_as, told, Ended, modules_in}
 use Rattle.lines.specs.declared.read.Step.{Step}
 use Rattle.lines.specs.declared.read.Step.TheVariants.{Fault, Module, Kind, Val, Item}
-use Rattle.lines.specs.declared.read.Verdict.{Verdict as Answer}
-use Rattle.lines.specs.declared.read.Verdict.TheVariants.{Refused, Formed}
+use Rattle.lines.specs.declared.read.Refusal.{Refusal}
 use Rattle.lines.specs.declared.tables.Progress.{Progress}
 
 -- 01, Refused because of the text: before any line: line 1 is next, at the text's start
@@ -72,8 +71,8 @@ mods_behind (Val feed) t at p mods = marked mods (p.modules - 1) (feed + 1) (fee
 mods_behind (Item feed) t at p mods = marked mods (p.modules - 1) p.first (feed + 1)
 
 -- 01, Refused because of the text: the answer where nothing is left to read: the fault with its row, or so many modules
-unfoldable pub answer_of : Progress → Answer
-answer_of p = elim (eqb p.fault 0) [ true ↦ Formed p.modules | false ↦ Refused p.fault p.row ]
+unfoldable pub answer_of : Progress → Result ℕ Refusal
+answer_of p = elim (eqb p.fault 0) [ true ↦ Ok p.modules | false ↦ refused_as p.fault p.row ]
 
 -- 01, Refused because of the text: the line of the fault that ended the reading, and 0 where none did
 unfoldable pub fault_row : Progress → ℕ
@@ -97,7 +96,7 @@ pub record Standing (t : Bytes) (at : ℕ) (p : Progress) (seen kinds mods : Lis
 
 -- 01, Refused because of the text; The line: what the pass answers and leaves: the lowest fault of 3 to 7 on the first line that has one, or so many
 -- modules; and where there is none, the tables of the design over what they held
-abbrev pub Fills : Bytes → List ℕ → List ℕ → Answer → List ℕ → List ℕ → Type 0
+abbrev pub Fills : Bytes → List ℕ → List ℕ → Result ℕ Refusal → List ℕ → List ℕ → Type 0
 Fills t kinds mods r kinds' mods' =
     (r ≡ told (lines_fault at_start 1 (lines t)) (modules_in (lines t)))
     × (lines_fault at_start 1 (lines t) ≡ well_formed → (kinds' ≡ put_kinds 0 (decode t) kinds) × (mods' ≡ put_mods 0 0 (decode t) mods))

@@ -163,9 +163,9 @@ pub(crate) fn line_step(s: &[u8], at: usize, modules: u32, items: bool, seen: &[
     head_step(s, at + 1, p.next, modules, items, seen)
 }
 
-// The lowest fault of the text on its first faulty line, or how many modules a well formed text has.
-#[derive(Clone, Copy)]
-pub enum Verdict {
-    Refused(u32, u32),
-    Formed(u32),
+// The lowest fault of the text, 1 to 7, on its first faulty line: a text that is refused.
+#[derive(Clone, Copy, Debug, PartialEq, Eq)]
+pub struct Refusal {
+    pub number: u32,
+    pub line: u32,
 }

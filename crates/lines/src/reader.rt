@@ -9,8 +9,8 @@ ghost use Rattle.lines.specs.Reader.{number_of, line_of, by_room, read_as, kinds
 ghost use Rattle.lines.specs.Pass.{Fitting, Fills};
 
 use crate::parse::EACH_NAME;
-use crate::read::{TEXT, Verdict, set_line};
-use crate::tables::{KINDS, MODS, Read, answer, enter_line, start};
+use crate::read::{Refusal, TEXT, set_line};
+use crate::tables::{KINDS, MODS, ReadError, answer, enter_line, start};
 
 #[derive(Clone, Copy)]
 struct Reader<'a> {
@@ -24,7 +24,7 @@ fn fill<'a, 's, 'k, 'm>(
     seen: &'s mut [u8],
     kinds: &'k mut [u8],
     mods: &'m mut [u32],
-) -> Verdict
+) -> Result<u32, Refusal>
     requires { (seen.old ≡ replicate name_bound 0) × Fitting text.now kinds.old mods.old }
     ensures { Fills text.now kinds.old mods.old result kinds.new mods.new }
 {
@@ -42,7 +42,7 @@ fn fill<'a, 's, 'k, 'm>(
 
 // The text's lowest fault on its first faulty line, or its tables. Tables that are too short keep what they hold; of a text that
 // is refused they are zero.
-pub fn read_text(text: &[u8], kinds: &mut [u8], mods: &mut [u32]) -> Read
+pub fn read_text(text: &[u8], kinds: &mut [u8], mods: &mut [u32]) -> Result<u32, ReadError>
     ensures value { result ≡ read_as (length kinds.old) (length mods.old) text.now }
     ensures kinds_after { kinds.new ≡ kinds_after kinds.old (length mods.old) text.now }
     ensures mods_after { mods.new ≡ mods_after mods.old (length kinds.old) text.now }
@@ -50,33 +50,33 @@ pub fn read_text(text: &[u8], kinds: &mut [u8], mods: &mut [u32]) -> Read
     ensures result_value_2 { line_of result ≡ by_room 0 (fault_line (refusal text.now)) (length kinds.old) (length mods.old) }
 {
     if kinds.len() < KINDS {
-        return Read::Short;
+        return Err(ReadError::Short);
     }
     if mods.len() < MODS {
-        return Read::Short;
+        return Err(ReadError::Short);
     }
     kinds.fill(0);
     mods.fill(0);
     if TEXT < text.len() {
-        return Read::Refused(1, 0);
+        return Err(ReadError::Refused(Refusal { number: 1, line: 0 }));
     }
     let bad = set_line(text);
     if bad != 0 {
-        return Read::Refused(2, bad);
+        return Err(ReadError::Refused(Refusal { number: 2, line: bad }));
     }
     let mut seen = [0u8; EACH_NAME];
     match fill(text, &mut seen, kinds, mods) {
-        Verdict::Refused(k, n) => {
+        Err(r) => {
             kinds.fill(0);
             mods.fill(0);
-            Read::Refused(k, n)
+            Err(ReadError::Refused(r))
         }
-        Verdict::Formed(m) => Read::Accepted(m),
+        Ok(m) => Ok(m),
     }
 }
 
 // What a text is refused with, or how many modules it has: for callers that lend no tables.
-pub fn read(text: &[u8]) -> Verdict
+pub fn read(text: &[u8]) -> Result<u32, Refusal>
     ensures value { result ≡ told (refusal text.now) (length (decode text.now)) }
     ensures result_value { verdict_number result ≡ fault_number (refusal text.now) }
     ensures result_value_2 { verdict_line result ≡ fault_line (refusal text.now) }
@@ -84,8 +84,8 @@ pub fn read(text: &[u8]) -> Verdict
     let mut kinds = [0u8; KINDS];
     let mut mods = [0u32; MODS];
     match read_text(text, &mut kinds, &mut mods) {
-        Read::Short => Verdict::Formed(0),
-        Read::Refused(k, n) => Verdict::Refused(k, n),
-        Read::Accepted(m) => Verdict::Formed(m),
+        Err(ReadError::Short) => Ok(0),
+        Err(ReadError::Refused(r)) => Err(r),
+        Ok(m) => Ok(m),
     }
 }

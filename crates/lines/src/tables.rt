@@ -9,7 +9,7 @@ use crate::bytes::{is_open, is_space};
 use crate::keys;
 use crate::parse::{EACH_NAME, Number, kind_of, word_at};
 use crate::parts::byte;
-use crate::read::{Step, Verdict, line_step, number_after};
+use crate::read::{Refusal, Step, line_step, number_after};
 
 // How long the tables of kinds and of modules' places are.
 pub const KINDS: usize = 32 * EACH_NAME;
@@ -180,20 +180,22 @@ pub(crate) fn enter_line(
     }
 }
 
-// What was found once nothing is left to read.
-pub(crate) fn answer(p: Progress) -> Verdict
+// What was found once nothing is left to read: how many modules there are, or the fault.
+pub(crate) fn answer(p: Progress) -> Result<u32, Refusal>
     ensures { (result ≡ answer_of p) × ((number_of result ≡ p.fault) × (line_of result ≡ fault_row p)) }
 {
     if p.fault == 0 {
-        return Verdict::Formed(p.modules);
+        return Ok(p.modules);
     }
-    Verdict::Refused(p.fault, p.row)
+    Err(Refusal {
+        number: p.fault,
+        line: p.row,
+    })
 }
 
-// The lent tables are too short, the text is refused with a number and a line, or it is accepted and has so many modules.
-#[derive(Clone, Copy)]
-pub enum Read {
+// Why no tables are made: those lent are too short, or the text is refused.
+#[derive(Clone, Copy, Debug, PartialEq, Eq)]
+pub enum ReadError {
     Short,
-    Refused(u32, u32),
-    Accepted(u32),
+    Refused(Refusal),
 }
