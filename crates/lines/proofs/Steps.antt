@@ -20,15 +20,17 @@ use Rattle.spec.specs.Refusal.{lines, ends_in_feed, closes, one_form, written, l
 use Rattle.spec.proofs.Parts.{AllIn}
 use Rattle.spec.proofs.Shown.{decode_show_line, show_line_form, show_line_set, same_self}
 use Rattle.lines.specs.Bytes.{class_of}
-use Rattle.std.specs.Prelude.{Option, Some, None}
+use Rattle.std.specs.Prelude.{Option, Some, None, Result, Ok, Err}
 use Rattle.lines.specs.Parse.{valued, good, key, code_after, word_at, scan}
-use Rattle.lines.specs.Read.{closes_at, not_written, number_after, module_step, kind_step, head_step, parsed_step, line_step}
+use Rattle.lines.specs.Read.{fault_code, closes_at, not_written, number_after, module_step, kind_step, head_step, parsed_step, line_step}
 use Rattle.lines.specs.declared.parse.Cat.TheVariants.{L}
 use Rattle.lines.specs.declared.parse.Parsed.{Parsed}
 use Rattle.lines.specs.declared.parse.Number.{Number}
 use Rattle.lines.specs.declared.parse.Word.{Word}
 use Rattle.lines.specs.declared.read.Step.{Step}
-use Rattle.lines.specs.declared.read.Step.TheVariants.{Fault, Module, Kind, Val, Item as ItemStep}
+use Rattle.lines.specs.declared.read.Step.TheVariants.{Module, Kind, Val, Item as ItemStep}
+use Rattle.lines.specs.declared.read.Fault.{Fault}
+use Rattle.lines.specs.declared.read.Fault.TheVariants.{NotOneForm, BadlyWritten, OutOfRange, OutOfPlace, OneTooMany}
 use Rattle.lines.proofs.Laws.{if_case}
 use Rattle.lines.proofs.ReadLaws.{head_module, head_none, head_late, head_kind, head_val_late, head_val, head_item, after_some}
 use Rattle.lines.proofs.Spelled.{at_cons, cons_at, cons_next, span_next, all_wordly, word_fine, word_there, Caps, number_there}
@@ -144,11 +146,11 @@ module _ (t : Bytes) (i : ℕ) (x r : Bytes) (span : drop i t ≡ x ++ 10 ∷ r)
           absurd (miss (i + length (show_line l)) (line_in_range l) (complete depth_limit t L l i (10 ∷ r) g refl (leb-true (line_depth l) depth_limit h)) (cons_at t (i + length (show_line l)) 10 r (span_next t i (show_line l) (10 ∷ r) g)))
 
   -- its fault is 3 or 4
-  unread_fault : (b : Before) → get_or t i 0 ≡ 40 → NoFeed x → line_fault b x ≡ not_written t (i + 1)
+  unread_fault : (b : Before) → get_or t i 0 ≡ 40 → NoFeed x → line_fault b x ≡ fault_code (not_written t (i + 1))
   unfolding line_fault not_written
   unread_fault b o f = go (closes_at 1 (drop (i + 1) t)) refl
     where
-      go : (d : Bool) → closes_at 1 (drop (i + 1) t) ≡ d → line_fault b x ≡ not_written t (i + 1)
+      go : (d : Bool) → closes_at 1 (drop (i + 1) t) ≡ d → line_fault b x ≡ fault_code (not_written t (i + 1))
       go true e = let g = form_here t i x r span o f ∙ e in rw (e, g, not_read g, line_fault, not_written)
       go false e = let g = form_here t i x r span o f ∙ e in rw (e, g, line_fault, not_written)
 
@@ -178,12 +180,12 @@ pub record Failed (t : Bytes) (i : ℕ) (b : Before) (k : ℕ) : Type 0 where
   pub fault : line_fault b line ≡ k
   pub above : 0 < k
 
-abbrev pub Right : (t : Bytes) (i : ℕ) (b : Before) → Step → Type 0
-Right t i b (Fault k) = Failed t i b k
-Right t i b (Module j) = (bound : Bool) × Passed t i j b (module_line b.modules bound) × (b.modules < 32)
-Right t i b (Kind j n) = (k : Syntax.Kind) × Passed t i j b (header_line (kind n k)) × (n < name_bound)
-Right t i b (Val j) = (n : ℕ) × (v : ℤ) × Passed t i j b (header_line (val n v))
-Right t i b (ItemStep j) = (x : Item) × Passed t i j b (item_line x)
+abbrev pub Right : (t : Bytes) (i : ℕ) (b : Before) → Result Step Fault → Type 0
+Right t i b (Err f) = Failed t i b (fault_code f)
+Right t i b (Ok (Module j)) = (bound : Bool) × Passed t i j b (module_line b.modules bound) × (b.modules < 32)
+Right t i b (Ok (Kind j n)) = (k : Syntax.Kind) × Passed t i j b (header_line (kind n k)) × (n < name_bound)
+Right t i b (Ok (Val j)) = (n : ℕ) × (v : ℤ) × Passed t i j b (header_line (val n v))
+Right t i b (Ok (ItemStep j)) = (x : Item) × Passed t i j b (item_line x)
 
 -- a line that is well written has the fault of its tree
 pub shown_fault : (b : Before) (l : Line) → line_depth l ≤ depth_limit → line_fault b (show_line l) ≡ tree_fault b l
@@ -420,7 +422,7 @@ module _ (t : Bytes) (i : ℕ) (b : Before) (small : b.modules ≤ 32) (seen : L
       item_case t i j b small seen agree x s w (λ e. o.0 (sym h ∙ e)) (λ e. o.1 (sym h ∙ e)) (λ e. o.2 (sym h ∙ e))
 
   -- a line that `scan` does not read to its feed
-  unread : Split (drop i t) → get_or t i 0 ≡ 40 → ((j : ℕ) (a : Bool) → scan depth_limit L t i ≡ good j a → get_or t j 0 ≡ 10 → ⊥) → Failed t i b (not_written t (i + 1))
+  unread : Split (drop i t) → get_or t i 0 ≡ 40 → ((j : ℕ) (a : Bool) → scan depth_limit L t i ≡ good j a → get_or t j 0 ≡ 10 → ⊥) → Failed t i b (fault_code (not_written t (i + 1)))
   unread s o miss = record {
     line = s.line;
     others = lines s.rest;
@@ -429,8 +431,8 @@ module _ (t : Bytes) (i : ℕ) (b : Before) (small : b.modules ≤ 32) (seen : L
     above = above;
   }
     where
-      above : 0 < not_written t (i + 1)
-      above = unfold not_written in if_case (λ n. 0 < n) (closes_at 1 (drop (i + 1) t)) 4 3 (λ e. omega arith) (λ e. omega arith)
+      above : 0 < fault_code (not_written t (i + 1))
+      above = unfold not_written in if_case (λ f. 0 < fault_code f) (closes_at 1 (drop (i + 1) t)) BadlyWritten NotOneForm (λ e. omega arith) (λ e. omega arith)
 
   pub line_right : i < length t → ends_in_feed (drop i t) ≡ true → Right t i b (line_step t i b.modules b.has_item seen)
   unfolding line_step
@@ -457,6 +459,6 @@ module _ (t : Bytes) (i : ℕ) (b : Before) (small : b.modules ≤ 32) (seen : L
               w : Wrote t i p.next f.tree
               w = here (eqb-true (get_or t p.next 0) 10 z)
 
-              in_range : (c : Bool) → line_in_range f.tree ≡ c → Right t i b (elim (eqb (get_or t p.next 0) 10) as (λ _. Step) [ true ↦ elim c as (λ _. Step) [ true ↦ head_step t (i + 1) p.next b.modules b.has_item seen | false ↦ Fault 5 ] | false ↦ Fault (not_written t (i + 1)) ])
+              in_range : (c : Bool) → line_in_range f.tree ≡ c → Right t i b (elim (eqb (get_or t p.next 0) 10) as (λ _. Result Step Fault) [ true ↦ elim c as (λ _. Result Step Fault) [ true ↦ head_step t (i + 1) p.next b.modules b.has_item seen | false ↦ Err OutOfRange ] | false ↦ Err (not_written t (i + 1)) ])
               in_range false g = rw z (wrote_fails t i p.next f.tree b 5 w (fault_range b f.tree g) (omega arith))
               in_range true g = rw z (head_right p.next f.tree g w)

@@ -20,7 +20,8 @@ use Rattle.lines.specs.Verdict.{refused_as, told, Ended, modules_in}
 use Rattle.lines.proofs.Going.{Going}
 use Rattle.lines.specs.declared.read.Step.{Step}
 use Rattle.lines.specs.declared.read.Step.TheVariants.{Module, Kind, Val, Item}
-use Rattle.std.specs.Prelude.{Ok}
+use Rattle.std.specs.Prelude.{Result, Ok}
+use Rattle.lines.specs.declared.read.Fault.{Fault}
 use Rattle.lines.proofs.Laws.{if_case, inside}
 use Rattle.lines.proofs.Steps.{line_right, lines_feed, shown_fault, behind_feed, Passed, Failed, Right, Seen}
 
@@ -63,7 +64,7 @@ module _ (t : Bytes) (at n modules : ℕ) (items : Bool) (seen : List ℕ) (g : 
   abbrev before : Before
   before = record { modules = modules; has_item = items; kinds = g.kinds }
 
-  pub going_module : Right t at before (Module feed) → length seen ≡ name_bound → Going t (feed + 1) (n + 1) (modules + 1) false (replicate (length seen) 0)
+  pub going_module : Right t at before (Ok (Module feed)) → length seen ≡ name_bound → Going t (feed + 1) (n + 1) (modules + 1) false (replicate (length seen) 0)
   unfolding after_line modules_in gather
   going_module r z =
       let p = r.1 in
@@ -93,7 +94,7 @@ module _ (t : Bytes) (at n modules : ℕ) (items : Bool) (seen : List ℕ) (g : 
           let v : get_or (set seen k 1) n 0 ≡ get_or seen n 0 = get_or-set_other seen k n 1 0 (eqb-false n k e) in
           rw (v, e) (g.agree n q)
 
-  pub going_kind : (k : ℕ) → Right t at before (Kind feed k) → length seen ≡ name_bound → Going t (feed + 1) (n + 1) modules items (set seen k 1)
+  pub going_kind : (k : ℕ) → Right t at before (Ok (Kind feed k)) → length seen ≡ name_bound → Going t (feed + 1) (n + 1) modules items (set seen k 1)
   unfolding after_line modules_in gather
   going_kind k r z =
       let p = r.1 in
@@ -109,7 +110,7 @@ module _ (t : Bytes) (at n modules : ℕ) (items : Bool) (seen : List ℕ) (g : 
         early = omega (arith, g.early, m.1);
       }
 
-  pub going_val : Right t at before (Val feed) → Going t (feed + 1) (n + 1) modules items seen
+  pub going_val : Right t at before (Ok (Val feed)) → Going t (feed + 1) (n + 1) modules items seen
   unfolding after_line modules_in gather
   going_val r =
       let p = r.2 in
@@ -125,7 +126,7 @@ module _ (t : Bytes) (at n modules : ℕ) (items : Bool) (seen : List ℕ) (g : 
         early = omega (arith, g.early, m.1);
       }
 
-  pub going_item : Right t at before (Item feed) → Going t (feed + 1) (n + 1) modules true seen
+  pub going_item : Right t at before (Ok (Item feed)) → Going t (feed + 1) (n + 1) modules true seen
   unfolding after_line modules_in gather
   going_item r =
       let p = r.1 in
@@ -234,6 +235,6 @@ unfolding refusal modules_in decode
 text_lines t n h e z = rw (le-ltb 32768 (length t) h, fine_set t n e z, refusal)
 
 -- what a step says of the line at which the reader stands
-pub going_right : (t : Bytes) (at n modules : ℕ) (items : Bool) (seen : List ℕ) (g : Going t at n modules items seen) → at < length t → (x : Step) → x ≡ line_step t at modules items seen
+pub going_right : (t : Bytes) (at n modules : ℕ) (items : Bool) (seen : List ℕ) (g : Going t at n modules items seen) → at < length t → (x : Result Step Fault) → x ≡ line_step t at modules items seen
     → Right t at (record { modules = modules; has_item = items; kinds = g.kinds }) x
 going_right t at n modules items seen g h x e = rw e (line_right t at (record { modules = modules; has_item = items; kinds = g.kinds }) g.few seen g.agree h g.ends)

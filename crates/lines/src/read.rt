@@ -1,6 +1,6 @@
 // What a line is: its lowest fault, 3 to 7, or what it adds; and fault 2, over the whole text.
 ghost use Rattle.std.specs.Prelude.{◌≡◌, ◌≤◌, length, drop};
-ghost use Rattle.lines.specs.Read.{closes_at, not_written, set_line, number_after, module_step, kind_step, head_step, line_step};
+ghost use Rattle.lines.specs.Read.{closes_at, not_written, set_line, number_after, module_step, kind_step, head_step, line_step, fault_code};
 
 use crate::bytes::{Class, class_of, is_feed, is_open, is_space};
 use crate::keys;
@@ -13,10 +13,34 @@ pub(crate) const MODULES: u32 = 32;
 
 pub(crate) const DEPTH: u32 = 32;
 
-// What a line is: its lowest fault, or what it adds, with the place of its line feed.
+// What is wrong with a line, the faults 3 to 7 in order.
+#[derive(Clone, Copy, Debug, PartialEq, Eq)]
+pub(crate) enum Fault {
+    NotOneForm,
+    BadlyWritten,
+    OutOfRange,
+    OutOfPlace,
+    OneTooMany,
+}
+
+impl Fault {
+    // Its number in the specification.
+    pub(crate) fn number(self) -> u32
+        ensures { result ≡ fault_code self }
+    {
+        match self {
+            Fault::NotOneForm => 3,
+            Fault::BadlyWritten => 4,
+            Fault::OutOfRange => 5,
+            Fault::OutOfPlace => 6,
+            Fault::OneTooMany => 7,
+        }
+    }
+}
+
+// What a line adds, with the place of its line feed.
 #[derive(Clone, Copy)]
 pub(crate) enum Step {
-    Fault(u32),
     Module(usize),
     Kind(usize, usize),
     Val(usize),
@@ -49,11 +73,15 @@ fn closes(s: &[u8], at: usize) -> bool
     false
 }
 
-// 3 or 4, for a line that is not well written, behind its opening bracket.
-fn not_written(s: &[u8], at: usize) -> u32
+// The fault of a line that is not well written, behind its opening bracket.
+fn not_written(s: &[u8], at: usize) -> Fault
     ensures { result ≡ not_written s.now at }
 {
-    if closes(s, at) { 4 } else { 3 }
+    if closes(s, at) {
+        Fault::BadlyWritten
+    } else {
+        Fault::NotOneForm
+    }
 }
 
 // The line of the first byte outside the set, or of a text's end without a line feed; 0 where there is neither.
@@ -86,39 +114,39 @@ pub fn number_after(s: &[u8], at: usize) -> Option<Number>
     number_at(s, at + 1)
 }
 
-fn module_step(n: Option<Number>, modules: u32, feed: usize) -> Step
+fn module_step(n: Option<Number>, modules: u32, feed: usize) -> Result<Step, Fault>
     ensures { result ≡ module_step n modules feed }
 {
     let Some(n) = n else {
-        return Step::Fault(4);
+        return Err(Fault::BadlyWritten);
     };
     if n.value != modules as u64 {
-        return Step::Fault(6);
+        return Err(Fault::OutOfPlace);
     }
     if MODULES <= modules {
-        return Step::Fault(7);
+        return Err(Fault::OneTooMany);
     }
-    Step::Module(feed)
+    Ok(Step::Module(feed))
 }
 
-fn kind_step(n: Option<Number>, seen: &[u8], feed: usize) -> Step
+fn kind_step(n: Option<Number>, seen: &[u8], feed: usize) -> Result<Step, Fault>
     ensures { result ≡ kind_step n seen.now feed }
 {
     let Some(n) = n else {
-        return Step::Fault(4);
+        return Err(Fault::BadlyWritten);
     };
     if NAMES <= n.value {
-        return Step::Fault(5);
+        return Err(Fault::OutOfRange);
     }
     let name = n.value as usize;
     if byte(seen, name) != 0 {
-        return Step::Fault(7);
+        return Err(Fault::OneTooMany);
     }
-    Step::Kind(feed, name)
+    Ok(Step::Kind(feed, name))
 }
 
 // A line that is well written and in range, by its head.
-fn head_step(s: &[u8], at: usize, feed: usize, modules: u32, items: bool, seen: &[u8]) -> Step
+fn head_step(s: &[u8], at: usize, feed: usize, modules: u32, items: bool, seen: &[u8]) -> Result<Step, Fault>
     ensures { result ≡ head_step s.now at feed modules items seen.now }
 {
     let w = word_at(s, at);
@@ -127,38 +155,38 @@ fn head_step(s: &[u8], at: usize, feed: usize, modules: u32, items: bool, seen: 
         return module_step(number_after(s, w.next), modules, feed);
     }
     if modules == 0 {
-        return Step::Fault(6);
+        return Err(Fault::OutOfPlace);
     }
     if key == keys::KIND {
         if items {
-            return Step::Fault(6);
+            return Err(Fault::OutOfPlace);
         }
         return kind_step(number_after(s, w.next), seen, feed);
     }
     if key == keys::VAL {
         if items {
-            return Step::Fault(6);
+            return Err(Fault::OutOfPlace);
         }
-        return Step::Val(feed);
+        return Ok(Step::Val(feed));
     }
-    Step::Item(feed)
+    Ok(Step::Item(feed))
 }
 
 // The line that starts at a position.
-pub(crate) fn line_step(s: &[u8], at: usize, modules: u32, items: bool, seen: &[u8]) -> Step
+pub(crate) fn line_step(s: &[u8], at: usize, modules: u32, items: bool, seen: &[u8]) -> Result<Step, Fault>
     ensures { result ≡ line_step s.now at modules items seen.now }
 {
     if !is_open(byte(s, at)) {
-        return Step::Fault(3);
+        return Err(Fault::NotOneForm);
     }
     let Some(p) = part(s, at, Cat::L, DEPTH) else {
-        return Step::Fault(not_written(s, at + 1));
+        return Err(not_written(s, at + 1));
     };
     if !is_feed(byte(s, p.next)) {
-        return Step::Fault(not_written(s, at + 1));
+        return Err(not_written(s, at + 1));
     }
     if !p.range {
-        return Step::Fault(5);
+        return Err(Fault::OutOfRange);
     }
     head_step(s, at + 1, p.next, modules, items, seen)
 }

@@ -151,15 +151,15 @@ pub(crate) fn enter_line(
         × (result.fault ≡ step_number (step_at text.now at p seen.old))))) }
 {
     match line_step(text, at, p.modules, p.items, seen) {
-        Step::Fault(k) => stopped(p, text.len(), k),
-        Step::Module(feed) => {
+        Err(fault) => stopped(p, text.len(), fault.number()),
+        Ok(Step::Module(feed)) => {
             let flag = flag_of(second_key(text, at));
             let first = (feed + 1) as u32;
             enter(mods, p.modules as usize, flag, first);
             seen.fill(0);
             behind_module(p, feed + 1, first)
         }
-        Step::Kind(feed, name) => {
+        Ok(Step::Kind(feed, name)) => {
             let k = kind_of(second_key(text, at));
             let m = (p.modules - 1) as usize;
             let first = (feed + 1) as u32;
@@ -168,12 +168,12 @@ pub(crate) fn enter_line(
             seen[name] = 1;
             behind_line(p, feed + 1, p.items, first)
         }
-        Step::Val(feed) => {
+        Ok(Step::Val(feed)) => {
             let first = (feed + 1) as u32;
             mark(mods, (p.modules - 1) as usize, first, first);
             behind_line(p, feed + 1, p.items, first)
         }
-        Step::Item(feed) => {
+        Ok(Step::Item(feed)) => {
             mark(mods, (p.modules - 1) as usize, p.first, (feed + 1) as u32);
             behind_line(p, feed + 1, true, p.first)
         }
