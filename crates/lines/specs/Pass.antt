@@ -17,33 +17,34 @@ use Rattle.lines.specs.declared.tables.Progress.{Progress}
 
 -- 01, Refused because of the text: before any line: line 1 is next, at the text's start
 abbrev pub at_first_line : Progress
-at_first_line = record { next = 0; row = 1; modules = 0; items = false; first = 0; fault = 0 }
+at_first_line = record { next = 0; row = 1; modules = 0; items = false; first = 0 }
 
 -- 01, Refused because of the text: what the line at a position is where the reading stands so, `seen` having a 1 at each name with a kind in the last
 -- module: its fault, 3 to 7, or what it adds
 abbrev pub step_at : Bytes → ℕ → Progress → List ℕ → Result Step Fault
 step_at t at p seen = line_step t at p.modules p.items seen
 
--- 01, Refused because of the text: where the reading stands when a line has a fault: at the text's end, since nothing more is read; the row stays
-abbrev pub at_fault : Progress → ℕ → ℕ → Progress
-at_fault p end k = record { next = end; row = p.row; modules = p.modules; items = p.items; first = p.first; fault = k }
-
 -- 01, The line: where the reading stands behind a `module` line: the module has no item, and its items begin here so far
 abbrev pub behind_module : Progress → ℕ → ℕ → Progress
-behind_module p next first = record { next = next; row = p.row + 1; modules = p.modules + 1; items = false; first = first; fault = 0 }
+behind_module p next first = record { next = next; row = p.row + 1; modules = p.modules + 1; items = false; first = first }
 
 -- 01, The line: where the reading stands behind another line of the last module
 abbrev pub behind_line : Progress → ℕ → Bool → ℕ → Progress
-behind_line p next items first = record { next = next; row = p.row + 1; modules = p.modules; items = items; first = first; fault = 0 }
+behind_line p next items first = record { next = next; row = p.row + 1; modules = p.modules; items = items; first = first }
 
--- 01, The line; Refused because of the text: where the reading stands behind a line that is such a step: the next line begins behind its line feed; the
+-- 01, The line; Refused because of the text: where the reading stands behind a line that is such a step, which a fault ends: the next line begins behind its line feed; the
 -- last module's items begin behind its last header line
-abbrev pub behind : Result Step Fault → Bytes → Progress → Progress
-behind (Err f) t p = at_fault p (length t) (fault_code f)
-behind (Ok (Module feed)) t p = behind_module p (feed + 1) (feed + 1)
-behind (Ok (Kind feed n)) t p = behind_line p (feed + 1) p.items (feed + 1)
-behind (Ok (Val feed)) t p = behind_line p (feed + 1) p.items (feed + 1)
-behind (Ok (Item feed)) t p = behind_line p (feed + 1) true p.first
+abbrev pub behind : Result Step Fault → Progress → Result Progress Fault
+behind (Err f) p = Err f
+behind (Ok (Module feed)) p = Ok (behind_module p (feed + 1) (feed + 1))
+behind (Ok (Kind feed n)) p = Ok (behind_line p (feed + 1) p.items (feed + 1))
+behind (Ok (Val feed)) p = Ok (behind_line p (feed + 1) p.items (feed + 1))
+behind (Ok (Item feed)) p = Ok (behind_line p (feed + 1) true p.first)
+
+-- 01, Refused because of the text: 01's number of what a line made of the reading: its fault, 3 to 7, and 0 where the reading goes on
+abbrev pub entered_number : Result Progress Fault → ℕ
+entered_number (Err f) = fault_code f
+entered_number (Ok p) = 0
 
 -- 01, Refused because of the text: the names with a kind behind a line that is such a step, 1 at each: a `module` line has none yet, a `kind` line
 -- adds its name
@@ -70,14 +71,6 @@ mods_behind (Ok (Module feed)) t at p mods = entries mods p.modules (flag_of (se
 mods_behind (Ok (Kind feed n)) t at p mods = marked mods (p.modules - 1) (feed + 1) (feed + 1)
 mods_behind (Ok (Val feed)) t at p mods = marked mods (p.modules - 1) (feed + 1) (feed + 1)
 mods_behind (Ok (Item feed)) t at p mods = marked mods (p.modules - 1) p.first (feed + 1)
-
--- 01, Refused because of the text: the answer where nothing is left to read: the fault with its row, or so many modules
-unfoldable pub answer_of : Progress → Result ℕ Refusal
-answer_of p = elim (eqb p.fault 0) [ true ↦ Ok p.modules | false ↦ refused_as p.fault p.row ]
-
--- 01, Refused because of the text: the line of the fault that ended the reading, and 0 where none did
-unfoldable pub fault_row : Progress → ℕ
-fault_row p = elim (eqb p.fault 0) [ true ↦ 0 | false ↦ p.row ]
 
 -- 01, Refused because of the text; Refused because of the state: a text without faults 1 and 2, and tables for 32 modules
 pub record Fitting (t : Bytes) (kinds mods : List ℕ) : Type 0 where

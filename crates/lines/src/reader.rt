@@ -1,21 +1,31 @@
 // The reader holds the text and its position, and goes from line to line. What a line is and what it adds to the tables is told by
 // `enter_line` on the slice and the number.
-ghost use Rattle.std.specs.Prelude.{◌≡◌, length, replicate};
+ghost use Rattle.std.specs.Prelude.{◌≡◌, Err, length, replicate};
 ghost use Rattle.spec.specs.Syntax.{name_bound};
 ghost use Rattle.spec.specs.Refusal.{refusal, decode};
-ghost use Rattle.lines.specs.Read.{fault_number, fault_line};
-ghost use Rattle.lines.specs.Verdict.{told, number_of as verdict_number, line_of as verdict_line};
+ghost use Rattle.lines.specs.Read.{fault_code, fault_number, fault_line};
+ghost use Rattle.lines.specs.Verdict.{refused_as, told, number_of as verdict_number, line_of as verdict_line};
 ghost use Rattle.lines.specs.Reader.{number_of, line_of, by_room, read_as, kinds_after, mods_after};
 ghost use Rattle.lines.specs.Pass.{Fitting, Fills};
 
 use crate::parse::EACH_NAME;
-use crate::read::{Refusal, TEXT, set_line};
-use crate::tables::{KINDS, MODS, ReadError, answer, enter_line, start};
+use crate::read::{Fault, Refusal, TEXT, set_line};
+use crate::tables::{KINDS, MODS, ReadError, enter_line, start};
 
 #[derive(Clone, Copy)]
 struct Reader<'a> {
     text: &'a [u8],
     at: usize,
+}
+
+// A line with a fault refuses the text.
+fn refused(fault: Fault, line: u32) -> Refusal
+    ensures { Err result ≡ refused_as (fault_code fault) line }
+{
+    Refusal {
+        number: fault.number(),
+        line,
+    }
 }
 
 // 3 to 7, and the tables, line by line.
@@ -31,13 +41,13 @@ fn fill<'a, 's, 'k, 'm>(
     let mut here = Reader { text, at: 0 };
     let mut p = start();
     while here.at < here.text.len() {
-        p = enter_line(here.text, here.at, p, seen, kinds, mods);
-        here = Reader {
-            text: here.text,
-            at: p.next,
-        };
+        match enter_line(here.text, here.at, p, seen, kinds, mods) {
+            Ok(q) => p = q,
+            Err(fault) => return Err(refused(fault, p.row)),
+        }
+        here.at = p.next;
     }
-    answer(p)
+    Ok(p.modules)
 }
 
 // The text's lowest fault on its first faulty line, or its tables. Tables that are too short keep what they hold; of a text that
