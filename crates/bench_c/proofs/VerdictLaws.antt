@@ -4,19 +4,19 @@ use mathlib.Core.Path.{◌≡◌, refl, sym, ap, ap₂}
 use mathlib.Core.Bool.{Bool, true, false, true≢false}
 use Prim.Native.Nat.{ℕ, ◌+◌, ◌*◌}
 use Rattle.spec.specs.Refusal.{Verdict, well_formed, refused}
-use Rattle.lines.specs.Verdict.{told, number_of, line_of}
-use Rattle.lines.specs.declared.read.Verdict.{Verdict as Answer}
-use Rattle.lines.specs.declared.read.Verdict.TheVariants.{Refused, Formed}
+use Rattle.lines.specs.Verdict.{refused_as, told, number_of, line_of}
+use Rattle.lines.specs.declared.read.Refusal.{Refusal}
+use Rattle.std.specs.Prelude.{Result, Ok, Err}
 use Rattle.bench_c.specs.Verdict.{code}
 
-abbrev formed : Answer → Bool
-formed (Refused k n) = false
-formed (Formed m) = true
+abbrev formed : Result ℕ Refusal → Bool
+formed (Err r) = false
+formed (Ok m) = true
 
-pub refused_code : (k n m : ℕ) (v : Verdict) → Refused k n ≡ told v m → k * 4294967296 + n ≡ code v
+pub refused_code : (k n m : ℕ) (v : Verdict) → refused_as k n ≡ told v m → k * 4294967296 + n ≡ code v
 refused_code k n m well_formed e = absurd (true≢false (ap formed (sym e)))
 refused_code k n m (refused a b) e = ap₂ (λ x y. x * 4294967296 + y) (ap number_of e) (ap line_of e)
 
-pub formed_code : (k m : ℕ) (v : Verdict) → Formed k ≡ told v m → 0 ≡ code v
+pub formed_code : (k m : ℕ) (v : Verdict) → Ok k ≡ told v m → 0 ≡ code v
 formed_code k m well_formed e = refl
 formed_code k m (refused a b) e = absurd (true≢false (ap formed e))

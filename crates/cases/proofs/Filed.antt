@@ -13,7 +13,6 @@ use Rattle.spec.proofs.Numbers.{if_case}
 use Rattle.lines.specs.Parts.{part_end}
 use Rattle.lines.specs.Read.{number_after}
 use Rattle.lines.specs.declared.parse.Number.{Number}
-use Rattle.lines.specs.declared.parse.Number.TheVariants as parsed
 use Rattle.cases.specs.Answer.{agrees}
 use Rattle.cases.specs.Stored.{case_key, sized, closed, answered, texted, named, record_of, Case, File, case_at, more_of, file_behind, file_within, file_of, differing, tally}
 use Rattle.cases.specs.declared.record.Record.{Record}
@@ -44,13 +43,13 @@ module _ (s : Bytes) (name at text answer : ℕ) where
       (λ _. if_case (Within s) (eqb (get_or s (at + 1) 0) 10) _ _ (λ _. sized_within) (λ _. tt))
       (λ _. tt)
 
-answered_within : (s : Bytes) (name text : ℕ) (n : Number) → Within s (answered s name text n)
-answered_within s name text parsed.None = tt
-answered_within s name text (parsed.Is answer at) = closed_within s name at text answer
+answered_within : (s : Bytes) (name text : ℕ) (n : Option Number) → Within s (answered s name text n)
+answered_within s name text None = tt
+answered_within s name text (Some answer) = closed_within s name answer.next text answer.value
 
-texted_within : (s : Bytes) (name : ℕ) (n : Number) → Within s (texted s name n)
-texted_within s name parsed.None = tt
-texted_within s name (parsed.Is text at) = answered_within s name text (number_after s at)
+texted_within : (s : Bytes) (name : ℕ) (n : Option Number) → Within s (texted s name n)
+texted_within s name None = tt
+texted_within s name (Some text) = answered_within s name text.value (number_after s text.next)
 
 named_within : (s : Bytes) (name : ℕ) → Within s (named s name)
 unfolding named

@@ -6,7 +6,6 @@ use Rattle.lines.specs.Parse.{key, word_at}
 use Rattle.lines.specs.Parts.{part_end, piece}
 use Rattle.lines.specs.Read.{number_after}
 use Rattle.lines.specs.declared.parse.Number.{Number}
-use Rattle.lines.specs.declared.parse.Number.TheVariants as parsed
 use Rattle.cases.specs.Answer.{agrees}
 use Rattle.cases.specs.declared.record.Record.{Record}
 use Rattle.cases.specs.declared.run.Tally.{Tally}
@@ -42,14 +41,14 @@ closed s name at text answer =
     ]
 
 -- a record with that number as ANSWERLEN; without one it is bad
-abbrev pub answered : Bytes → ℕ → ℕ → Number → Option Record
-answered s name text parsed.None = None
-answered s name text (parsed.Is answer at) = closed s name at text answer
+abbrev pub answered : Bytes → ℕ → ℕ → Option Number → Option Record
+answered s name text None = None
+answered s name text (Some answer) = closed s name answer.next text answer.value
 
 -- a record with that number as TEXTLEN; without one it is bad
-abbrev pub texted : Bytes → ℕ → Number → Option Record
-texted s name parsed.None = None
-texted s name (parsed.Is text at) = answered s name text (number_after s at)
+abbrev pub texted : Bytes → ℕ → Option Number → Option Record
+texted s name None = None
+texted s name (Some text) = answered s name text.value (number_after s text.next)
 
 -- a record whose name ends at `name`, with two numbers behind it, each behind one space
 unfoldable pub named : Bytes → ℕ → Option Record

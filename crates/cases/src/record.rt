@@ -3,9 +3,9 @@
 ghost use Rattle.std.specs.Prelude.{◌≡◌, take};
 ghost use Rattle.cases.specs.Stored.{case_key, sized, closed, named, record_of};
 
-use lines::bytes::{Class, at8, class_of, is_feed, is_open};
-use lines::parse::{Number, word_at};
-use lines::parts::part_end;
+use lines::bytes::{Class, class_of, is_feed, is_open};
+use lines::parse::word_at;
+use lines::parts::{byte, part_end};
 use lines::read::number_after;
 
 // `case` as `word_at` gives it.
@@ -31,7 +31,7 @@ pub fn first(s: &[u8], n: usize) -> &[u8]
 fn is_case(s: &[u8]) -> bool
     ensures { result ≡ case_key s.now }
 {
-    if !is_open(at8(s, 0)) {
+    if !is_open(byte(s, 0)) {
         return false;
     }
     let w = word_at(s, 1);
@@ -64,9 +64,9 @@ fn sized(s: &[u8], name: usize, body: usize, text: u64, answer: u64) -> Option<R
 fn closed(s: &[u8], name: usize, at: usize, text: u64, answer: u64) -> Option<Record>
     ensures { result ≡ closed s.now name at text answer }
 {
-    match class_of(at8(s, at)) {
+    match class_of(byte(s, at)) {
         Class::Close => {
-            if !is_feed(at8(s, at + 1)) {
+            if !is_feed(byte(s, at + 1)) {
                 return None;
             }
             sized(s, name, at + 2, text, answer)
@@ -79,19 +79,9 @@ fn closed(s: &[u8], name: usize, at: usize, text: u64, answer: u64) -> Option<Re
 fn named(s: &[u8], name: usize) -> Option<Record>
     ensures { result ≡ named s.now name }
 {
-    match number_after(s, name) {
-        Number::None => None,
-        Number::Is {
-            value: text,
-            next: i,
-        } => match number_after(s, i) {
-            Number::None => None,
-            Number::Is {
-                value: answer,
-                next: j,
-            } => closed(s, name, j, text, answer),
-        },
-    }
+    let text = number_after(s, name)?;
+    let answer = number_after(s, text.next)?;
+    closed(s, name, answer.next, text.value, answer.value)
 }
 
 // The record that these bytes begin with.

@@ -4,8 +4,7 @@ ghost use Rattle.cases.specs.Stored.{tally, file_of};
 ghost use Rattle.cases.specs.Answer.{agrees};
 
 use crate::record;
-use lines::bytes::at8;
-use lines::parts::{between, rest};
+use lines::parts::{between, byte, rest};
 
 // How many cases were run, and how many differ; what is no case counts as one that differs.
 #[derive(Clone, Copy)]
@@ -38,7 +37,7 @@ fn print_different(rt: &impl Print, name: &[u8], wanted: &[u8], answered: &[u8])
 
 // The ten cases of the scope, P1 to P10, are printed with their lists; no other name begins so.
 fn print_worked(rt: &impl Print, name: &[u8], answered: &[u8]) {
-    if at8(name, 0) != b'P' {
+    if byte(name, 0) != b'P' {
         return;
     }
     print(rt, name);

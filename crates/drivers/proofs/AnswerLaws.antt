@@ -1,5 +1,5 @@
 -- The answer, one law for each way of the code. Assumes nothing.
-use mathlib.Core.Path.{◌≡◌, refl, sym, ap, ◌∙◌, subst}
+use mathlib.Core.Path.{◌≡◌, refl, sym, ap, ap₂, ◌∙◌, subst}
 use mathlib.Core.Bool.{Bool, true, false, ◌||◌, true≢false}
 use mathlib.Core.List.{List, [], ◌∷◌, ◌++◌}
 use Prim.Native.Nat.{ℕ, ◌*◌, ◌≤◌, ◌<◌}
@@ -16,9 +16,10 @@ use Rattle.spec.specs.Check.{Lent, refuse, accept, answer_checked, answer_read, 
 use Rattle.spec.specs.Check as check
 use Rattle.sites.specs.Own.{places}
 use Rattle.lines.specs.Tables.{put_kinds, put_mods}
-use Rattle.lines.specs.Reader.{by_verdict, read_as, kinds_after, mods_after}
-use Rattle.lines.specs.declared.tables.Read.{Read}
-use Rattle.lines.specs.declared.tables.Read.TheVariants as reads
+use Rattle.lines.specs.Reader.{unread, number_of, line_of, by_verdict, read_as, kinds_after, mods_after}
+use Rattle.lines.specs.declared.tables.ReadError.{ReadError}
+use Rattle.lines.specs.declared.tables.ReadError.TheVariants as reads
+use Rattle.std.specs.Prelude.{Result, Ok, Err}
 use Rattle.lines.proofs.Answers.{room_fits}
 use Rattle.walk.specs.Walk.{Got, Tally, check_all, check_fused}
 use Rattle.walk.specs.Fold.{tally_of}
@@ -229,15 +230,15 @@ module _ (working : List Lent) (text buf : Bytes) where
   unfolding check_drivers
   by_text e v r = rw (sym e, check_drivers) (ap (λ (u : Verdict). answer_read u text buf) (sym r))
 
-read_short : (v : Verdict) (n : ℕ) → reads.Short ≡ by_verdict reads.Refused (reads.Accepted n) v → ⊥
+read_short : (v : Verdict) (n : ℕ) → Err reads.Short ≡ by_verdict unread (Ok n) v → ⊥
 read_short well_formed n e = let z : ◌≡◌ {A = ℕ} 0 1 = cc in omega arith
 read_short (refused a b) n e = let z : ◌≡◌ {A = ℕ} 0 1 = cc in omega arith
 
-read_refused : (v : Verdict) (n a b : ℕ) → reads.Refused a b ≡ by_verdict reads.Refused (reads.Accepted n) v → v ≡ refused a b
+read_refused : (v : Verdict) (n a b : ℕ) → unread a b ≡ by_verdict unread (Ok n) v → v ≡ refused a b
 read_refused well_formed n a b e = let z : ◌≡◌ {A = ℕ} 0 1 = cc in absurd (omega arith)
-read_refused (refused i j) n a b e = cc
+read_refused (refused i j) n a b e = ap₂ refused (sym (ap number_of e)) (sym (ap line_of e))
 
-read_accepted : (v : Verdict) (n c : ℕ) → reads.Accepted c ≡ by_verdict reads.Refused (reads.Accepted n) v → (v ≡ well_formed) × (c ≡ n)
+read_accepted : (v : Verdict) (n c : ℕ) → Ok c ≡ by_verdict unread (Ok n) v → (v ≡ well_formed) × (c ≡ n)
 read_accepted well_formed n c e = (refl, cc)
 read_accepted (refused i j) n c e = let z : ◌≡◌ {A = ℕ} 0 1 = cc in absurd (omega arith)
 
@@ -259,18 +260,18 @@ module _ (text buf : Bytes) (kinds mods names own g w k : List ℕ) {b : Bool}
     pub part_long : length (take places own) ≡ places
     part_long = let l = length-take places own in let h = long.3 in omega arith
 
-    module _ {r : Read} (q : r ≡ read_as (length kinds) (length mods) text) where
-      verdict : r ≡ by_verdict reads.Refused (reads.Accepted (length (decode text))) (refusal text)
+    module _ {r : Result ℕ ReadError} (q : r ≡ read_as (length kinds) (length mods) text) where
+      verdict : r ≡ by_verdict unread (Ok (length (decode text))) (refusal text)
       unfolding read_as
       verdict = q ∙ sym (room_fits _ _ (length kinds) (length mods) long.0 long.1)
 
-      pub text_unread : r ≡ reads.Short → {x : check.Answer} → x ≡ whole
+      pub text_unread : r ≡ Err reads.Short → {x : check.Answer} → x ≡ whole
       text_unread z = absurd (read_short (refusal text) (length (decode text)) (sym z ∙ verdict))
 
-      pub text_refused : {n l : ℕ} → r ≡ reads.Refused n l → {x : check.Answer} → x ≡ refuse n l buf → x ≡ whole
+      pub text_refused : {n l : ℕ} → r ≡ unread n l → {x : check.Answer} → x ≡ refuse n l buf → x ≡ whole
       text_refused {n} {l} z p = p ∙ by_text _ text buf (sym f ∙ e) (refused n l) (read_refused (refusal text) (length (decode text)) n l (sym z ∙ verdict))
 
-      module _ {count : ℕ} (z : r ≡ reads.Accepted count) where
+      module _ {count : ℕ} (z : r ≡ Ok count) where
         formed : (refusal text ≡ well_formed) × (count ≡ length (decode text))
         formed = read_accepted (refusal text) (length (decode text)) count (sym z ∙ verdict)
 

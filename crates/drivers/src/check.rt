@@ -15,7 +15,7 @@ use crate::emit::Place;
 use crate::groups;
 use crate::groups::Covered;
 use collect::Collected;
-use lines::tables::Read;
+use lines::tables::ReadError;
 use lines::{reader, tables};
 use steps::modules;
 
@@ -234,9 +234,9 @@ fn check_text(
         return refuse(20, 0);
     }
     match reader::read_text(text, kinds, mods) {
-        Read::Short => refuse(20, 0),
-        Read::Refused(number, line) => refuse(number, line),
-        Read::Accepted(count) => {
+        Err(ReadError::Short) => refuse(20, 0),
+        Err(ReadError::Refused(r)) => refuse(r.number, r.line),
+        Ok(count) => {
             check_accepted(
                 text,
                 kinds,

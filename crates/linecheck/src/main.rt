@@ -1,7 +1,6 @@
 // Is a text well formed? Prints nothing where it is, and else `(refused NUMBER LINE)`; `(unread)` where the text cannot be read.
 #![tactic(auto)]
 
-use lines::read::Verdict;
 use std::io;
 
 // Longer than any such line: 10 digits for each number.
@@ -15,8 +14,8 @@ fn print_refused(rt: &impl Print, number: u32, line: u32) -> io::Result<()> {
 
 fn print_verdict(rt: &impl Print, text: &[u8]) -> io::Result<()> {
     match lines::reader::read(text) {
-        Verdict::Refused(number, line) => print_refused(rt, number, line),
-        Verdict::Formed(_) => Ok(()),
+        Err(r) => print_refused(rt, r.number, r.line),
+        Ok(_) => Ok(()),
     }
 }
 

@@ -1,6 +1,6 @@
 -- The ways of `read_text`: tables too short, a text that is refused, a text that is accepted.
 -- Assumes nothing.
-use mathlib.Core.Path.{◌≡◌, refl, sym, ap, ◌∙◌}
+use mathlib.Core.Path.{◌≡◌, refl, sym, ap, ap₂, ◌∙◌}
 use mathlib.Core.Bool.{Bool, true, false}
 use mathlib.Core.List.{List}
 use Prim.Native.Nat.{ℕ, ◌≤◌, ◌<◌, ◌*◌}
@@ -11,15 +11,15 @@ use borrow.Author.Tests.{lt-ltb, le-ltb}
 use Rattle.spec.specs.Bytes.{Bytes}
 use Rattle.spec.specs.Syntax.{name_bound}
 use Rattle.spec.specs.Refusal.{Verdict, well_formed, refused, refusal, decode, lines, at_start, lines_fault}
-use Rattle.lines.specs.Verdict.{told, number_of as told_number, line_of as told_Line, modules_in}
+use Rattle.lines.specs.Verdict.{refused_as, told, number_of as told_number, line_of as told_Line, modules_in}
 use Rattle.lines.specs.Read.{fault_number, fault_line, set_line}
 use Rattle.lines.specs.Tables.{put_kinds, put_mods}
 use Rattle.lines.specs.Pass.{Fitting, Fills}
-use Rattle.lines.specs.Reader.{number_of, line_of, by_verdict, by_room, read_as, kinds_after, mods_after}
-use Rattle.lines.specs.declared.read.Verdict.{Verdict as Answer}
-use Rattle.lines.specs.declared.read.Verdict.TheVariants.{Refused as No, Formed}
-use Rattle.lines.specs.declared.tables.Read.{Read}
-use Rattle.lines.specs.declared.tables.Read.TheVariants.{Short, Refused, Accepted}
+use Rattle.lines.specs.Reader.{number_of, line_of, by_verdict, by_room, unread, read_as, kinds_after, mods_after}
+use Rattle.lines.specs.declared.read.Refusal.{Refusal}
+use Rattle.lines.specs.declared.tables.ReadError.{ReadError}
+use Rattle.lines.specs.declared.tables.ReadError.TheVariants.{Short, Refused}
+use Rattle.std.specs.Prelude.{Result, Ok, Err}
 use Rattle.lines.proofs.Turns.{text_ended, text_lines}
 
 module _ {A : Type 0} (s f : A) (k m : ℕ) where
@@ -35,11 +35,11 @@ module _ {A : Type 0} (s f : A) (k m : ℕ) where
   unfolding by_room
   room_fits g h = rw (le-ltb k (32 * name_bound) g, le-ltb m 128 h, by_room)
 
-told_refused : (v : Verdict) (c k n : ℕ) → No k n ≡ told v c → v ≡ refused k n
+told_refused : (v : Verdict) (c k n : ℕ) → refused_as k n ≡ told v c → v ≡ refused k n
 told_refused well_formed c k n e = let z : ◌≡◌ {A = ℕ} 0 1 = cc e in absurd (omega arith)
-told_refused (refused j m) c k n e = cc e
+told_refused (refused j m) c k n e = ap₂ refused (sym (ap told_number e)) (sym (ap told_Line e))
 
-told_formed : (v : Verdict) (c m : ℕ) → Formed m ≡ told v c → (v ≡ well_formed) × (m ≡ c)
+told_formed : (v : Verdict) (c m : ℕ) → Ok m ≡ told v c → (v ≡ well_formed) × (m ≡ c)
 told_formed well_formed c m e = (refl, cc e)
 told_formed (refused j n) c m e = let z : ◌≡◌ {A = ℕ} 0 1 = cc e in absurd (omega arith)
 
@@ -56,61 +56,61 @@ room_under f s g k m = go (ltb k (32 * name_bound)) (ltb m 128)
 -- the number and the line of the answer
 read_number : (k m : ℕ) (t : Bytes) → number_of (read_as k m t) ≡ by_room 20 (fault_number (refusal t)) k m
 unfolding read_as
-read_number k m t = room_under number_of Short (by_verdict Refused (Accepted (length (decode t))) (refusal t)) k m ∙ ap (λ (n : ℕ). by_room 20 n k m) (go (refusal t))
+read_number k m t = room_under number_of (Err Short) (by_verdict unread (Ok (length (decode t))) (refusal t)) k m ∙ ap (λ (n : ℕ). by_room 20 n k m) (go (refusal t))
   where
-    go : (v : Verdict) → number_of (by_verdict Refused (Accepted (length (decode t))) v) ≡ fault_number v
+    go : (v : Verdict) → number_of (by_verdict unread (Ok (length (decode t))) v) ≡ fault_number v
     go well_formed = refl
     go (refused k n) = refl
 
 read_line : (k m : ℕ) (t : Bytes) → line_of (read_as k m t) ≡ by_room 0 (fault_line (refusal t)) k m
 unfolding read_as
-read_line k m t = room_under line_of Short (by_verdict Refused (Accepted (length (decode t))) (refusal t)) k m ∙ ap (λ (n : ℕ). by_room 0 n k m) (go (refusal t))
+read_line k m t = room_under line_of (Err Short) (by_verdict unread (Ok (length (decode t))) (refusal t)) k m ∙ ap (λ (n : ℕ). by_room 0 n k m) (go (refusal t))
   where
-    go : (v : Verdict) → line_of (by_verdict Refused (Accepted (length (decode t))) v) ≡ fault_line v
+    go : (v : Verdict) → line_of (by_verdict unread (Ok (length (decode t))) v) ≡ fault_line v
     go well_formed = refl
     go (refused k n) = refl
 
 module _ (t : Bytes) (kinds mods : List ℕ) where
-  abbrev Left : Read → List ℕ → List ℕ → Type 0
+  abbrev Left : Result ℕ ReadError → List ℕ → List ℕ → Type 0
   Left r ks ms = (r ≡ read_as (length kinds) (length mods) t) × ((ks ≡ kinds_after kinds (length mods) t) × (ms ≡ mods_after mods (length kinds) t))
 
   -- with its number and line
-  abbrev Told : Read → List ℕ → List ℕ → Type 0
+  abbrev Told : Result ℕ ReadError → List ℕ → List ℕ → Type 0
   Told r ks ms =
       (r ≡ read_as (length kinds) (length mods) t)
       × ((ks ≡ kinds_after kinds (length mods) t)
       × ((ms ≡ mods_after mods (length kinds) t)
       × ((number_of r ≡ by_room 20 (fault_number (refusal t)) (length kinds) (length mods)) × (line_of r ≡ by_room 0 (fault_line (refusal t)) (length kinds) (length mods)))))
 
-  pub numbered : (r : Read) (ks ms : List ℕ) → Left r ks ms → Told r ks ms
+  pub numbered : (r : Result ℕ ReadError) (ks ms : List ℕ) → Left r ks ms → Told r ks ms
   numbered r ks ms e = (e.0, (e.1.0, (e.1.1, (ap number_of e.0 ∙ read_number (length kinds) (length mods) t, ap line_of e.0 ∙ read_line (length kinds) (length mods) t))))
 
-  pub short_kinds : length kinds < 32 * name_bound → Left Short kinds mods
+  pub short_kinds : length kinds < 32 * name_bound → Left (Err Short) kinds mods
   unfolding read_as kinds_after mods_after
   short_kinds h = (room_kinds _ _ (length kinds) (length mods) h, (room_kinds _ _ (length kinds) (length mods) h, room_kinds _ _ (length kinds) (length mods) h))
 
   module _ (g : 32 * name_bound ≤ length kinds) where
-    pub short_mods : length mods < 128 → Left Short kinds mods
+    pub short_mods : length mods < 128 → Left (Err Short) kinds mods
     unfolding read_as kinds_after mods_after
     short_mods h = (room_mods _ _ (length kinds) (length mods) g h, (room_mods _ _ (length kinds) (length mods) g h, room_mods _ _ (length kinds) (length mods) g h))
 
-    module _ (h : 128 ≤ length mods) (v : Answer) (e : v ≡ told (refusal t) (length (decode t))) (ks ms : List ℕ) (zk : ks ≡ replicate (length kinds) 0) (zm : ms ≡ replicate (length mods) 0) where
-      pub read_refused : (k n : ℕ) → v ≡ No k n → Left (Refused k n) ks ms
+    module _ (h : 128 ≤ length mods) (v : Result ℕ Refusal) (e : v ≡ told (refusal t) (length (decode t))) (ks ms : List ℕ) (zk : ks ≡ replicate (length kinds) 0) (zm : ms ≡ replicate (length mods) 0) where
+      pub read_refused : (k n : ℕ) → v ≡ refused_as k n → Left (unread k n) ks ms
       unfolding read_as kinds_after mods_after
       read_refused k n q =
           let r = told_refused (refusal t) (length (decode t)) k n (sym q ∙ e) in (
-            ap (by_verdict Refused (Accepted (length (decode t)))) (sym r) ∙ room_fits _ _ (length kinds) (length mods) g h,
+            ap (by_verdict unread (Ok (length (decode t)))) (sym r) ∙ room_fits _ _ (length kinds) (length mods) g h,
             (
               zk ∙ ap (by_verdict (λ k n. replicate {A = ℕ} (length kinds) 0) (put_kinds 0 (decode t) (replicate (length kinds) 0))) (sym r) ∙ room_fits _ _ (length kinds) (length mods) g h,
               zm ∙ ap (by_verdict (λ k n. replicate {A = ℕ} (length mods) 0) (put_mods 0 0 (decode t) (replicate (length mods) 0))) (sym r) ∙ room_fits _ _ (length kinds) (length mods) g h,
             ),
           )
 
-      pub read_accepted : (m : ℕ) → v ≡ Formed m → (ks' ms' : List ℕ) → ks' ≡ put_kinds 0 (decode t) ks → ms' ≡ put_mods 0 0 (decode t) ms → Left (Accepted m) ks' ms'
+      pub read_accepted : (m : ℕ) → v ≡ Ok m → (ks' ms' : List ℕ) → ks' ≡ put_kinds 0 (decode t) ks → ms' ≡ put_mods 0 0 (decode t) ms → Left (Ok m) ks' ms'
       unfolding read_as kinds_after mods_after
       read_accepted m q ks' ms' wk wm =
           let r = told_formed (refusal t) (length (decode t)) m (sym q ∙ e) in (
-            ap Accepted r.1 ∙ ap (by_verdict Refused (Accepted (length (decode t)))) (sym r.0) ∙ room_fits _ _ (length kinds) (length mods) g h,
+            ap Ok r.1 ∙ ap (by_verdict unread (Ok (length (decode t)))) (sym r.0) ∙ room_fits _ _ (length kinds) (length mods) g h,
             (
               wk ∙ ap (put_kinds 0 (decode t)) zk ∙ ap (by_verdict (λ k n. replicate {A = ℕ} (length kinds) 0) (put_kinds 0 (decode t) (replicate (length kinds) 0))) (sym r.0) ∙ room_fits _ _ (length kinds) (length mods) g h,
               wm ∙ ap (put_mods 0 0 (decode t)) zm ∙ ap (by_verdict (λ k n. replicate {A = ℕ} (length mods) 0) (put_mods 0 0 (decode t) (replicate (length mods) 0))) (sym r.0) ∙ room_fits _ _ (length kinds) (length mods) g h,
@@ -126,33 +126,33 @@ module _ (t : Bytes) (kinds mods : List ℕ) where
         mods_fit = let a = ap length zm ∙ length-replicate {A = ℕ} (length mods) 0 in omega (arith, a, h);
       }
 
-      module _ (v : Answer) (ks' ms' : List ℕ) (f : Fills t ks ms v ks' ms') where
-        pub pass_refused : (k n : ℕ) → v ≡ No k n → length ks' ≡ length ks → length ms' ≡ length ms → (ks'' ms'' : List ℕ) → ks'' ≡ replicate (length ks') 0 → ms'' ≡ replicate (length ms') 0 → Left (Refused k n) ks'' ms''
+      module _ (v : Result ℕ Refusal) (ks' ms' : List ℕ) (f : Fills t ks ms v ks' ms') where
+        pub pass_refused : (k n : ℕ) → v ≡ refused_as k n → length ks' ≡ length ks → length ms' ≡ length ms → (ks'' ms'' : List ℕ) → ks'' ≡ replicate (length ks') 0 → ms'' ≡ replicate (length ms') 0 → Left (unread k n) ks'' ms''
         pass_refused k n q lk lm ks'' ms'' yk ym =
             read_refused h v (f.0 ∙ text_lines t bad short s z) ks'' ms'' (yk ∙ ap (λ (i : ℕ). replicate {A = ℕ} i 0) (lk ∙ ap length zk ∙ length-replicate {A = ℕ} (length kinds) 0))
             (ym ∙ ap (λ (i : ℕ). replicate {A = ℕ} i 0) (lm ∙ ap length zm ∙ length-replicate {A = ℕ} (length mods) 0)) k n q
 
-        pub pass_accepted : (m : ℕ) → v ≡ Formed m → Left (Accepted m) ks' ms'
+        pub pass_accepted : (m : ℕ) → v ≡ Ok m → Left (Ok m) ks' ms'
         pass_accepted m q =
             let w = f.1 (told_formed (lines_fault at_start 1 (lines t)) (modules_in (lines t)) m (sym q ∙ f.0)).0 in
             read_accepted h v (f.0 ∙ text_lines t bad short s z) ks ms zk zm m q ks' ms' w.0 w.1
 
 -- the answer alone
-abbrev pub as_verdict : Read → Answer
-as_verdict Short = Formed 0
-as_verdict (Refused k n) = No k n
-as_verdict (Accepted m) = Formed m
+abbrev pub as_verdict : Result ℕ ReadError → Result ℕ Refusal
+as_verdict (Err Short) = Ok 0
+as_verdict (Err (Refused r)) = Err r
+as_verdict (Ok m) = Ok m
 
-pub read_told : (t : Bytes) (k m : ℕ) → 32 * name_bound ≤ k → 128 ≤ m → (x : Read) → x ≡ read_as k m t → as_verdict x ≡ told (refusal t) (length (decode t))
+pub read_told : (t : Bytes) (k m : ℕ) → 32 * name_bound ≤ k → 128 ≤ m → (x : Result ℕ ReadError) → x ≡ read_as k m t → as_verdict x ≡ told (refusal t) (length (decode t))
 unfolding read_as
-read_told t k m g h x e = ap as_verdict (e ∙ sym (room_fits Short (by_verdict Refused (Accepted (length (decode t))) (refusal t)) k m g h)) ∙ go (refusal t)
+read_told t k m g h x e = ap as_verdict (e ∙ sym (room_fits (Err Short) (by_verdict unread (Ok (length (decode t))) (refusal t)) k m g h)) ∙ go (refusal t)
   where
-    go : (v : Verdict) → as_verdict (by_verdict Refused (Accepted (length (decode t))) v) ≡ told v (length (decode t))
+    go : (v : Verdict) → as_verdict (by_verdict unread (Ok (length (decode t))) v) ≡ told v (length (decode t))
     go well_formed = refl
     go (refused k n) = refl
 
 -- and its number and line
-pub told_by : (t : Bytes) (r : Answer) → r ≡ told (refusal t) (length (decode t))
+pub told_by : (t : Bytes) (r : Result ℕ Refusal) → r ≡ told (refusal t) (length (decode t))
     → (r ≡ told (refusal t) (length (decode t))) × ((told_number r ≡ fault_number (refusal t)) × (told_Line r ≡ fault_line (refusal t)))
 told_by t r e = (e, (ap told_number e ∙ (go (refusal t)).0, ap told_Line e ∙ (go (refusal t)).1))
   where

@@ -17,15 +17,15 @@ use Rattle.spec.specs.Show.{show_truth, show_kind, show_dir, show_bound, show_ex
 use Rattle.spec.specs.Refusal.{expr_in_range, width_in_range, place_in_range, in_int, expr_depth, width_depth, place_depth}
 use Rattle.spec.proofs.Numbers.{Digits, number_digits}
 use Rattle.lines.specs.Bytes.{class_of, is_digit}
-use Rattle.lines.specs.Parse.{key, code_after, word_at, number_at, numbered, counted, int_at, kind_numbers, kind_of, lookup_key, either, worded, literal, atom}
+use Rattle.std.specs.Prelude.{Option, Some, None}
+use Rattle.lines.specs.Parse.{valued, good, key, code_after, word_at, number_at, numbered, counted, int_at, kind_numbers, kind_of, lookup_key, either, worded, literal, atom}
 use Rattle.lines.specs.declared.parse.Cat.{Cat}
 use Rattle.lines.specs.declared.parse.Cat.TheVariants.{Name, Start, Mod, Count, Int, Kind, Dir, Bound, E, X, T, Lv, C, S, I, ThenS, ElseS, ThenI, ElseI, L, Nothing}
-use Rattle.lines.specs.declared.parse.Parsed.TheVariants.{Bad, Good}
 use Rattle.lines.specs.declared.parse.Number.{Number}
-use Rattle.lines.specs.declared.parse.Number.TheVariants.{None, Is}
+use Rattle.lines.specs.declared.parse.Parsed.{Parsed}
 use Rattle.lines.proofs.Laws.{if_case}
 use Rattle.lines.proofs.Trees.{Tree, show, range, depth}
-use Rattle.lines.proofs.Spelled.{at_cons, cons_at, cons_next, Stops, all_wordly, word_fine, word_read, word_is, word_there, Caps, caps_below, number_sound, number_there, digit_there}
+use Rattle.lines.proofs.Spelled.{is_inj, at_cons, cons_at, cons_next, Stops, all_wordly, word_fine, word_read, word_is, word_there, Caps, caps_below, number_sound, number_there, digit_there}
 use Rattle.lines.proofs.Built.{lookup_case}
 
 -- a part of the category c stands from i to j, at most d deep, with these facts
@@ -35,11 +35,11 @@ pub record Found (d : ℕ) (c : Cat) (t : Bytes) (i j : ℕ) (r : Bool) : Type 0
   pub ranged : range c tree ≡ r
   pub deep : depth c tree ≤ d
 
-pub bad_not : {j : ℕ} {r : Bool} → Bad ≡ Good j r → ⊥
+pub bad_not : {j : ℕ} {r : Bool} → None ≡ good j r → ⊥
 bad_not e = let z : ◌≡◌ {A = ℕ} 0 1 = cc in omega arith
 
-pub good_inj : {i j : ℕ} {r r' : Bool} → Good i r ≡ Good j r' → (i ≡ j) × (r ≡ r')
-good_inj e = (cc, cc)
+pub good_inj : {i j : ℕ} {r r' : Bool} → good i r ≡ good j r' → (i ≡ j) × (r ≡ r')
+good_inj e = (ap (λ (n : Option Parsed). elim n as (λ _. ℕ) [ None ↦ 0 | Some p ↦ p.next ]) e, ap (λ (n : Option Parsed). elim n as (λ _. Bool) [ None ↦ false | Some p ↦ p.range ]) e)
 
 module _ (t : Bytes) (i j : ℕ) (r : Bool) where
   -- ---- soundness
@@ -49,27 +49,27 @@ module _ (t : Bytes) (i j : ℕ) (r : Bool) where
     span : drop i t ≡ show_number number ++ drop j t
     ranged : ltb number limit ≡ r
 
-  numbered_sound : (limit : ℕ) → limit ≤ 4294967296 → numbered (number_at t i) limit ≡ Good j r → Numbered limit
+  numbered_sound : (limit : ℕ) → limit ≤ 4294967296 → numbered (number_at t i) limit ≡ good j r → Numbered limit
   numbered_sound limit h = go (number_at t i) refl
     where
-      go : (n : Number) → number_at t i ≡ n → numbered n limit ≡ Good j r → Numbered limit
+      go : (n : Option Number) → number_at t i ≡ n → numbered n limit ≡ good j r → Numbered limit
       go None e q = absurd (bad_not q)
-      go (Is v k) e q =
+      go (Some n) e q =
           let g = good_inj q in
-          let f = number_sound t i v k e in
-          record { number = f.number; span = f.span ∙ ap (λ (z : ℕ). show_number f.number ++ drop z t) g.0; ranged = sym (caps_below v f.number limit h f.caps) ∙ g.1 }
+          let f = number_sound t i n.value n.next e in
+          record { number = f.number; span = f.span ∙ ap (λ (z : ℕ). show_number f.number ++ drop z t) g.0; ranged = sym (caps_below n.value f.number limit h f.caps) ∙ g.1 }
 
-  counted_sound : counted (number_at t i) ≡ Good j r → (n : ℕ) × (drop i t ≡ show_number n ++ drop j t) × (true ≡ r)
+  counted_sound : counted (number_at t i) ≡ good j r → (n : ℕ) × (drop i t ≡ show_number n ++ drop j t) × (true ≡ r)
   counted_sound = go (number_at t i) refl
     where
-      go : (n : Number) → number_at t i ≡ n → counted n ≡ Good j r → (n : ℕ) × (drop i t ≡ show_number n ++ drop j t) × (true ≡ r)
+      go : (n : Option Number) → number_at t i ≡ n → counted n ≡ good j r → (n : ℕ) × (drop i t ≡ show_number n ++ drop j t) × (true ≡ r)
       go None e q = absurd (bad_not q)
-      go (Is v k) e q =
+      go (Some n) e q =
           let g = good_inj q in
-          let f = number_sound t i v k e in
+          let f = number_sound t i n.value n.next e in
           (f.number, f.span ∙ ap (λ (z : ℕ). show_number f.number ++ drop z t) g.0, g.1)
 
-  worded_sound : (b : Bool) (k : ℕ) → worded b k ≡ Good j r → (b ≡ true) × (k ≡ j) × (true ≡ r)
+  worded_sound : (b : Bool) (k : ℕ) → worded b k ≡ good j r → (b ≡ true) × (k ≡ j) × (true ≡ r)
   worded_sound true k e = let g = good_inj e in (refl, g.0, g.1)
   worded_sound false k e = absurd (bad_not e)
 
@@ -126,10 +126,10 @@ module _ (t : Bytes) (i j : ℕ) (r : Bool) where
       is : (k : Syntax.Kind) → word_fine (show_kind k) ≡ true → (word_at t i).key ≡ key (show_kind k) → Found 0 Kind t i j r
       is k f e = record { tree = k; span = word_sound (show_kind k) f e g.1; ranged = g.2; deep = omega arith }
 
-  literal_sound : literal t i ≡ Good j r → Found 0 E t i j r
+  literal_sound : literal t i ≡ good j r → Found 0 E t i j r
   unfolding literal show_expr expr_in_range expr_depth
   literal_sound =
-      if_case (λ z. z ≡ Good j r → Found 0 E t i j r) (is_digit (class_of (get_or t i 0))) _ _
+      if_case (λ z. z ≡ good j r → Found 0 E t i j r) (is_digit (class_of (get_or t i 0))) _ _
       (λ d q. let f = numbered_sound number_bound (omega arith) q in record { tree = lit f.number; span = f.span; ranged = f.ranged; deep = omega arith })
       (λ d q. let g = worded_sound _ _ q in let f = truth_sound g in record { tree = truth f.0; span = f.1; ranged = g.2; deep = omega arith })
 
@@ -137,10 +137,10 @@ module _ (t : Bytes) (i j : ℕ) (r : Bool) where
   unfolding show_place place_in_range place_depth
   place_of f = record { tree = at f.tree; span = f.span; ranged = f.ranged; deep = f.deep }
 
-  place_sound : atom X t i ≡ Good j r → Found 0 X t i j r
+  place_sound : atom X t i ≡ good j r → Found 0 X t i j r
   unfolding show_place place_in_range place_depth
   place_sound =
-      if_case (λ z. z ≡ Good j r → Found 0 X t i j r) (eqb (get_or t i 0) 45) _ _
+      if_case (λ z. z ≡ good j r → Found 0 X t i j r) (eqb (get_or t i 0) 45) _ _
       (λ e q. let g = good_inj q in record { tree = single; span = at_cons t i 45 (eqb-true (get_or t i 0) 45 e) (λ z. omega arith) ∙ ap (λ (k : ℕ). 45 ∷ drop k t) g.0; ranged = g.1; deep = omega arith })
       (λ e q. place_of (literal_sound q))
 
@@ -167,15 +167,15 @@ negative t i j r e f n = go n.number n.span n.ranged
       deep = omega arith;
     }
 
-int_sound : (t : Bytes) (i j : ℕ) (r : Bool) → int_at t i ≡ Good j r → Found 0 Int t i j r
+int_sound : (t : Bytes) (i j : ℕ) (r : Bool) → int_at t i ≡ good j r → Found 0 Int t i j r
 unfolding int_at show_int in_int
 int_sound t i j r =
-    if_case (λ z. z ≡ Good j r → Found 0 Int t i j r) (eqb (get_or t i 0) 45) _ _
-    (λ e. if_case (λ z. z ≡ Good j r → Found 0 Int t i j r) (eqb (get_or t (i + 1) 0) 48) _ _ (λ d q. absurd (bad_not q))
+    if_case (λ z. z ≡ good j r → Found 0 Int t i j r) (eqb (get_or t i 0) 45) _ _
+    (λ e. if_case (λ z. z ≡ good j r → Found 0 Int t i j r) (eqb (get_or t (i + 1) 0) 48) _ _ (λ d q. absurd (bad_not q))
     (λ d q. negative t i j r (eqb-true (get_or t i 0) 45 e) (eqb-false (get_or t (i + 1) 0) 48 d) (numbered_sound t (i + 1) j r (number_bound + 1) (omega arith) q)))
     (λ e q. let f = numbered_sound t i j r number_bound (omega arith) q in record { tree = pos f.number; span = f.span; ranged = f.ranged; deep = omega arith })
 
-pub atom_sound : (c : Cat) (t : Bytes) (i j : ℕ) (r : Bool) → atom c t i ≡ Good j r → Found 0 c t i j r
+pub atom_sound : (c : Cat) (t : Bytes) (i j : ℕ) (r : Bool) → atom c t i ≡ good j r → Found 0 c t i j r
 atom_sound Name t i j r q = let f = numbered_sound t i j r name_bound (omega arith) q in record { tree = f.number; span = f.span; ranged = f.ranged; deep = omega arith }
 atom_sound Start t i j r q = let f = numbered_sound t i j r number_bound (omega arith) q in record { tree = f.number; span = f.span; ranged = f.ranged; deep = omega arith }
 atom_sound Mod t i j r q = let f = numbered_sound t i j r module_bound (omega arith) q in record { tree = f.number; span = f.span; ranged = f.ranged; deep = omega arith }
@@ -246,7 +246,7 @@ IsAtom Nothing x = ⊥
 
 -- the part x is read at i, and does not begin with a bracket
 pub record ReadAs (c : Cat) (x : Tree c) (t : Bytes) (i : ℕ) : Type 0 where
-  pub good : atom c t i ≡ Good (i + length (show c x)) (range c x)
+  pub good : atom c t i ≡ good (i + length (show c x)) (range c x)
   pub plain : get_or t i 0 ≡ 40 → ⊥
 
 number_first : (t : Bytes) (i n : ℕ) (r : Bytes) → drop i t ≡ show_number n ++ r → (48 ≤ get_or t i 0) × (get_or t i 0 ≤ 57)
@@ -260,19 +260,19 @@ module _ (t : Bytes) (i : ℕ) (r : Bytes) where
   number_plain : (n : ℕ) → drop i t ≡ show_number n ++ r → get_or t i 0 ≡ 40 → ⊥
   number_plain n e z = let f = number_first t i n r e in let a = f.0 in omega arith
 
-  numbered_there : (n limit : ℕ) → limit ≤ 4294967296 → drop i t ≡ show_number n ++ r → Stops r → numbered (number_at t i) limit ≡ Good (i + length (show_number n)) (ltb n limit)
+  numbered_there : (n limit : ℕ) → limit ≤ 4294967296 → drop i t ≡ show_number n ++ r → Stops r → numbered (number_at t i) limit ≡ good (i + length (show_number n)) (ltb n limit)
   numbered_there n limit h e s =
       let f = number_there t i n r e s in
-      ap (λ (x : Number). numbered x limit) f.is ∙ ap (λ (b : Bool). Good (i + length (show_number n)) b) (caps_below f.value n limit h f.caps)
+      ap (λ (x : Option Number). numbered x limit) f.is ∙ ap (λ (b : Bool). good (i + length (show_number n)) b) (caps_below f.value n limit h f.caps)
 
-  counted_there : (n : ℕ) → drop i t ≡ show_number n ++ r → Stops r → counted (number_at t i) ≡ Good (i + length (show_number n)) true
+  counted_there : (n : ℕ) → drop i t ≡ show_number n ++ r → Stops r → counted (number_at t i) ≡ good (i + length (show_number n)) true
   counted_there n e s = ap counted (number_there t i n r e s).is
 
   -- a word of two
-  either_there : (w : Bytes) (a b : ℕ) → word_fine w ≡ true → either (key w) a b ≡ true → drop i t ≡ w ++ r → Stops r → worded (either (word_at t i).key a b) (word_at t i).next ≡ Good (i + length w) true
+  either_there : (w : Bytes) (a b : ℕ) → word_fine w ≡ true → either (key w) a b ≡ true → drop i t ≡ w ++ r → Stops r → worded (either (word_at t i).key a b) (word_at t i).next ≡ good (i + length w) true
   either_there w a b f h e s = rw (word_there w t i r f e s, h)
 
-  kind_there : (k : Syntax.Kind) → drop i t ≡ show_kind k ++ r → Stops r → atom Kind t i ≡ Good (i + length (show_kind k)) true
+  kind_there : (k : Syntax.Kind) → drop i t ≡ show_kind k ++ r → Stops r → atom Kind t i ≡ good (i + length (show_kind k)) true
   unfolding all_wordly class_of kind_of kind_numbers lookup_key key code_after
   kind_there in_kind e s = rw (word_there (bytes "in") t i r refl e s)
   kind_there out_kind e s = rw (word_there (bytes "out") t i r refl e s)
@@ -306,22 +306,22 @@ module _ (t : Bytes) (i : ℕ) (r : Bytes) where
   width_there (bits x) a e s = absurd a
   width_there (signed x) a e s = absurd a
 
-  truth_word : (b : Bool) → drop i t ≡ show_truth b ++ r → Stops r → (worded (either (word_at t i).key (key (bytes "true")) (key (bytes "false"))) (word_at t i).next ≡ Good (i + length (show_truth b)) true) × (is_digit (class_of (get_or t i 0)) ≡ false)
+  truth_word : (b : Bool) → drop i t ≡ show_truth b ++ r → Stops r → (worded (either (word_at t i).key (key (bytes "true")) (key (bytes "false"))) (word_at t i).next ≡ good (i + length (show_truth b)) true) × (is_digit (class_of (get_or t i 0)) ≡ false)
   unfolding all_wordly class_of either key code_after
   truth_word true e s = (either_there (bytes "true") _ _ refl refl e s, ap (λ (x : ℕ). is_digit (class_of x)) (cons_at t i 116 _ e))
   truth_word false e s = (either_there (bytes "false") _ _ refl refl e s, ap (λ (x : ℕ). is_digit (class_of x)) (cons_at t i 102 _ e))
 
-  truth_literal : (b : Bool) → drop i t ≡ show_truth b ++ r → Stops r → literal t i ≡ Good (i + length (show_truth b)) true
+  truth_literal : (b : Bool) → drop i t ≡ show_truth b ++ r → Stops r → literal t i ≡ good (i + length (show_truth b)) true
   unfolding literal
   truth_literal b e s = let f = truth_word b e s in rw (f.1, literal) f.0
 
-  lit_literal : (n : ℕ) → drop i t ≡ show_number n ++ r → Stops r → literal t i ≡ Good (i + length (show_number n)) (ltb n number_bound)
+  lit_literal : (n : ℕ) → drop i t ≡ show_number n ++ r → Stops r → literal t i ≡ good (i + length (show_number n)) (ltb n number_bound)
   unfolding literal
   lit_literal n e s =
       let f = number_first t i n r e in
       rw (digit_there (get_or t i 0) f.0 f.1, literal) (numbered_there n number_bound (omega arith) e s)
 
-  expr_there : (x : Expr) → ExprAtom x → drop i t ≡ show_expr x ++ r → Stops r → (literal t i ≡ Good (i + length (show_expr x)) (expr_in_range x)) × (get_or t i 0 ≡ 40 → ⊥) × (get_or t i 0 ≡ 45 → ⊥)
+  expr_there : (x : Expr) → ExprAtom x → drop i t ≡ show_expr x ++ r → Stops r → (literal t i ≡ good (i + length (show_expr x)) (expr_in_range x)) × (get_or t i 0 ≡ 40 → ⊥) × (get_or t i 0 ≡ 45 → ⊥)
   unfolding show_expr expr_in_range
   expr_there (lit n) a e s = (lit_literal n e s, number_plain n e, λ z. let f = number_first t i n r e in let a = f.0 in omega arith)
   expr_there (truth true) a e s = (truth_literal true e s, (λ z. let g = cons_at t i 116 _ e in omega arith), λ z. let g = cons_at t i 116 _ e in omega arith)
@@ -346,13 +346,10 @@ not_zero : (t : Bytes) (i n : ℕ) (r : Bytes) → drop i t ≡ show_number (suc
 unfolding number_at
 not_zero t i n r e s z =
     let f = number_there t i (suc n) r e s in
-    let q : number_at t i ≡ Is 0 (i + 1) = rw (z, number_at) in
-    let v : f.value ≡ 0 = is_value (sym f.is ∙ q) in
+    let q : number_at t i ≡ Some (valued 0 (i + 1)) = rw (z, number_at) in
+    let v : f.value ≡ 0 = (is_inj (sym f.is ∙ q)).0 in
     large f.caps v
   where
-    is_value : {v w i j : ℕ} → Is v i ≡ Is w j → v ≡ w
-    is_value e = cc
-
     large : Caps (number_there t i (suc n) r e s).value (suc n) → (number_there t i (suc n) r e s).value ≡ 0 → ⊥
     large (inl a) v = omega arith
     large (inr a) v = let b = a.0 in omega arith
@@ -370,7 +367,7 @@ int_there (negsuc n) t i r e s =
     record {
       good =
           rw (g, ne_eqb (get_or t (i + 1) 0) 48 (not_zero t (i + 1) n r h s), int_at)
-          (numbered_there t (i + 1) r (suc n) (number_bound + 1) (omega arith) h s ∙ ap₂ (λ (x : ℕ) (b : Bool). Good x b) a (sym (ltb_step n number_bound)));
+          (numbered_there t (i + 1) r (suc n) (number_bound + 1) (omega arith) h s ∙ ap₂ (λ (x : ℕ) (b : Bool). good x b) a (sym (ltb_step n number_bound)));
       plain = λ z. omega arith;
     }
 

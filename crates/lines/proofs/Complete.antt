@@ -9,19 +9,19 @@ use lib.ListN.{length, drop, length-append, length-drop}
 use borrow.Author.Tests.{eq-eqb}
 use Rattle.spec.specs.Bytes.{Bytes, show_rest, show_form}
 use Rattle.lines.specs.Bytes.{class_of}
-use Rattle.lines.specs.Parse.{key, shift, parts_at, scan}
+use Rattle.std.specs.Prelude.{Option, Some, None}
+use Rattle.lines.specs.Parse.{good, key, shift, parts_at, scan}
 use Rattle.lines.specs.declared.parse.Cat.{Cat}
 use Rattle.lines.specs.declared.parse.Shape.{Shape}
 use Rattle.lines.specs.declared.parse.Parsed.{Parsed}
-use Rattle.lines.specs.declared.parse.Parsed.TheVariants.{Good}
 use Rattle.lines.proofs.Laws.{scan_atom, form_start, parts_more}
 use Rattle.lines.proofs.Trees.{Tree, show, range, depth, Done, Walk, shows, all_range, all_depth}
 use Rattle.lines.proofs.Spelled.{cons_at, cons_next, span_next, Stops, word_there}
 use Rattle.lines.proofs.Atoms.{IsAtom, atom_there}
 use Rattle.lines.proofs.Formed.{word_of, Formed, View, atom as atom_view, form, viewed}
 
-abbrev pub Reads : ℕ → Bytes → (Cat → ℕ → Parsed) → Type 0
-Reads d t f = (c : Cat) (x : Tree c) (i : ℕ) (r : Bytes) → drop i t ≡ show c x ++ r → Stops r → depth c x ≤ d → f c i ≡ Good (i + length (show c x)) (range c x)
+abbrev pub Reads : ℕ → Bytes → (Cat → ℕ → Option Parsed) → Type 0
+Reads d t f = (c : Cat) (x : Tree c) (i : ℕ) (r : Bytes) → drop i t ≡ show c x ++ r → Stops r → depth c x ≤ d → f c i ≡ good (i + length (show c x)) (range c x)
 
 -- what follows a part of a form stops it
 pub rest_stops : (xs : List Bytes) (r : Bytes) → Stops (show_rest xs ++ r)
@@ -33,12 +33,12 @@ done_zero : (n : ℕ) → Done n → n ≡ 0
 done_zero zero d = refl
 done_zero (suc n) d = absurd d
 
-good_same : {i j : ℕ} {r r' : Bool} → i ≡ j → r ≡ r' → Good i r ≡ Good j r'
+good_same : {i j : ℕ} {r r' : Bool} → i ≡ j → r ≡ r' → good i r ≡ good j r'
 good_same a b = cc
 
-module _ (d : ℕ) (t : Bytes) (f : Cat → ℕ → Parsed) (reads : Reads d t f) where
+module _ (d : ℕ) (t : Bytes) (f : Cat → ℕ → Option Parsed) (reads : Reads d t f) where
   parts_complete : (n left : ℕ) (q : Shape) (w : Walk n q) (i : ℕ) (r : Bytes) (r₀ : Bool) → n < left → drop i t ≡ show_rest (shows n q w) ++ r → all_depth n q w ≤ d
-      → parts_at f left t q i r₀ ≡ Good (i + length (show_rest (shows n q w))) (r₀ && all_range n q w)
+      → parts_at f left t q i r₀ ≡ good (i + length (show_rest (shows n q w))) (r₀ && all_range n q w)
   unfolding parts_at show_rest
   parts_complete n zero q w i r r₀ l e h = absurd (omega arith)
   parts_complete zero (suc left) q w i r r₀ l e h =
@@ -51,9 +51,7 @@ module _ (d : ℕ) (t : Bytes) (f : Cat → ℕ → Parsed) (reads : Reads d t f
       let g = reads q.a w.0 (i + 1) (tail ++ r) b (rest_stops (shows n (shift q) w.1) r) (omega arith) in
       let k = span_next t (i + 1) x (tail ++ r) b in
       let z : i + 1 + length x + length tail ≡ i + suc (length (x ++ tail)) = omega (arith, length-append x tail) in
-      let s : suc left - 1 ≡ left = omega arith in
-      parts_more f t q i r₀ (suc left) (omega arith) (λ u. omega arith) a (i + 1 + length x) (range q.a w.0) g
-      ∙ ap (λ (m : ℕ). parts_at f m t (shift q) (i + 1 + length x) (r₀ && range q.a w.0)) s
+      parts_more f t q i r₀ (suc left) left refl (λ u. omega arith) a (i + 1 + length x) (range q.a w.0) g
       ∙ parts_complete n left (shift q) w.1 (i + 1 + length x) r (r₀ && range q.a w.0) (omega arith) k (omega arith)
       ∙ good_same z (and_assoc r₀ (range q.a w.0) (all_range n (shift q) w.1))
 
@@ -66,7 +64,7 @@ count_length (suc n) q w =
     omega (arith, length-append (show q.a w.0) (show_rest (shows n (shift q) w.1)))
 
 form_complete : (d : ℕ) (t : Bytes) → Reads d t (λ k i. scan d k t i) → (c : Cat) (x : Tree c) (i : ℕ) (r : Bytes) → drop i t ≡ show c x ++ r → depth c x ≤ suc d
-    → Formed c x → scan (suc d) c t i ≡ Good (i + length (show c x)) (range c x)
+    → Formed c x → scan (suc d) c t i ≡ good (i + length (show c x)) (range c x)
 unfolding show_form
 form_complete d t reads c x i r e h f =
     let m = f.made in
@@ -94,14 +92,14 @@ form_complete d t reads c x i r e h f =
     room_of t k x r e = omega (arith, length-drop k t, length-append x r, ap length e)
 
 module _ (t : Bytes) (c : Cat) (x : Tree c) (i : ℕ) (r : Bytes) (e : drop i t ≡ show c x ++ r) (s : Stops r) where
-  atom_complete : (d : ℕ) → IsAtom c x → scan d c t i ≡ Good (i + length (show c x)) (range c x)
+  atom_complete : (d : ℕ) → IsAtom c x → scan d c t i ≡ good (i + length (show c x)) (range c x)
   atom_complete d a = let y = atom_there c x t i r a e s in sym (scan_atom d c t i y.plain) ∙ y.good
 
-  flat_complete : depth c x ≤ 0 → View c x → scan 0 c t i ≡ Good (i + length (show c x)) (range c x)
+  flat_complete : depth c x ≤ 0 → View c x → scan 0 c t i ≡ good (i + length (show c x)) (range c x)
   flat_complete h (atom_view a) = atom_complete 0 a
   flat_complete h (form f) = let u = f.made.deep in absurd (omega arith)
 
-  deep_complete : (d : ℕ) → Reads d t (λ k i. scan d k t i) → depth c x ≤ suc d → View c x → scan (suc d) c t i ≡ Good (i + length (show c x)) (range c x)
+  deep_complete : (d : ℕ) → Reads d t (λ k i. scan d k t i) → depth c x ≤ suc d → View c x → scan (suc d) c t i ≡ good (i + length (show c x)) (range c x)
   deep_complete d reads h (atom_view a) = atom_complete (suc d) a
   deep_complete d reads h (form f) = form_complete d t reads c x i r e h f
 

@@ -11,8 +11,7 @@ use Rattle.spec.specs.Bytes.{Bytes}
 use Rattle.spec.specs.Syntax.{name_bound, Header}
 use Rattle.spec.specs.Refusal.{lines, decode_lines, gather, Gathered, decode, at_start, lines_fault}
 use Rattle.lines.specs.Tables.{put_header, put_kinds, marked, header_size, items_size, put_mods}
-use Rattle.lines.specs.Verdict.{told, modules_in}
-use Rattle.lines.specs.declared.read.Verdict.TheVariants.{Refused}
+use Rattle.lines.specs.Verdict.{refused_as, told, modules_in}
 use Rattle.lines.specs.declared.tables.Progress.{Progress}
 use Rattle.lines.proofs.Going.{Going}
 
@@ -50,11 +49,9 @@ pub record Filling (t : Bytes) (at row modules : ℕ) (items : Bool) (first : �
   pub long : length seen ≡ name_bound
   pub filled : Filled t at modules items first kinds₀ mods₀ kinds mods
 
--- 01, Refused because of the text: where the pass stands: before a line without a fault so far; or a fault ended it, and it is what the text is
--- refused with
+-- 01, Refused because of the text: where the pass stands: before a line, without a fault so far
 pub record Reading (t : Bytes) (kinds₀ mods₀ : List ℕ) (p : Progress) (seen kinds mods : List ℕ) : Type 0 where
   pub places : length seen ≡ name_bound
   pub kinds_kept : length kinds ≡ length kinds₀
   pub mods_kept : length mods ≡ length mods₀
-  pub goes_on : p.fault ≡ 0 → Filling t p.next p.row p.modules p.items p.first seen kinds₀ mods₀ kinds mods
-  pub stopped : (p.fault ≡ 0 → ⊥) → (length t ≤ p.next) × (Refused p.fault p.row ≡ told (lines_fault at_start 1 (lines t)) (modules_in (lines t)))
+  pub goes_on : Filling t p.next p.row p.modules p.items p.first seen kinds₀ mods₀ kinds mods

@@ -1,6 +1,6 @@
 -- The turns of the pass over the lines, one law for each way, over what `line_step` and `enter_line` say.
 -- Assumes nothing.
-use mathlib.Core.Path.{◌≡◌, refl, ap, ◌∙◌}
+use mathlib.Core.Path.{sym, ◌≡◌, refl, ap, ◌∙◌}
 use mathlib.Core.Bool.{Bool, true, false, not}
 use mathlib.Core.List.{List, [], ◌∷◌}
 use Prim.Native.Nat.{ℕ, zero, suc, ◌+◌, ◌*◌, ◌-◌, ◌≤◌, ◌<◌}
@@ -13,15 +13,16 @@ use Rattle.spec.specs.Syntax.{name_bound}
 use Rattle.spec.specs.Refusal.{Verdict, lines, Before, has_name}
 use Rattle.spec.proofs.Numbers.{if_case}
 use Rattle.lines.specs.Parse.{kind_of}
-use Rattle.lines.specs.Read.{step_number, line_step}
-use Rattle.lines.specs.Verdict.{modules_in, told}
+use Rattle.lines.specs.Read.{fault_code, step_number, line_step}
+use Rattle.lines.specs.Verdict.{modules_in, refused_as, told}
 use Rattle.lines.specs.Tables.{entries, marked, second_key, flag_of}
-use Rattle.lines.specs.Pass.{at_first_line, step_at, behind, seen_behind, kinds_behind, mods_behind, answer_of, Fitting, Standing, Fills}
+use Rattle.lines.specs.Pass.{entered_number, at_first_line, step_at, behind, seen_behind, kinds_behind, mods_behind, Fitting, Standing, Fills}
 use Rattle.lines.proofs.Filled.{Filling, Reading}
 use Rattle.lines.specs.declared.read.Step.{Step}
-use Rattle.lines.specs.declared.read.Step.TheVariants.{Fault, Module, Kind, Val, Item}
-use Rattle.lines.specs.declared.read.Verdict.{Verdict as Answer}
-use Rattle.lines.specs.declared.read.Verdict.TheVariants.{Refused, Formed}
+use Rattle.lines.specs.declared.read.Step.TheVariants.{Module, Kind, Val, Item}
+use Rattle.lines.specs.declared.read.Fault.{Fault}
+use Rattle.lines.specs.declared.read.Refusal.{Refusal}
+use Rattle.std.specs.Prelude.{Result, Ok, Err, IsErrAnd}
 use Rattle.lines.specs.declared.tables.Progress.{Progress}
 use Rattle.lines.proofs.Steps.{Right, line_right}
 use Rattle.lines.proofs.Turns.{pass_room, going_start, going_right, going_module, going_kind, going_val, going_item, going_fault, going_end}
@@ -30,24 +31,38 @@ use Rattle.lines.proofs.Tabled.{header_before, item_before, second_kind, second_
 marked_long : (table : List ℕ) (m i e : ℕ) → length (marked table m i e) ≡ length table
 marked_long table m i e = length-set (set table (m * 4 + 2) i) (m * 4 + 3) e ∙ length-set table (m * 4 + 2) i
 
-behind_fault : (x : Step) (t : Bytes) (p : Progress) → (behind x t p).fault ≡ step_number x
-behind_fault (Fault k) t p = refl
-behind_fault (Module feed) t p = refl
-behind_fault (Kind feed n) t p = refl
-behind_fault (Val feed) t p = refl
-behind_fault (Item feed) t p = refl
+behind_fault : (x : Result Step Fault) (p : Progress) → entered_number (behind x p) ≡ step_number x
+behind_fault (Err f) p = refl
+behind_fault (Ok (Module feed)) p = refl
+behind_fault (Ok (Kind feed n)) p = refl
+behind_fault (Ok (Val feed)) p = refl
+behind_fault (Ok (Item feed)) p = refl
+
+no_step : {q : Progress} {f : Fault} → ◌≡◌ {A = Result Progress Fault} (Ok q) (Err f) → ⊥
+no_step e = let z : ◌≡◌ {A = ℕ} 0 1 = cc e in omega arith
+
+one_step : {q r : Progress} → ◌≡◌ {A = Result Progress Fault} (Ok q) (Ok r) → q ≡ r
+one_step e = cc e
+
+one_fault : {f k : Fault} → ◌≡◌ {A = Result Progress Fault} (Err f) (Err k) → f ≡ k
+one_fault e = cc e
+
+-- what `?` hands on
+pub err_is : (r : Result Progress Fault) (f : Fault) → IsErrAnd r (λ e. e ≡ f) → r ≡ Err f
+err_is (Ok q) f e = absurd e
+err_is (Err k) f e = ap Err e
 
 -- what an arm of `enter_line` leaves is what its step says
-pub behind_by : (t : Bytes) (at : ℕ) (p : Progress) (seen kinds mods : List ℕ) (x : Step) → x ≡ step_at t at p seen → (q : Progress) (ss ks ms : List ℕ)
-    → q ≡ behind x t p → ss ≡ seen_behind x seen → ks ≡ kinds_behind x t at p kinds → ms ≡ mods_behind x t at p mods
-    → (q ≡ behind (step_at t at p seen) t p)
+pub behind_by : (t : Bytes) (at : ℕ) (p : Progress) (seen kinds mods : List ℕ) (x : Result Step Fault) → x ≡ step_at t at p seen → (q : Result Progress Fault) (ss ks ms : List ℕ)
+    → q ≡ behind x p → ss ≡ seen_behind x seen → ks ≡ kinds_behind x t at p kinds → ms ≡ mods_behind x t at p mods
+    → (q ≡ behind (step_at t at p seen) p)
     × ((ss ≡ seen_behind (step_at t at p seen) seen)
-    × ((ks ≡ kinds_behind (step_at t at p seen) t at p kinds) × ((ms ≡ mods_behind (step_at t at p seen) t at p mods) × (q.fault ≡ step_number (step_at t at p seen)))))
+    × ((ks ≡ kinds_behind (step_at t at p seen) t at p kinds) × ((ms ≡ mods_behind (step_at t at p seen) t at p mods) × (entered_number q ≡ step_number (step_at t at p seen)))))
 behind_by t at p seen kinds mods x e q ss ks ms a b c d = (
-  a ∙ ap (λ (y : Step). behind y t p) e,
+  a ∙ ap (λ (y : Result Step Fault). behind y p) e,
   (
-    b ∙ ap (λ (y : Step). seen_behind y seen) e,
-    (c ∙ ap (λ (y : Step). kinds_behind y t at p kinds) e, (d ∙ ap (λ (y : Step). mods_behind y t at p mods) e, ap (λ (y : Progress). y.fault) a ∙ behind_fault x t p ∙ ap step_number e)),
+    b ∙ ap (λ (y : Result Step Fault). seen_behind y seen) e,
+    (c ∙ ap (λ (y : Result Step Fault). kinds_behind y t at p kinds) e, (d ∙ ap (λ (y : Result Step Fault). mods_behind y t at p mods) e, ap entered_number a ∙ behind_fault x p ∙ ap step_number e)),
   ),
 )
 
@@ -87,61 +102,61 @@ module _ (t : Bytes) (at : ℕ) (p : Progress) (seen kinds mods : List ℕ) (s :
   abbrev before : Before
   before = record { modules = p.modules; has_item = p.items; kinds = names_in name_bound seen }
 
-  told_right : (x : Step) → x ≡ step_at t at p seen → Right t at before x
+  told_right : (x : Result Step Fault) → x ≡ step_at t at p seen → Right t at before x
   told_right x e = rw e (line_right t at before s.few seen (names_agree seen name_bound) s.line s.ends)
 
   -- the next row, and the numbers that a line gives
   pub row_fits : (p.row + 1 ≤ 32769) × (length t ≤ 32768)
   row_fits = (omega (arith, s.early, s.line, s.fitting.ended.short), s.fitting.ended.short)
 
-  pub module_facts : (feed : ℕ) → Module feed ≡ step_at t at p seen → (feed < length t) × (p.modules < 32) × (p.modules * 4 + 3 < length mods)
-  module_facts feed e = let r = told_right (Module feed) e in let u = pass_room t at feed before _ r.1 s.line in (u.0, r.2, let v = r.2 in omega (arith, v, s.fitting.mods_fit))
+  pub module_facts : (feed : ℕ) → Ok (Module feed) ≡ step_at t at p seen → (feed < length t) × (p.modules < 32) × (p.modules * 4 + 3 < length mods)
+  module_facts feed e = let r = told_right (Ok (Module feed)) e in let u = pass_room t at feed before _ r.1 s.line in (u.0, r.2, let v = r.2 in omega (arith, v, s.fitting.mods_fit))
 
-  pub kind_facts : (feed n : ℕ) → Kind feed n ≡ step_at t at p seen → (feed < length t) × (0 < p.modules) × (n < length seen) × ((p.modules - 1) * name_bound + n < length kinds) × ((p.modules - 1) * 4 + 3 < length mods)
+  pub kind_facts : (feed n : ℕ) → Ok (Kind feed n) ≡ step_at t at p seen → (feed < length t) × (0 < p.modules) × (n < length seen) × ((p.modules - 1) * name_bound + n < length kinds) × ((p.modules - 1) * 4 + 3 < length mods)
   kind_facts feed n e =
-      let r = told_right (Kind feed n) e in
+      let r = told_right (Ok (Kind feed n)) e in
       let u = pass_room t at feed before _ r.1 s.line in
       let z = (header_before t at feed before _ r.1).0 in
       let v = r.2 in
       (u.0, z, omega (arith, v, s.places), omega (arith, v, z, s.few, s.fitting.kinds_fit), omega (arith, z, s.few, s.fitting.mods_fit))
 
-  pub val_facts : (feed : ℕ) → Val feed ≡ step_at t at p seen → (feed < length t) × (0 < p.modules) × ((p.modules - 1) * 4 + 3 < length mods)
+  pub val_facts : (feed : ℕ) → Ok (Val feed) ≡ step_at t at p seen → (feed < length t) × (0 < p.modules) × ((p.modules - 1) * 4 + 3 < length mods)
   val_facts feed e =
-      let r = told_right (Val feed) e in
+      let r = told_right (Ok (Val feed)) e in
       let u = pass_room t at feed before _ r.2 s.line in
       let z = (header_before t at feed before _ r.2).0 in
       (u.0, z, omega (arith, z, s.few, s.fitting.mods_fit))
 
-  pub item_facts : (feed : ℕ) → Item feed ≡ step_at t at p seen → (feed < length t) × (0 < p.modules) × ((p.modules - 1) * 4 + 3 < length mods)
+  pub item_facts : (feed : ℕ) → Ok (Item feed) ≡ step_at t at p seen → (feed < length t) × (0 < p.modules) × ((p.modules - 1) * 4 + 3 < length mods)
   item_facts feed e =
-      let r = told_right (Item feed) e in
+      let r = told_right (Ok (Item feed)) e in
       let u = pass_room t at feed before _ r.1 s.line in
       let z = item_before t at feed before _ r.1 in
       (u.0, z, omega (arith, z, s.few, s.fitting.mods_fit))
 
   -- the next line is further on
-  pub further : length t - (behind (step_at t at p seen) t p).next < length t - at
+  pub further : (q : Progress) → Ok q ≡ behind (step_at t at p seen) p → length t - q.next < length t - at
   further = go (step_at t at p seen) refl
     where
-      go : (x : Step) → x ≡ step_at t at p seen → length t - (behind x t p).next < length t - at
-      go (Fault k) e = omega (arith, s.line)
-      go (Module feed) e = let u = pass_room t at feed before _ (told_right (Module feed) e).1 s.line in omega (arith, s.line, u.0, u.1)
-      go (Kind feed n) e = let u = pass_room t at feed before _ (told_right (Kind feed n) e).1 s.line in omega (arith, s.line, u.0, u.1)
-      go (Val feed) e = let u = pass_room t at feed before _ (told_right (Val feed) e).2 s.line in omega (arith, s.line, u.0, u.1)
-      go (Item feed) e = let u = pass_room t at feed before _ (told_right (Item feed) e).1 s.line in omega (arith, s.line, u.0, u.1)
+      go : (x : Result Step Fault) → x ≡ step_at t at p seen → (q : Progress) → Ok q ≡ behind x p → length t - q.next < length t - at
+      go (Err k) e q z = absurd (no_step z)
+      go (Ok (Module feed)) e q z = let n = ap (λ (y : Progress). y.next) (one_step z) in let u = pass_room t at feed before _ (told_right (Ok (Module feed)) e).1 s.line in omega (arith, n, s.line, u.0, u.1)
+      go (Ok (Kind feed k)) e q z = let n = ap (λ (y : Progress). y.next) (one_step z) in let u = pass_room t at feed before _ (told_right (Ok (Kind feed k)) e).1 s.line in omega (arith, n, s.line, u.0, u.1)
+      go (Ok (Val feed)) e q z = let n = ap (λ (y : Progress). y.next) (one_step z) in let u = pass_room t at feed before _ (told_right (Ok (Val feed)) e).2 s.line in omega (arith, n, s.line, u.0, u.1)
+      go (Ok (Item feed)) e q z = let n = ap (λ (y : Progress). y.next) (one_step z) in let u = pass_room t at feed before _ (told_right (Ok (Item feed)) e).1 s.line in omega (arith, n, s.line, u.0, u.1)
 
 module _ (t : Bytes) (at row modules : ℕ) (items : Bool) (first : ℕ) (seen kinds₀ mods₀ kinds mods : List ℕ) (f : Filling t at row modules items first seen kinds₀ mods₀ kinds mods) (h : at < length t) where
   abbrev here : Before
   here = record { modules = modules; has_item = items; kinds = f.going.kinds }
 
-  right : (x : Step) → x ≡ line_step t at modules items seen → Right t at here x
+  right : (x : Result Step Fault) → x ≡ line_step t at modules items seen → Right t at here x
   right x e = going_right t at row modules items seen f.going h x e
 
   module _ (feed : ℕ) where
-    filling_module : Module feed ≡ line_step t at modules items seen
+    filling_module : Ok (Module feed) ≡ line_step t at modules items seen
         → Filling t (feed + 1) (row + 1) (modules + 1) false (feed + 1) (replicate (length seen) 0) kinds₀ mods₀ kinds (entries mods modules (flag_of (second_key t at)) (feed + 1) (feed + 1) (feed + 1))
     filling_module e =
-        let r = right (Module feed) e in
+        let r = right (Ok (Module feed)) e in
         let z = second_bound t at feed here modules r.0 r.1 in
         record {
           going = going_module t at row modules items seen f.going h feed r f.long;
@@ -149,10 +164,10 @@ module _ (t : Bytes) (at row modules : ℕ) (items : Bool) (first : ℕ) (seen k
           filled = rw z (filled_module t at modules items first kinds₀ mods₀ kinds mods f.filled h feed f.going.kinds r.0 r.1);
         }
 
-    filling_kind : (n : ℕ) → Kind feed n ≡ line_step t at modules items seen
+    filling_kind : (n : ℕ) → Ok (Kind feed n) ≡ line_step t at modules items seen
         → Filling t (feed + 1) (row + 1) modules items (feed + 1) (set seen n 1) kinds₀ mods₀ (set kinds ((modules - 1) * name_bound + n) (kind_of (second_key t at))) (marked mods (modules - 1) (feed + 1) (feed + 1))
     filling_kind n e =
-        let r = right (Kind feed n) e in
+        let r = right (Ok (Kind feed n)) e in
         let z = second_kind t at feed here n r.0 r.1 in
         record {
           going = going_kind t at row modules items seen f.going h feed n r f.long;
@@ -160,18 +175,18 @@ module _ (t : Bytes) (at row modules : ℕ) (items : Bool) (first : ℕ) (seen k
           filled = rw z (filled_kind t at modules items first kinds₀ mods₀ kinds mods f.filled h feed f.going.kinds n r.0 r.1);
         }
 
-    filling_val : Val feed ≡ line_step t at modules items seen → Filling t (feed + 1) (row + 1) modules items (feed + 1) seen kinds₀ mods₀ kinds (marked mods (modules - 1) (feed + 1) (feed + 1))
+    filling_val : Ok (Val feed) ≡ line_step t at modules items seen → Filling t (feed + 1) (row + 1) modules items (feed + 1) seen kinds₀ mods₀ kinds (marked mods (modules - 1) (feed + 1) (feed + 1))
     filling_val e =
-        let r = right (Val feed) e in
+        let r = right (Ok (Val feed)) e in
         record {
           going = going_val t at row modules items seen f.going h feed r;
           long = f.long;
           filled = filled_val t at modules items first kinds₀ mods₀ kinds mods f.filled h feed f.going.kinds r.0 r.1 r.2;
         }
 
-    filling_item : Item feed ≡ line_step t at modules items seen → Filling t (feed + 1) (row + 1) modules true first seen kinds₀ mods₀ kinds (marked mods (modules - 1) first (feed + 1))
+    filling_item : Ok (Item feed) ≡ line_step t at modules items seen → Filling t (feed + 1) (row + 1) modules true first seen kinds₀ mods₀ kinds (marked mods (modules - 1) first (feed + 1))
     filling_item e =
-        let r = right (Item feed) e in
+        let r = right (Ok (Item feed)) e in
         record {
           going = going_item t at row modules items seen f.going h feed r;
           long = f.long;
@@ -185,22 +200,14 @@ reading_start t seen kinds mods z f = rw z (record {
   places = length-replicate {A = ℕ} name_bound 0;
   kinds_kept = refl;
   mods_kept = refl;
-  goes_on = λ _. record { going = going_start t f.ended; long = length-replicate {A = ℕ} name_bound 0; filled = filled_start t kinds mods };
-  stopped = λ z. absurd (z refl);
+  goes_on = record { going = going_start t f.ended; long = length-replicate {A = ℕ} name_bound 0; filled = filled_start t kinds mods };
 })
 
 module _ (t : Bytes) (kinds₀ mods₀ : List ℕ) (fit : Fitting t kinds₀ mods₀) (p : Progress) (seen kinds mods : List ℕ) (w : Reading t kinds₀ mods₀ p seen kinds mods) where
   module _ (h : p.next < length t) where
-    sound : p.fault ≡ 0
-    sound = go (eqb p.fault 0) refl
-      where
-        go : (b : Bool) → eqb p.fault 0 ≡ b → p.fault ≡ 0
-        go true e = eqb-true p.fault 0 e
-        go false e = let u = (w.stopped (eqb-false p.fault 0 e)).0 in absurd (omega (arith, u, h))
-
     pub standing : Standing t p.next p seen kinds mods
     standing =
-        let g = (w.goes_on sound).going in
+        let g = w.goes_on.going in
         record {
           fitting = record { ended = fit.ended; kinds_fit = omega (arith, fit.kinds_fit, w.kinds_kept); mods_fit = omega (arith, fit.mods_fit, w.mods_kept) };
           line = h;
@@ -211,66 +218,59 @@ module _ (t : Bytes) (kinds₀ mods₀ : List ℕ) (fit : Fitting t kinds₀ mod
         }
 
     -- the pass behind the line
-    turn : (x : Step) → x ≡ step_at t p.next p seen → Reading t kinds₀ mods₀ (behind x t p) (seen_behind x seen) (kinds_behind x t p.next p kinds) (mods_behind x t p.next p mods)
-    turn (Fault k) e =
-        let f = w.goes_on sound in
-        let r = right t p.next p.row p.modules p.items p.first seen kinds₀ mods₀ kinds mods f h (Fault k) e in
-        record {
-          places = w.places;
-          kinds_kept = w.kinds_kept;
-          mods_kept = w.mods_kept;
-          goes_on = λ z. let a = r.above in absurd (omega (arith, a, z));
-          stopped = λ _. (omega arith, going_fault t p.next p.row p.modules p.items seen f.going k r);
-        }
-    turn (Module feed) e = record {
+    turn : (x : Result Step Fault) → x ≡ step_at t p.next p seen → (q : Progress) → Ok q ≡ behind x p → Reading t kinds₀ mods₀ q (seen_behind x seen) (kinds_behind x t p.next p kinds) (mods_behind x t p.next p mods)
+    turn (Err k) e q z = absurd (no_step z)
+    turn (Ok (Module feed)) e q z = rw (one_step z) (record {
       places = length-replicate {A = ℕ} (length seen) 0 ∙ w.places;
       kinds_kept = w.kinds_kept;
       mods_kept = entries_long mods p.modules (flag_of (second_key t p.next)) (feed + 1) (feed + 1) (feed + 1) ∙ w.mods_kept;
-      goes_on = λ _. filling_module t p.next p.row p.modules p.items p.first seen kinds₀ mods₀ kinds mods (w.goes_on sound) h feed e;
-      stopped = λ z. absurd (z refl);
-    }
-    turn (Kind feed n) e = record {
+      goes_on = filling_module t p.next p.row p.modules p.items p.first seen kinds₀ mods₀ kinds mods w.goes_on h feed e;
+    })
+    turn (Ok (Kind feed n)) e q z = rw (one_step z) (record {
       places = length-set seen n 1 ∙ w.places;
       kinds_kept = length-set kinds ((p.modules - 1) * name_bound + n) (kind_of (second_key t p.next)) ∙ w.kinds_kept;
       mods_kept = marked_long mods (p.modules - 1) (feed + 1) (feed + 1) ∙ w.mods_kept;
-      goes_on = λ _. filling_kind t p.next p.row p.modules p.items p.first seen kinds₀ mods₀ kinds mods (w.goes_on sound) h feed n e;
-      stopped = λ z. absurd (z refl);
-    }
-    turn (Val feed) e = record {
+      goes_on = filling_kind t p.next p.row p.modules p.items p.first seen kinds₀ mods₀ kinds mods w.goes_on h feed n e;
+    })
+    turn (Ok (Val feed)) e q z = rw (one_step z) (record {
       places = w.places;
       kinds_kept = w.kinds_kept;
       mods_kept = marked_long mods (p.modules - 1) (feed + 1) (feed + 1) ∙ w.mods_kept;
-      goes_on = λ _. filling_val t p.next p.row p.modules p.items p.first seen kinds₀ mods₀ kinds mods (w.goes_on sound) h feed e;
-      stopped = λ z. absurd (z refl);
-    }
-    turn (Item feed) e = record {
+      goes_on = filling_val t p.next p.row p.modules p.items p.first seen kinds₀ mods₀ kinds mods w.goes_on h feed e;
+    })
+    turn (Ok (Item feed)) e q z = rw (one_step z) (record {
       places = w.places;
       kinds_kept = w.kinds_kept;
       mods_kept = marked_long mods (p.modules - 1) p.first (feed + 1) ∙ w.mods_kept;
-      goes_on = λ _. filling_item t p.next p.row p.modules p.items p.first seen kinds₀ mods₀ kinds mods (w.goes_on sound) h feed e;
-      stopped = λ z. absurd (z refl);
-    }
+      goes_on = filling_item t p.next p.row p.modules p.items p.first seen kinds₀ mods₀ kinds mods w.goes_on h feed e;
+    })
 
-    module _ (q : Progress) (seen' kinds' mods' : List ℕ) (e : q ≡ behind (step_at t p.next p seen) t p)
+    module _ (q : Progress) (seen' kinds' mods' : List ℕ) (e : Ok q ≡ behind (step_at t p.next p seen) p)
         (d₁ : seen' ≡ seen_behind (step_at t p.next p seen) seen) (d₂ : kinds' ≡ kinds_behind (step_at t p.next p seen) t p.next p kinds) (d₃ : mods' ≡ mods_behind (step_at t p.next p seen) t p.next p mods) where
       pub reading_next : Reading t kinds₀ mods₀ q seen' kinds' mods'
-      reading_next = rw (e, d₁, d₂, d₃) (turn (step_at t p.next p seen) refl)
+      reading_next = rw (d₁, d₂, d₃) (turn (step_at t p.next p seen) refl q e)
 
       pub reading_further : length t - q.next < length t - p.next
-      reading_further = rw e (further t p.next p seen kinds mods standing)
+      reading_further = further t p.next p seen kinds mods standing q e
+
+    -- a line with a fault ends the pass
+    pub reading_stops : (f : Fault) → Err f ≡ behind (step_at t p.next p seen) p → (r : Result ℕ Refusal) → r ≡ refused_as (fault_code f) p.row → (kinds' mods' : List ℕ) → Fills t kinds₀ mods₀ r kinds' mods'
+    reading_stops f e r y kinds' mods' = go (step_at t p.next p seen) refl e
+      where
+        no : {k n m : ℕ} → refused_as k n ≡ Ok m → ⊥
+        no e = let z : ◌≡◌ {A = ℕ} 0 1 = cc e in omega arith
+
+        go : (x : Result Step Fault) → x ≡ step_at t p.next p seen → Err f ≡ behind x p → Fills t kinds₀ mods₀ r kinds' mods'
+        go (Err k) e z =
+            let a = right t p.next p.row p.modules p.items p.first seen kinds₀ mods₀ kinds mods w.goes_on h (Err k) e in
+            let u = ap (λ (g : Fault). refused_as (fault_code g) p.row) (one_fault z) ∙ going_fault t p.next p.row p.modules p.items seen w.goes_on.going (fault_code k) a in
+            (y ∙ u, λ v. absurd (no (u ∙ ap (λ (x : Verdict). told x (modules_in (lines t))) v)))
+        go (Ok (Module feed)) e z = absurd (no_step (sym z))
+        go (Ok (Kind feed n)) e z = absurd (no_step (sym z))
+        go (Ok (Val feed)) e z = absurd (no_step (sym z))
+        go (Ok (Item feed)) e z = absurd (no_step (sym z))
 
   -- nothing is left to read
-  pub reading_end : length t ≤ p.next → (r : Answer) → r ≡ answer_of p → Fills t kinds₀ mods₀ r kinds mods
-  unfolding answer_of
-  reading_end h r e = go (eqb p.fault 0) refl
-    where
-      go : (b : Bool) → eqb p.fault 0 ≡ b → Fills t kinds₀ mods₀ r kinds mods
-      go true z =
-          let f = w.goes_on (eqb-true p.fault 0 z) in
-          (e ∙ rw (z, answer_of) (going_end t p.next p.row p.modules p.items seen f.going h), λ _. filled_end t p.next p.modules p.items p.first kinds₀ mods₀ kinds mods f.filled h)
-      go false z =
-          let u = (w.stopped (eqb-false p.fault 0 z)).1 in
-          (e ∙ rw (z, answer_of) u, λ v. absurd (no (u ∙ ap (λ (x : Verdict). told x (modules_in (lines t))) v)))
-        where
-          no : {k n m : ℕ} → Refused k n ≡ Formed m → ⊥
-          no e = let z : ◌≡◌ {A = ℕ} 0 1 = cc e in omega arith
+  pub reading_end : length t ≤ p.next → Fills t kinds₀ mods₀ (Ok p.modules) kinds mods
+  reading_end h =
+      (going_end t p.next p.row p.modules p.items seen w.goes_on.going h, λ _. filled_end t p.next p.modules p.items p.first kinds₀ mods₀ kinds mods w.goes_on.filled h)

@@ -14,17 +14,18 @@ use mir.Val.{has_key}
 use types.Run.{OneOf, miss}
 use borrow.Enum.Refused.{Among, opened}
 use denote.Enum.Declared.{tag_of}
+use denote.Enum.Bare.{sameb, same_true, same_false}
 use borrow.Author.Tests.{eq-eqb, ne_eqb, lt-ltb, le-ltb, ltb-true, ltb-false, eqb-true, eqb-false}
+use Rattle.std.specs.Prelude.{Option, Some, None}
 use Rattle.lines.specs.Bytes.{class_of, is_digit, is_word}
 use Rattle.spec.specs.Bytes.{bytes}
-use Rattle.lines.specs.Parse.{lookup_key, key, word_from, word_at, more_digit, digits_from, number_at, numbered, int_at, either, worded, shape, shift, literal, atom, parts_at, form_at, scan}
+use Rattle.lines.specs.Parse.{lookup_key, key, word_from, word_at, more_digit, valued, digits_from, number_at, good, numbered, int_at, either, worded, shape, shift, literal, atom, parts_at, form_at, scan}
 use Rattle.lines.specs.declared.parse.Word.{Word}
-use Rattle.lines.specs.declared.parse.Number.TheVariants.{None, Is}
 use Rattle.lines.specs.declared.parse.Cat.{Cat}
 use Rattle.lines.specs.declared.parse.Cat.TheVariants.{X}
+use Rattle.lines.specs.declared.parse.Cat.TheVariants as cats
 use Rattle.lines.specs.declared.parse.Shape.{Shape}
 use Rattle.lines.specs.declared.parse.Parsed.{Parsed}
-use Rattle.lines.specs.declared.parse.Parsed.TheVariants.{Bad, Good}
 use Rattle.lines.specs.contracts.bytes.Class.{the_type}
 use Rattle.lines.specs.declared.bytes.Class.{Class}
 use Rattle.lines.specs.declared.bytes.Class.TheVariants.{Space, Open, Close, Digit, Letter, Minus, Feed, Refused, Other}
@@ -167,9 +168,6 @@ module _ (ks : List ℕ) (b : ℕ) (r : Class) (q : r ≡ class_of b) (o : Among
   pub not_close : T (not (has_key ks 2)) → b ≡ 41 → ⊥
   not_close m e = not_class Close m (class_close b e)
 
-  pub not_minus : T (not (has_key ks 5)) → b ≡ 45 → ⊥
-  not_minus m e = not_class Minus m (class_minus b e)
-
   pub not_feed : T (not (has_key ks 6)) → b ≡ 10 → ⊥
   not_feed m e = not_class Feed m (class_feed b e)
 
@@ -195,16 +193,24 @@ module _ (t : Bool) (b x k : ℕ) (q : t ≡ eqb b k) (e : b ≡ x) where
   pub byte_not : t ≡ false → x ≡ k → ⊥
   byte_not f z = eqb-false b k (sym q ∙ f) (e ∙ z)
 
-pub no_digit : (c : Class) → (Digit ≡ c → ⊥) → false ≡ is_digit c
-no_digit Space f = refl
-no_digit Open f = refl
-no_digit Close f = refl
-no_digit Digit f = absurd (f refl)
-no_digit Letter f = refl
-no_digit Minus f = refl
-no_digit Feed f = refl
-no_digit Refused f = refl
-no_digit Other f = refl
+-- `==` with a class of one byte only: a test of that byte
+pub one_class : (b : ℕ) (r c : Class) (k : ℕ) → r ≡ class_of b → (b ≡ k → c ≡ class_of b) → (Says c b → b ≡ k) → sameb the_type r c ≡ eqb b k
+one_class b r c k q f g = go (sameb the_type r c) refl
+  where
+    go : (x : Bool) → sameb the_type r c ≡ x → x ≡ eqb b k
+    go true e = sym (eq-eqb b k (g (class_is b r c q (same_true the_type tt r c e))))
+    go false e = sym (ne_eqb b k (λ z. same_false the_type r c e (q ∙ sym (f z))))
+
+pub digit_class : (c : Class) → sameb the_type c Digit ≡ is_digit c
+digit_class Space = refl
+digit_class Open = refl
+digit_class Close = refl
+digit_class Digit = refl
+digit_class Letter = refl
+digit_class Minus = refl
+digit_class Feed = refl
+digit_class Refused = refl
+digit_class Other = refl
 
 pub no_word : (c : Class) → (Digit ≡ c → ⊥) → (Letter ≡ c → ⊥) → false ≡ is_word c
 no_word Space f g = refl
@@ -292,12 +298,12 @@ module _ (t : List ℕ) (i code k : ℕ) where
   word_long h = let z : 8 - k ≡ 0 = omega arith in rw z
 
 module _ (s : List ℕ) (i a : ℕ) where
-  pub digits_end : length s ≤ i → Is a i ≡ digits_from (drop i s) i a
+  pub digits_end : length s ≤ i → valued a i ≡ digits_from (drop i s) i a
   unfolding digits_from
   digits_end h = rw (drop_of_length-le s h)
 
   module _ (h : i < length s) where
-    pub digits_stop : is_digit (class_of (get_or s i 0)) ≡ false → Is a i ≡ digits_from (drop i s) i a
+    pub digits_stop : is_digit (class_of (get_or s i 0)) ≡ false → valued a i ≡ digits_from (drop i s) i a
     unfolding digits_from
     digits_stop e = rw (drop-cons s i 0 h, e, digits_from)
 
@@ -308,7 +314,7 @@ module _ (s : List ℕ) (i a : ℕ) where
 -- ---- numbers and literals
 
 module _ (t : List ℕ) (at : ℕ) where
-  pub number_zero : get_or t at 0 ≡ 48 → Is 0 (at + 1) ≡ number_at t at
+  pub number_zero : get_or t at 0 ≡ 48 → Some (valued 0 (at + 1)) ≡ number_at t at
   unfolding number_at
   number_zero e = rw (eq-eqb _ _ e, number_at)
 
@@ -316,7 +322,7 @@ module _ (t : List ℕ) (at : ℕ) where
   unfolding number_at
   number_none f e = rw (ne_eqb _ _ f, e, number_at)
 
-  pub number_some : (get_or t at 0 ≡ 48 → ⊥) → is_digit (class_of (get_or t at 0)) ≡ true → digits_from (drop at t) at 0 ≡ number_at t at
+  pub number_some : (get_or t at 0 ≡ 48 → ⊥) → is_digit (class_of (get_or t at 0)) ≡ true → Some (digits_from (drop at t) at 0) ≡ number_at t at
   unfolding number_at
   number_some f e = rw (ne_eqb _ _ f, e, number_at)
 
@@ -324,7 +330,7 @@ module _ (t : List ℕ) (at : ℕ) where
   unfolding int_at
   int_plain f = rw (ne_eqb _ _ f, int_at)
 
-  pub int_zero : get_or t at 0 ≡ 45 → get_or t (at + 1) 0 ≡ 48 → Bad ≡ int_at t at
+  pub int_zero : get_or t at 0 ≡ 45 → get_or t (at + 1) 0 ≡ 48 → None ≡ int_at t at
   unfolding int_at
   int_zero e f = rw (eq-eqb _ _ e, eq-eqb _ _ f, int_at)
 
@@ -340,7 +346,7 @@ module _ (t : List ℕ) (at : ℕ) where
   unfolding literal
   literal_word e = rw (e, literal)
 
-  pub place_single : get_or t at 0 ≡ 45 → Good (at + 1) true ≡ atom X t at
+  pub place_single : get_or t at 0 ≡ 45 → good (at + 1) true ≡ atom X t at
   place_single e = rw (eq-eqb _ _ e, atom)
 
   pub place_at : (get_or t at 0 ≡ 45 → ⊥) → literal t at ≡ atom X t at
@@ -348,12 +354,36 @@ module _ (t : List ℕ) (at : ℕ) where
 
 -- ---- parts
 
+-- no part without brackets
+pub no_atom : (c : Cat) (t : List ℕ) (at : ℕ) → (c ≡ cats.Name → ⊥) → (c ≡ cats.Start → ⊥) → (c ≡ cats.Mod → ⊥) → (c ≡ cats.Count → ⊥) → (c ≡ cats.Int → ⊥) → (c ≡ cats.Kind → ⊥) → (c ≡ cats.Dir → ⊥) → (c ≡ cats.Bound → ⊥) → (c ≡ cats.E → ⊥) → (c ≡ cats.X → ⊥) → (c ≡ cats.T → ⊥) → None ≡ atom c t at
+no_atom cats.Name t at f _ _ _ _ _ _ _ _ _ _ = absurd (f refl)
+no_atom cats.Start t at _ f _ _ _ _ _ _ _ _ _ = absurd (f refl)
+no_atom cats.Mod t at _ _ f _ _ _ _ _ _ _ _ = absurd (f refl)
+no_atom cats.Count t at _ _ _ f _ _ _ _ _ _ _ = absurd (f refl)
+no_atom cats.Int t at _ _ _ _ f _ _ _ _ _ _ = absurd (f refl)
+no_atom cats.Kind t at _ _ _ _ _ f _ _ _ _ _ = absurd (f refl)
+no_atom cats.Dir t at _ _ _ _ _ _ f _ _ _ _ = absurd (f refl)
+no_atom cats.Bound t at _ _ _ _ _ _ _ f _ _ _ = absurd (f refl)
+no_atom cats.E t at _ _ _ _ _ _ _ _ f _ _ = absurd (f refl)
+no_atom cats.X t at _ _ _ _ _ _ _ _ _ f _ = absurd (f refl)
+no_atom cats.T t at _ _ _ _ _ _ _ _ _ _ f = absurd (f refl)
+no_atom cats.Lv t at _ _ _ _ _ _ _ _ _ _ _ = refl
+no_atom cats.C t at _ _ _ _ _ _ _ _ _ _ _ = refl
+no_atom cats.S t at _ _ _ _ _ _ _ _ _ _ _ = refl
+no_atom cats.I t at _ _ _ _ _ _ _ _ _ _ _ = refl
+no_atom cats.ThenS t at _ _ _ _ _ _ _ _ _ _ _ = refl
+no_atom cats.ElseS t at _ _ _ _ _ _ _ _ _ _ _ = refl
+no_atom cats.ThenI t at _ _ _ _ _ _ _ _ _ _ _ = refl
+no_atom cats.ElseI t at _ _ _ _ _ _ _ _ _ _ _ = refl
+no_atom cats.L t at _ _ _ _ _ _ _ _ _ _ _ = refl
+no_atom cats.Nothing t at _ _ _ _ _ _ _ _ _ _ _ = refl
+
 pub scan_atom : (d : ℕ) (c : Cat) (t : List ℕ) (at : ℕ) → (get_or t at 0 ≡ 40 → ⊥) → atom c t at ≡ scan d c t at
 unfolding scan
 scan_atom zero c t at f = rw (ne_eqb _ _ f, scan)
 scan_atom (suc d) c t at f = rw (ne_eqb _ _ f, scan)
 
-pub scan_deep : (d : ℕ) (c : Cat) (t : List ℕ) (at : ℕ) → get_or t at 0 ≡ 40 → d ≡ 0 → Bad ≡ scan d c t at
+pub scan_deep : (d : ℕ) (c : Cat) (t : List ℕ) (at : ℕ) → get_or t at 0 ≡ 40 → d ≡ 0 → None ≡ scan d c t at
 unfolding scan
 scan_deep d c t at e z = rw (z, eq-eqb _ _ e, scan)
 
@@ -362,34 +392,34 @@ unfolding scan
 scan_form zero c t at e f = absurd (f refl)
 scan_form (suc d) c t at e f = rw (eq-eqb _ _ e, sub-one, scan)
 
-module _ (f : Cat → ℕ → Parsed) (t : List ℕ) (q : Shape) (i : ℕ) (range : Bool) where
-  pub parts_none : (left : ℕ) → left ≤ 0 → Bad ≡ parts_at f left t q i range
+module _ (f : Cat → ℕ → Option Parsed) (t : List ℕ) (q : Shape) (i : ℕ) (range : Bool) where
+  pub parts_none : (left : ℕ) → left ≤ 0 → None ≡ parts_at f left t q i range
   unfolding parts_at
   parts_none left h = let z : left ≡ 0 = omega arith in rw z
 
   parts_suc : (left : ℕ) → 0 < left → left ≡ suc (left - 1)
   parts_suc left h = omega arith
 
-  pub parts_close : (left : ℕ) → 0 < left → get_or t i 0 ≡ 41 → q.need ≡ 0 → Good (i + 1) range ≡ parts_at f left t q i range
+  pub parts_close : (left : ℕ) → 0 < left → get_or t i 0 ≡ 41 → q.need ≡ 0 → good (i + 1) range ≡ parts_at f left t q i range
   unfolding parts_at
   parts_close left h e n = rw (parts_suc left h, eq-eqb _ _ e, eq-eqb _ _ n, parts_at)
 
-  pub parts_early : (left : ℕ) → 0 < left → get_or t i 0 ≡ 41 → (q.need ≡ 0 → ⊥) → Bad ≡ parts_at f left t q i range
+  pub parts_early : (left : ℕ) → 0 < left → get_or t i 0 ≡ 41 → (q.need ≡ 0 → ⊥) → None ≡ parts_at f left t q i range
   unfolding parts_at
   parts_early left h e n = rw (parts_suc left h, eq-eqb _ _ e, ne_eqb _ _ n, parts_at)
 
-  pub parts_junk : (left : ℕ) → 0 < left → (get_or t i 0 ≡ 41 → ⊥) → (get_or t i 0 ≡ 32 → ⊥) → Bad ≡ parts_at f left t q i range
+  pub parts_junk : (left : ℕ) → 0 < left → (get_or t i 0 ≡ 41 → ⊥) → (get_or t i 0 ≡ 32 → ⊥) → None ≡ parts_at f left t q i range
   unfolding parts_at
   parts_junk left h e g = rw (parts_suc left h, ne_eqb _ _ e, ne_eqb _ _ g, parts_at)
 
-  pub parts_bad : (left : ℕ) → 0 < left → (get_or t i 0 ≡ 41 → ⊥) → get_or t i 0 ≡ 32 → f q.a (i + 1) ≡ Bad → Bad ≡ parts_at f left t q i range
+  pub parts_bad : (left : ℕ) → 0 < left → (get_or t i 0 ≡ 41 → ⊥) → get_or t i 0 ≡ 32 → f q.a (i + 1) ≡ None → None ≡ parts_at f left t q i range
   unfolding parts_at
   parts_bad left h e g b = rw (parts_suc left h, ne_eqb _ _ e, eq-eqb _ _ g, b, parts_at)
 
-  pub parts_more : (left : ℕ) → 0 < left → (get_or t i 0 ≡ 41 → ⊥) → get_or t i 0 ≡ 32 → (j : ℕ) (r : Bool) → f q.a (i + 1) ≡ Good j r
-      → parts_at f left t q i range ≡ parts_at f (left - 1) t (shift q) j (range && r)
+  pub parts_more : (left m : ℕ) → left ≡ suc m → (get_or t i 0 ≡ 41 → ⊥) → get_or t i 0 ≡ 32 → (j : ℕ) (r : Bool) → f q.a (i + 1) ≡ good j r
+      → parts_at f left t q i range ≡ parts_at f m t (shift q) j (range && r)
   unfolding parts_at
-  parts_more left h e g j r b = ap (λ (n : ℕ). parts_at f n t q i range) (parts_suc left h) ∙ rw (ne_eqb _ _ e, eq-eqb _ _ g, b, parts_at)
+  parts_more left m h e g j r b = ap (λ (n : ℕ). parts_at f n t q i range) h ∙ rw (ne_eqb _ _ e, eq-eqb _ _ g, b, parts_at)
 
 -- a form with its bracket, its word and its shape
 pub form_start : (d : ℕ) (c : Cat) (t : List ℕ) (at : ℕ) (w : Word) (q : Shape) → get_or t at 0 ≡ 40 → (d ≡ 0 → ⊥) → w ≡ word_at t (at + 1) → q ≡ shape c w.key

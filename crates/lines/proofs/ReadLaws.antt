@@ -11,18 +11,18 @@ use lib.Dec.{eqb}
 use lib.ListN.{length, drop, get_or, drop_of_length-le}
 use lib.Seq.{drop-cons, get_or-drop}
 use borrow.Author.Tests.{eq-eqb, ne_eqb, le-leb, lt-leb}
+use Rattle.std.specs.Prelude.{Some, None, Ok, Err}
 use Rattle.spec.specs.Bytes.{Bytes, bytes, onto}
 use Rattle.spec.specs.Syntax.{name_bound}
 use Rattle.spec.specs.Refusal.{well_formed, refused, lines, in_set, byte_fault, ends_in_feed, set_fault}
 use Rattle.spec.specs.Reading.{feeds}
-use Rattle.lines.specs.Parse.{key, word_at, number_at, scan}
+use Rattle.lines.specs.Parse.{key, word_at, valued, number_at, good, scan}
 use Rattle.lines.specs.Read.{closes_at, not_written, set_line, number_after, module_step, kind_step, head_step, parsed_step, line_step}
 use Rattle.lines.proofs.Laws.{Says}
 use Rattle.lines.specs.declared.bytes.Class.TheVariants.{Refused}
 use Rattle.lines.specs.declared.parse.Cat.TheVariants.{L}
-use Rattle.lines.specs.declared.parse.Parsed.TheVariants.{Bad, Good}
-use Rattle.lines.specs.declared.parse.Number.TheVariants.{None, Is}
-use Rattle.lines.specs.declared.read.Step.TheVariants.{Fault, Module, Kind, Val, Item}
+use Rattle.lines.specs.declared.read.Step.TheVariants.{Module, Kind, Val, Item}
+use Rattle.lines.specs.declared.read.Fault.TheVariants.{NotOneForm, BadlyWritten, OutOfRange, OutOfPlace, OneTooMany}
 
 -- ---- closed lines
 
@@ -148,30 +148,30 @@ unfolding number_after
 after_some t at f = rw (eq-eqb (get_or t at 0) 32 f, number_after)
 
 module _ (v j modules feed : ℕ) where
-  pub module_wrong : (v ≡ modules → ⊥) → Fault 6 ≡ module_step (Is v j) modules feed
+  pub module_wrong : (v ≡ modules → ⊥) → Err OutOfPlace ≡ module_step (Some (valued v j)) modules feed
   module_wrong f = rw (ne_eqb v modules f, module_step)
 
-  pub module_many : v ≡ modules → 32 ≤ modules → Fault 7 ≡ module_step (Is v j) modules feed
+  pub module_many : v ≡ modules → 32 ≤ modules → Err OneTooMany ≡ module_step (Some (valued v j)) modules feed
   module_many e h = rw (eq-eqb v modules e, le-leb 32 modules h, module_step)
 
-  pub module_next : v ≡ modules → modules < 32 → Module feed ≡ module_step (Is v j) modules feed
+  pub module_next : v ≡ modules → modules < 32 → Ok (Module feed) ≡ module_step (Some (valued v j)) modules feed
   module_next e h = rw (eq-eqb v modules e, lt-leb 32 modules h, module_step)
 
 module _ (v j : ℕ) (seen : List ℕ) (feed : ℕ) where
-  pub kind_large : name_bound ≤ v → Fault 5 ≡ kind_step (Is v j) seen feed
+  pub kind_large : name_bound ≤ v → Err OutOfRange ≡ kind_step (Some (valued v j)) seen feed
   kind_large h = rw (le-leb name_bound v h, kind_step)
 
-  pub kind_twice : v < name_bound → (get_or seen v 0 ≡ 0 → ⊥) → Fault 7 ≡ kind_step (Is v j) seen feed
+  pub kind_twice : v < name_bound → (get_or seen v 0 ≡ 0 → ⊥) → Err OneTooMany ≡ kind_step (Some (valued v j)) seen feed
   kind_twice h f = rw (lt-leb name_bound v h, ne_eqb (get_or seen v 0) 0 f, kind_step)
 
-  pub kind_first : v < name_bound → get_or seen v 0 ≡ 0 → Kind feed v ≡ kind_step (Is v j) seen feed
+  pub kind_first : v < name_bound → get_or seen v 0 ≡ 0 → Ok (Kind feed v) ≡ kind_step (Some (valued v j)) seen feed
   kind_first h f = rw (lt-leb name_bound v h, eq-eqb (get_or seen v 0) 0 f, kind_step)
 
-pub written_4 : (t : Bytes) (at : ℕ) → closes_at 1 (drop at t) ≡ true → 4 ≡ not_written t at
+pub written_4 : (t : Bytes) (at : ℕ) → closes_at 1 (drop at t) ≡ true → BadlyWritten ≡ not_written t at
 unfolding not_written
 written_4 t at e = rw (e, not_written)
 
-pub written_3 : (t : Bytes) (at : ℕ) → closes_at 1 (drop at t) ≡ false → 3 ≡ not_written t at
+pub written_3 : (t : Bytes) (at : ℕ) → closes_at 1 (drop at t) ≡ false → NotOneForm ≡ not_written t at
 unfolding not_written
 written_3 t at e = rw (e, not_written)
 
@@ -181,12 +181,12 @@ module _ (t : Bytes) (at feed modules : ℕ) (items : Bool) (seen : List ℕ) wh
   head_module e = rw (eq-eqb (word_at t at).key (key (bytes "module")) e, head_step)
 
   module _ (m : (word_at t at).key ≡ key (bytes "module") → ⊥) where
-    pub head_none : modules ≡ 0 → Fault 6 ≡ head_step t at feed modules items seen
+    pub head_none : modules ≡ 0 → Err OutOfPlace ≡ head_step t at feed modules items seen
     unfolding head_step
     head_none z = rw (ne_eqb (word_at t at).key (key (bytes "module")) m, eq-eqb modules 0 z, head_step)
 
     module _ (z : modules ≡ 0 → ⊥) where
-      pub head_late : (word_at t at).key ≡ key (bytes "kind") → items ≡ true → Fault 6 ≡ head_step t at feed modules items seen
+      pub head_late : (word_at t at).key ≡ key (bytes "kind") → items ≡ true → Err OutOfPlace ≡ head_step t at feed modules items seen
       unfolding head_step
       head_late e i = rw (ne_eqb (word_at t at).key (key (bytes "module")) m, ne_eqb modules 0 z, eq-eqb (word_at t at).key (key (bytes "kind")) e, i, head_step)
 
@@ -195,34 +195,34 @@ module _ (t : Bytes) (at feed modules : ℕ) (items : Bool) (seen : List ℕ) wh
       head_kind e i = rw (ne_eqb (word_at t at).key (key (bytes "module")) m, ne_eqb modules 0 z, eq-eqb (word_at t at).key (key (bytes "kind")) e, i, head_step)
 
       module _ (k : (word_at t at).key ≡ key (bytes "kind") → ⊥) where
-        pub head_val_late : (word_at t at).key ≡ key (bytes "val") → items ≡ true → Fault 6 ≡ head_step t at feed modules items seen
+        pub head_val_late : (word_at t at).key ≡ key (bytes "val") → items ≡ true → Err OutOfPlace ≡ head_step t at feed modules items seen
         unfolding head_step
         head_val_late e i = rw (ne_eqb (word_at t at).key (key (bytes "module")) m, ne_eqb modules 0 z, ne_eqb (word_at t at).key (key (bytes "kind")) k, eq-eqb (word_at t at).key (key (bytes "val")) e, i, head_step)
 
-        pub head_val : (word_at t at).key ≡ key (bytes "val") → items ≡ false → Val feed ≡ head_step t at feed modules items seen
+        pub head_val : (word_at t at).key ≡ key (bytes "val") → items ≡ false → Ok (Val feed) ≡ head_step t at feed modules items seen
         unfolding head_step
         head_val e i = rw (ne_eqb (word_at t at).key (key (bytes "module")) m, ne_eqb modules 0 z, ne_eqb (word_at t at).key (key (bytes "kind")) k, eq-eqb (word_at t at).key (key (bytes "val")) e, i, head_step)
 
-        pub head_item : ((word_at t at).key ≡ key (bytes "val") → ⊥) → Item feed ≡ head_step t at feed modules items seen
+        pub head_item : ((word_at t at).key ≡ key (bytes "val") → ⊥) → Ok (Item feed) ≡ head_step t at feed modules items seen
         unfolding head_step
         head_item v = rw (ne_eqb (word_at t at).key (key (bytes "module")) m, ne_eqb modules 0 z, ne_eqb (word_at t at).key (key (bytes "kind")) k, ne_eqb (word_at t at).key (key (bytes "val")) v, head_step)
 
 module _ (t : Bytes) (at modules : ℕ) (items : Bool) (seen : List ℕ) where
-  pub line_no_form : (get_or t at 0 ≡ 40 → ⊥) → Fault 3 ≡ line_step t at modules items seen
+  pub line_no_form : (get_or t at 0 ≡ 40 → ⊥) → Err NotOneForm ≡ line_step t at modules items seen
   unfolding line_step
   line_no_form f = rw (ne_eqb (get_or t at 0) 40 f, line_step)
 
   module _ (o : get_or t at 0 ≡ 40) where
-    pub line_bad : scan 32 L t at ≡ Bad → Fault (not_written t (at + 1)) ≡ line_step t at modules items seen
+    pub line_bad : scan 32 L t at ≡ None → Err (not_written t (at + 1)) ≡ line_step t at modules items seen
     unfolding line_step
     line_bad e = rw (eq-eqb (get_or t at 0) 40 o, e, line_step)
 
-    module _ (j : ℕ) (range : Bool) (e : scan 32 L t at ≡ Good j range) where
-      pub line_junk : (get_or t j 0 ≡ 10 → ⊥) → Fault (not_written t (at + 1)) ≡ line_step t at modules items seen
+    module _ (j : ℕ) (range : Bool) (e : scan 32 L t at ≡ good j range) where
+      pub line_junk : (get_or t j 0 ≡ 10 → ⊥) → Err (not_written t (at + 1)) ≡ line_step t at modules items seen
       unfolding line_step
       line_junk f = rw (eq-eqb (get_or t at 0) 40 o, e, line_step) (rw (ne_eqb (get_or t j 0) 10 f, parsed_step))
 
-      pub line_large : get_or t j 0 ≡ 10 → range ≡ false → Fault 5 ≡ line_step t at modules items seen
+      pub line_large : get_or t j 0 ≡ 10 → range ≡ false → Err OutOfRange ≡ line_step t at modules items seen
       unfolding line_step
       line_large f r = rw (eq-eqb (get_or t at 0) 40 o, e, line_step) (rw (eq-eqb (get_or t j 0) 10 f, r, parsed_step))
 

@@ -9,11 +9,11 @@ use lib.Dec.{eqb}
 use lib.ListN.{length, get_or, drop}
 use borrow.Author.Tests.{eqb-true}
 use Rattle.spec.specs.Bytes.{Bytes, show_rest, show_form}
-use Rattle.lines.specs.Parse.{word_at, shape, shift, parts_at, form_at, scan}
+use Rattle.std.specs.Prelude.{Option, Some, None}
+use Rattle.lines.specs.Parse.{good, word_at, shape, shift, parts_at, form_at, scan}
 use Rattle.lines.specs.declared.parse.Cat.{Cat}
 use Rattle.lines.specs.declared.parse.Shape.{Shape}
 use Rattle.lines.specs.declared.parse.Parsed.{Parsed}
-use Rattle.lines.specs.declared.parse.Parsed.TheVariants.{Bad, Good}
 use Rattle.lines.proofs.Laws.{if_case}
 use Rattle.lines.proofs.Trees.{show, Done, Walk, shows, all_range, all_depth}
 use Rattle.lines.proofs.Spelled.{at_cons, word_read, word_is}
@@ -32,16 +32,16 @@ done_of : (n : ℕ) → n ≡ 0 → Done n
 done_of zero e = record {}
 done_of (suc n) e = absurd (omega arith)
 
-abbrev Finds : ℕ → Bytes → (Cat → ℕ → Parsed) → Type 0
-Finds d t f = (c : Cat) (i j : ℕ) (r : Bool) → f c i ≡ Good j r → Found d c t i j r
+abbrev Finds : ℕ → Bytes → (Cat → ℕ → Option Parsed) → Type 0
+Finds d t f = (c : Cat) (i j : ℕ) (r : Bool) → f c i ≡ good j r → Found d c t i j r
 
-module _ (d : ℕ) (t : Bytes) (f : Cat → ℕ → Parsed) (finds : Finds d t f) where
-  parts_sound : (left : ℕ) (q : Shape) (i j : ℕ) (r₀ r : Bool) → parts_at f left t q i r₀ ≡ Good j r → Walked d t q i j r₀ r
+module _ (d : ℕ) (t : Bytes) (f : Cat → ℕ → Option Parsed) (finds : Finds d t f) where
+  parts_sound : (left : ℕ) (q : Shape) (i j : ℕ) (r₀ r : Bool) → parts_at f left t q i r₀ ≡ good j r → Walked d t q i j r₀ r
   unfolding parts_at show_rest
   parts_sound zero q i j r₀ r = λ e. absurd (bad_not e)
   parts_sound (suc left) q i j r₀ r =
-      if_case (λ z. z ≡ Good j r → Walked d t q i j r₀ r) (eqb (get_or t i 0) 41) _ _
-      (λ c. if_case (λ z. z ≡ Good j r → Walked d t q i j r₀ r) (eqb q.need 0) _ _
+      if_case (λ z. z ≡ good j r → Walked d t q i j r₀ r) (eqb (get_or t i 0) 41) _ _
+      (λ c. if_case (λ z. z ≡ good j r → Walked d t q i j r₀ r) (eqb q.need 0) _ _
       (λ n e. let g = good_inj e in record {
         count = 0;
         walk = done_of q.need (eqb-true q.need 0 n);
@@ -49,16 +49,16 @@ module _ (d : ℕ) (t : Bytes) (f : Cat → ℕ → Parsed) (finds : Finds d t f
         ranged = and-true r₀ ∙ g.1;
         deep = omega arith;
       }) (λ n e. absurd (bad_not e)))
-      (λ c. if_case (λ z. z ≡ Good j r → Walked d t q i j r₀ r) (eqb (get_or t i 0) 32) _ _
+      (λ c. if_case (λ z. z ≡ good j r → Walked d t q i j r₀ r) (eqb (get_or t i 0) 32) _ _
       (λ s. go s (f q.a (i + 1)) refl (λ k a. parts_sound left (shift q) k j (r₀ && a) r)) (λ s e. absurd (bad_not e)))
     where
-      go : eqb (get_or t i 0) 32 ≡ true → (x : Parsed) → f q.a (i + 1) ≡ x
-          → ((k : ℕ) (a : Bool) → parts_at f left t (shift q) k (r₀ && a) ≡ Good j r → Walked d t (shift q) k j (r₀ && a) r)
-          → (elim x as (λ _. Parsed) [ Bad ↦ Bad | Good k a ↦ parts_at f left t (shift q) k (r₀ && a) ]) ≡ Good j r → Walked d t q i j r₀ r
-      go s Bad h rec e = absurd (bad_not e)
-      go s (Good k a) h rec e =
-          let x = finds q.a (i + 1) k a h in
-          let w = rec k a e in
+      go : eqb (get_or t i 0) 32 ≡ true → (x : Option Parsed) → f q.a (i + 1) ≡ x
+          → ((k : ℕ) (a : Bool) → parts_at f left t (shift q) k (r₀ && a) ≡ good j r → Walked d t (shift q) k j (r₀ && a) r)
+          → (elim x as (λ _. Option Parsed) [ None ↦ None | Some p ↦ parts_at f left t (shift q) p.next (r₀ && p.range) ]) ≡ good j r → Walked d t q i j r₀ r
+      go s None h rec e = absurd (bad_not e)
+      go s (Some p) h rec e =
+          let x = finds q.a (i + 1) p.next p.range h in
+          let w = rec p.next p.range e in
           let m = x.deep in
           let n = w.deep in
           record {
@@ -67,11 +67,11 @@ module _ (d : ℕ) (t : Bytes) (f : Cat → ℕ → Parsed) (finds : Finds d t f
             span =
                 at_cons t i 32 (eqb-true (get_or t i 0) 32 s) (λ z. omega arith)
                 ∙ ap (◌∷◌ 32) (x.span ∙ ap (λ (z : Bytes). show q.a x.tree ++ z) w.span ∙ sym (append_assoc (show q.a x.tree) (show_rest (shows w.count (shift q) w.walk)) (drop j t)));
-            ranged = ap (λ (z : Bool). r₀ && (z && all_range w.count (shift q) w.walk)) x.ranged ∙ sym (and_assoc r₀ a (all_range w.count (shift q) w.walk)) ∙ w.ranged;
+            ranged = ap (λ (z : Bool). r₀ && (z && all_range w.count (shift q) w.walk)) x.ranged ∙ sym (and_assoc r₀ p.range (all_range w.count (shift q) w.walk)) ∙ w.ranged;
             deep = omega arith;
           }
 
-form_sound : (d : ℕ) (t : Bytes) (f : Cat → ℕ → Parsed) → Finds d t f → (c : Cat) (i j : ℕ) (r : Bool) → get_or t i 0 ≡ 40 → form_at f c t i ≡ Good j r → Found (suc d) c t i j r
+form_sound : (d : ℕ) (t : Bytes) (f : Cat → ℕ → Option Parsed) → Finds d t f → (c : Cat) (i j : ℕ) (r : Bool) → get_or t i 0 ≡ 40 → form_at f c t i ≡ good j r → Found (suc d) c t i j r
 unfolding form_at word_at show_form
 form_sound d t f finds c i j r o e =
     let w = word_at t (i + 1) in
@@ -91,11 +91,11 @@ form_sound d t f finds c i j r o e =
       deep = omega arith;
     }
 
-pub sound : (d : ℕ) (t : Bytes) (c : Cat) (i j : ℕ) (r : Bool) → scan d c t i ≡ Good j r → Found d c t i j r
+pub sound : (d : ℕ) (t : Bytes) (c : Cat) (i j : ℕ) (r : Bool) → scan d c t i ≡ good j r → Found d c t i j r
 unfolding scan
 sound zero t c i j r =
-    if_case (λ z. z ≡ Good j r → Found 0 c t i j r) (eqb (get_or t i 0) 40) _ _ (λ o e. absurd (bad_not e)) (λ o e. atom_sound c t i j r e)
+    if_case (λ z. z ≡ good j r → Found 0 c t i j r) (eqb (get_or t i 0) 40) _ _ (λ o e. absurd (bad_not e)) (λ o e. atom_sound c t i j r e)
 sound (suc d) t c i j r =
-    if_case (λ z. z ≡ Good j r → Found (suc d) c t i j r) (eqb (get_or t i 0) 40) _ _
+    if_case (λ z. z ≡ good j r → Found (suc d) c t i j r) (eqb (get_or t i 0) 40) _ _
     (λ o e. form_sound d t (λ k i. scan d k t i) (λ c i j r. sound d t c i j r) c i j r (eqb-true (get_or t i 0) 40 o) e)
     (λ o e. let x = atom_sound c t i j r e in let m = x.deep in record { tree = x.tree; span = x.span; ranged = x.ranged; deep = omega arith })

@@ -14,10 +14,10 @@ use borrow.Author.Tests.{ltb-true, ltb-false, lt-ltb, le-ltb, leb-true, ne_eqb, 
 use Rattle.spec.specs.Bytes.{Bytes, digits, show_number, number_after, number}
 use Rattle.spec.proofs.Numbers.{Between, Digits, number_digits, number_show}
 use Rattle.lines.specs.Bytes.{class_of, is_digit, is_word}
-use Rattle.lines.specs.Parse.{code_after, key, word_from, word_at, more_digit, digits_from, number_at}
+use Rattle.std.specs.Prelude.{Option, Some, None}
+use Rattle.lines.specs.Parse.{valued, code_after, key, word_from, word_at, more_digit, digits_from, number_at}
 use Rattle.lines.specs.declared.parse.Word.{Word}
 use Rattle.lines.specs.declared.parse.Number.{Number}
-use Rattle.lines.specs.declared.parse.Number.TheVariants.{None, Is}
 use Rattle.lines.proofs.Laws.{if_case, inside, class_digit, digit_range, word_range}
 
 -- ---- positions
@@ -211,14 +211,14 @@ pub record DigitsRead (s : Bytes) (i a : ℕ) (n : Number) : Type 0 where
   pub rest : Bytes
   pub span : s ≡ text ++ rest
   pub digs : Digs text
-  pub is : n ≡ Is (capped a text) (i + length text)
+  pub is : n ≡ valued (capped a text) (i + length text)
 
 digits_read : (s : Bytes) (i a : ℕ) → DigitsRead s i a (digits_from s i a)
 unfolding digits_from capped
-digits_read [] i a = record { text = []; rest = []; span = refl; digs = tt; is = ap (Is a) (omega arith) }
+digits_read [] i a = record { text = []; rest = []; span = refl; digs = tt; is = ap (valued a) (omega arith) }
 digits_read (c ∷ s) i a =
     if_case (DigitsRead (c ∷ s) i a) (is_digit (class_of c)) _ _ (λ e. more e (digits_read s (suc i) (more_digit a (c - 48))))
-    (λ e. record { text = []; rest = c ∷ s; span = refl; digs = tt; is = ap (Is a) (omega arith) })
+    (λ e. record { text = []; rest = c ∷ s; span = refl; digs = tt; is = ap (valued a) (omega arith) })
   where
     more : is_digit (class_of c) ≡ true → DigitsRead s (suc i) (more_digit a (c - 48)) (digits_from s (suc i) (more_digit a (c - 48))) → DigitsRead (c ∷ s) i a (digits_from s (suc i) (more_digit a (c - 48)))
     more e r = record {
@@ -226,15 +226,15 @@ digits_read (c ∷ s) i a =
       rest = r.rest;
       span = ap (◌∷◌ c) r.span;
       digs = let d = digit_range c e in (d.0, d.1, r.digs);
-      is = r.is ∙ ap (Is (capped (more_digit a (c - 48)) r.text)) (omega arith);
+      is = r.is ∙ ap (valued (capped (more_digit a (c - 48)) r.text)) (omega arith);
     }
 
-digits_complete : (x r : Bytes) (i a : ℕ) → Digs x → Stops r → digits_from (x ++ r) i a ≡ Is (capped a x) (i + length x)
+digits_complete : (x r : Bytes) (i a : ℕ) → Digs x → Stops r → digits_from (x ++ r) i a ≡ valued (capped a x) (i + length x)
 unfolding digits_from capped
-digits_complete [] [] i a d s = ap (Is a) (omega arith)
-digits_complete [] (c ∷ r) i a d s = rw (not_digit c s, digits_from) (ap (Is a) (omega arith))
+digits_complete [] [] i a d s = ap (valued a) (omega arith)
+digits_complete [] (c ∷ r) i a d s = rw (not_digit c s, digits_from) (ap (valued a) (omega arith))
 digits_complete (c ∷ x) r i a d s =
-    rw (digit_there c d.0 d.1, digits_from) (digits_complete x r (suc i) (more_digit a (c - 48)) d.2 s ∙ ap (Is (capped (more_digit a (c - 48)) x)) (omega arith))
+    rw (digit_there c d.0 d.1, digits_from) (digits_complete x r (suc i) (more_digit a (c - 48)) d.2 s ∙ ap (valued (capped (more_digit a (c - 48)) x)) (omega arith))
 
 -- ---- decimal notation
 
@@ -297,13 +297,13 @@ pub record NumberRead (t : Bytes) (i v j : ℕ) : Type 0 where
   pub next : j ≡ i + length (show_number number)
   pub caps : Caps v number
 
-is_inj : {v w i j : ℕ} → Is v i ≡ Is w j → (v ≡ w) × (i ≡ j)
-is_inj e = (cc, cc)
+pub is_inj : {v w i j : ℕ} → Some (valued v i) ≡ Some (valued w j) → (v ≡ w) × (i ≡ j)
+is_inj e = (ap (λ (n : Option Number). elim n as (λ _. ℕ) [ None ↦ 0 | Some m ↦ m.value ]) e, ap (λ (n : Option Number). elim n as (λ _. ℕ) [ None ↦ 0 | Some m ↦ m.next ]) e)
 
-none_not : {v j : ℕ} → None ≡ Is v j → ⊥
+none_not : {v j : ℕ} → None ≡ Some (valued v j) → ⊥
 none_not e = let z : ◌≡◌ {A = ℕ} 0 1 = cc in omega arith
 
-number_some : (t : Bytes) (i v j : ℕ) (c : ℕ) → drop i t ≡ c ∷ drop (i + 1) t → (c ≡ 48 → ⊥) → is_digit (class_of c) ≡ true → digits_from (drop i t) i 0 ≡ Is v j → NumberRead t i v j
+number_some : (t : Bytes) (i v j : ℕ) (c : ℕ) → drop i t ≡ c ∷ drop (i + 1) t → (c ≡ 48 → ⊥) → is_digit (class_of c) ≡ true → Some (digits_from (drop i t) i 0) ≡ Some (valued v j) → NumberRead t i v j
 unfolding digits_from capped number_after
 number_some t i v j c g f d q =
     let r = digits_read (drop (i + 1) t) (suc i) (more_digit 0 (c - 48)) in
@@ -311,7 +311,7 @@ number_some t i v j c g f d q =
     let u0 = u.0 in
     let u1 = u.1 in
     let start : digits_from (drop i t) i 0 ≡ digits_from (drop (i + 1) t) (suc i) (more_digit 0 (c - 48)) = ap (λ (s : Bytes). digits_from s i 0) g ∙ rw (d, digits_from) in
-    let p = is_inj (sym r.is ∙ sym start ∙ q) in
+    let p = is_inj (ap Some (sym r.is ∙ sym start) ∙ q) in
     let above : 48 < c = omega (arith, ne_lt c f u0) in
     let shown = show_digits c r.text above u1 r.digs in
     let whole : drop i t ≡ (c ∷ r.text) ++ r.rest = g ∙ ap (◌∷◌ c) r.span in
@@ -326,23 +326,23 @@ number_some t i v j c g f d q =
     ne_lt : (c : ℕ) → (c ≡ 48 → ⊥) → 48 ≤ c → 48 < c
     ne_lt c f h = omega arith
 
-pub number_sound : (t : Bytes) (i v j : ℕ) → number_at t i ≡ Is v j → NumberRead t i v j
+pub number_sound : (t : Bytes) (i v j : ℕ) → number_at t i ≡ Some (valued v j) → NumberRead t i v j
 unfolding number_at show_number digits
 number_sound t i v j =
-    if_case (λ n. n ≡ Is v j → NumberRead t i v j) (eqb (get_or t i 0) 48) _ _
+    if_case (λ n. n ≡ Some (valued v j) → NumberRead t i v j) (eqb (get_or t i 0) 48) _ _
     (λ e q. let p = is_inj q in let a = p.1 in record {
       number = 0;
       span = at_cons t i 48 (eqb-true (get_or t i 0) 48 e) (λ z. omega arith) ∙ ap (λ (k : ℕ). 48 ∷ drop k t) a;
       next = sym a;
       caps = inl (sym p.0);
     })
-    (λ e. if_case (λ n. n ≡ Is v j → NumberRead t i v j) (is_digit (class_of (get_or t i 0))) _ _
+    (λ e. if_case (λ n. n ≡ Some (valued v j) → NumberRead t i v j) (is_digit (class_of (get_or t i 0))) _ _
     (λ d q. let u = digit_range (get_or t i 0) d in let u0 = u.0 in number_some t i v j (get_or t i 0) (at_cons t i (get_or t i 0) refl (λ z. omega arith)) (eqb-false (get_or t i 0) 48 e) d q) (λ d q. absurd (none_not q)))
 
 -- the bytes of a number are read as it
 pub record NumberThere (t : Bytes) (i n : ℕ) : Type 0 where
   pub value : ℕ
-  pub is : number_at t i ≡ Is value (i + length (show_number n))
+  pub is : number_at t i ≡ Some (valued value (i + length (show_number n)))
   pub caps : Caps value n
 
 number_zero : (t : Bytes) (i : ℕ) (r : Bytes) → drop i t ≡ show_number 0 ++ r → NumberThere t i 0
@@ -359,7 +359,7 @@ number_led t i n r e s c y q h d =
     let far : eqb (get_or t i 0) 48 ≡ false = ne_eqb (get_or t i 0) 48 (λ z. omega arith) in
     record {
       value = capped 0 (c ∷ y);
-      is = rw (far, dig, number_at) (ap (λ (z : Bytes). digits_from z i 0) g ∙ digits_complete (c ∷ y) r i 0 d s ∙ ap (λ (z : Bytes). Is (capped 0 (c ∷ y)) (i + length z)) (sym q));
+      is = rw (far, dig, number_at) (ap (λ (z : Bytes). Some (digits_from z i 0)) g ∙ ap Some (digits_complete (c ∷ y) r i 0 d s) ∙ ap (λ (z : Bytes). Some (valued (capped 0 (c ∷ y)) (i + length z))) (sym q));
       caps = rw k at (capped_caps (c ∷ y) 0 0 (inl refl));
     }
   where

@@ -20,16 +20,17 @@ use Rattle.spec.specs.Refusal.{lines, ends_in_feed, closes, one_form, written, l
 use Rattle.spec.proofs.Parts.{AllIn}
 use Rattle.spec.proofs.Shown.{decode_show_line, show_line_form, show_line_set, same_self}
 use Rattle.lines.specs.Bytes.{class_of}
-use Rattle.lines.specs.Parse.{key, code_after, word_at, scan}
-use Rattle.lines.specs.Read.{closes_at, not_written, number_after, module_step, kind_step, head_step, parsed_step, line_step}
+use Rattle.std.specs.Prelude.{Option, Some, None, Result, Ok, Err}
+use Rattle.lines.specs.Parse.{valued, good, key, code_after, word_at, scan}
+use Rattle.lines.specs.Read.{fault_code, closes_at, not_written, number_after, module_step, kind_step, head_step, parsed_step, line_step}
 use Rattle.lines.specs.declared.parse.Cat.TheVariants.{L}
 use Rattle.lines.specs.declared.parse.Parsed.{Parsed}
-use Rattle.lines.specs.declared.parse.Parsed.TheVariants.{Bad, Good}
 use Rattle.lines.specs.declared.parse.Number.{Number}
 use Rattle.lines.specs.declared.parse.Word.{Word}
-use Rattle.lines.specs.declared.parse.Number.TheVariants.{Is}
 use Rattle.lines.specs.declared.read.Step.{Step}
-use Rattle.lines.specs.declared.read.Step.TheVariants.{Fault, Module, Kind, Val, Item as ItemStep}
+use Rattle.lines.specs.declared.read.Step.TheVariants.{Module, Kind, Val, Item as ItemStep}
+use Rattle.lines.specs.declared.read.Fault.{Fault}
+use Rattle.lines.specs.declared.read.Fault.TheVariants.{NotOneForm, BadlyWritten, OutOfRange, OutOfPlace, OneTooMany}
 use Rattle.lines.proofs.Laws.{if_case}
 use Rattle.lines.proofs.ReadLaws.{head_module, head_none, head_late, head_kind, head_val_late, head_val, head_item, after_some}
 use Rattle.lines.proofs.Spelled.{at_cons, cons_at, cons_next, span_next, all_wordly, word_fine, word_there, Caps, number_there}
@@ -130,7 +131,7 @@ form_here t i (c ∷ x) r e o f =
     rw g (sym (closes_line 0 x r f.1) ∙ ap (closes_at 1) (sym (cons_next t i c (x ++ 10 ∷ r) e)))
 
 -- a line that is not read is not written
-module _ (t : Bytes) (i : ℕ) (x r : Bytes) (span : drop i t ≡ x ++ 10 ∷ r) (miss : (j : ℕ) (a : Bool) → scan depth_limit L t i ≡ Good j a → get_or t j 0 ≡ 10 → ⊥) where
+module _ (t : Bytes) (i : ℕ) (x r : Bytes) (span : drop i t ≡ x ++ 10 ∷ r) (miss : (j : ℕ) (a : Bool) → scan depth_limit L t i ≡ good j a → get_or t j 0 ≡ 10 → ⊥) where
   not_read : one_form x ≡ true → written x ≡ false
   unfolding written class_of
   not_read o = go (written x) refl
@@ -145,11 +146,11 @@ module _ (t : Bytes) (i : ℕ) (x r : Bytes) (span : drop i t ≡ x ++ 10 ∷ r)
           absurd (miss (i + length (show_line l)) (line_in_range l) (complete depth_limit t L l i (10 ∷ r) g refl (leb-true (line_depth l) depth_limit h)) (cons_at t (i + length (show_line l)) 10 r (span_next t i (show_line l) (10 ∷ r) g)))
 
   -- its fault is 3 or 4
-  unread_fault : (b : Before) → get_or t i 0 ≡ 40 → NoFeed x → line_fault b x ≡ not_written t (i + 1)
+  unread_fault : (b : Before) → get_or t i 0 ≡ 40 → NoFeed x → line_fault b x ≡ fault_code (not_written t (i + 1))
   unfolding line_fault not_written
   unread_fault b o f = go (closes_at 1 (drop (i + 1) t)) refl
     where
-      go : (d : Bool) → closes_at 1 (drop (i + 1) t) ≡ d → line_fault b x ≡ not_written t (i + 1)
+      go : (d : Bool) → closes_at 1 (drop (i + 1) t) ≡ d → line_fault b x ≡ fault_code (not_written t (i + 1))
       go true e = let g = form_here t i x r span o f ∙ e in rw (e, g, not_read g, line_fault, not_written)
       go false e = let g = form_here t i x r span o f ∙ e in rw (e, g, line_fault, not_written)
 
@@ -179,12 +180,12 @@ pub record Failed (t : Bytes) (i : ℕ) (b : Before) (k : ℕ) : Type 0 where
   pub fault : line_fault b line ≡ k
   pub above : 0 < k
 
-abbrev pub Right : (t : Bytes) (i : ℕ) (b : Before) → Step → Type 0
-Right t i b (Fault k) = Failed t i b k
-Right t i b (Module j) = (bound : Bool) × Passed t i j b (module_line b.modules bound) × (b.modules < 32)
-Right t i b (Kind j n) = (k : Syntax.Kind) × Passed t i j b (header_line (kind n k)) × (n < name_bound)
-Right t i b (Val j) = (n : ℕ) × (v : ℤ) × Passed t i j b (header_line (val n v))
-Right t i b (ItemStep j) = (x : Item) × Passed t i j b (item_line x)
+abbrev pub Right : (t : Bytes) (i : ℕ) (b : Before) → Result Step Fault → Type 0
+Right t i b (Err f) = Failed t i b (fault_code f)
+Right t i b (Ok (Module j)) = (bound : Bool) × Passed t i j b (module_line b.modules bound) × (b.modules < 32)
+Right t i b (Ok (Kind j n)) = (k : Syntax.Kind) × Passed t i j b (header_line (kind n k)) × (n < name_bound)
+Right t i b (Ok (Val j)) = (n : ℕ) × (v : ℤ) × Passed t i j b (header_line (val n v))
+Right t i b (Ok (ItemStep j)) = (x : Item) × Passed t i j b (item_line x)
 
 -- a line that is well written has the fault of its tree
 pub shown_fault : (b : Before) (l : Line) → line_depth l ≤ depth_limit → line_fault b (show_line l) ≡ tree_fault b l
@@ -225,7 +226,7 @@ headed t i w xs z f e =
 record Numbered (t : Bytes) (at n : ℕ) : Type 0 where
   value : ℕ
   next : ℕ
-  is : number_after t at ≡ Is value next
+  is : number_after t at ≡ Some (valued value next)
   caps : Caps value n
 
 first_number : (t : Bytes) (at n : ℕ) (xs : List Bytes) (z : Bytes) → drop at t ≡ show_rest (show_number n ∷ xs) ++ z → Numbered t at n
@@ -266,11 +267,11 @@ module _ (b : Before) where
   fault_range l r = rw (r, tree_fault)
 
 module _ (t : Bytes) (i j : ℕ) (b : Before) (small : b.modules ≤ 32) where
-  module_case : (m : ℕ) (bd : Bool) → Wrote t i j (module_line m bd) → (v k : ℕ) → eqb v b.modules ≡ eqb m b.modules → Right t i b (module_step (Is v k) b.modules j)
+  module_case : (m : ℕ) (bd : Bool) → Wrote t i j (module_line m bd) → (v k : ℕ) → eqb v b.modules ≡ eqb m b.modules → Right t i b (module_step (Some (valued v k)) b.modules j)
   unfolding line_in_range in_place first_kind
   module_case m bd w v k s = go (eqb m b.modules) refl (leb 32 b.modules) refl
     where
-      go : (x : Bool) → eqb m b.modules ≡ x → (y : Bool) → leb 32 b.modules ≡ y → Right t i b (module_step (Is v k) b.modules j)
+      go : (x : Bool) → eqb m b.modules ≡ x → (y : Bool) → leb 32 b.modules ≡ y → Right t i b (module_step (Some (valued v k)) b.modules j)
       go false p y q = let u = s ∙ p in rw (u, module_step) (wrote_fails t i j (module_line m bd) b 6 w (fault_place b (module_line m bd) refl p) (omega arith))
       go true p true q =
           let u = s ∙ p in
@@ -289,18 +290,18 @@ module _ (t : Bytes) (i j : ℕ) (b : Before) (small : b.modules ≤ 32) where
         let h = headed t i (bytes "module") (show_number m ∷ show_bound bd ∷ []) (10 ∷ drop (j + 1) t) refl w.span in
         let n = first_number t (i + 1 + 6) m (show_bound bd ∷ []) (10 ∷ drop (j + 1) t) h.1 in
         let k : (word_at t (i + 1)).key ≡ key (bytes "module") = ap (λ (x : Word). x.key) h.0 in
-        let e : module_step (Is n.value n.next) b.modules j ≡ head_step t (i + 1) j b.modules b.has_item seen = ap (λ (x : Number). module_step x b.modules j) (sym (ap (λ (x : Word). number_after t x.next) h.0 ∙ n.is)) ∙ head_module t (i + 1) j b.modules b.has_item seen k in
+        let e : module_step (Some (valued n.value n.next)) b.modules j ≡ head_step t (i + 1) j b.modules b.has_item seen = ap (λ (x : Option Number). module_step x b.modules j) (sym (ap (λ (x : Word). number_after t x.next) h.0 ∙ n.is)) ∙ head_module t (i + 1) j b.modules b.has_item seen k in
         rw (← e) (module_case m bd w n.value n.next (caps_same n.value m b.modules small n.caps))
 
     -- a name's first kind, or its second
-    kind_case : (n : ℕ) (k : Syntax.Kind) → n < name_bound → (0 < b.modules) → b.has_item ≡ false → Wrote t i j (header_line (kind n k)) → (x : ℕ) → Right t i b (kind_step (Is n x) seen j)
+    kind_case : (n : ℕ) (k : Syntax.Kind) → n < name_bound → (0 < b.modules) → b.has_item ≡ false → Wrote t i j (header_line (kind n k)) → (x : ℕ) → Right t i b (kind_step (Some (valued n x)) seen j)
     unfolding line_in_range in_place first_kind
     kind_case n k s m z w x = go (has_name n b.kinds) refl
       where
         here : in_place b (header_line (kind n k)) ≡ true
         here = rw (lt-ltb 0 b.modules m, z)
 
-        go : (y : Bool) → has_name n b.kinds ≡ y → Right t i b (kind_step (Is n x) seen j)
+        go : (y : Bool) → has_name n b.kinds ≡ y → Right t i b (kind_step (Some (valued n x)) seen j)
         go true p =
             let u : eqb (get_or seen n 0) 0 ≡ false = agree n s ∙ ap opposite p in
             rw (lt-leb name_bound n s, u, kind_step) (wrote_fails t i j (header_line (kind n k)) b 7 w (fault_first b (header_line (kind n k)) (lt-ltb n name_bound s) here (ap opposite p)) (omega arith))
@@ -334,8 +335,8 @@ module _ (t : Bytes) (i j : ℕ) (b : Before) (small : b.modules ≤ 32) where
             (wrote_fails t i j (header_line (kind n k)) b 6 w (fault_place b (header_line (kind n k)) (lt-ltb n name_bound s) (rw r (and-false (ltb 0 b.modules)))) (omega arith))
         go false q false r =
             let m = eqb-false b.modules 0 q in
-            let g : number_after t (word_at t (i + 1)).next ≡ Is n f.next = ap (λ (x : Word). number_after t x.next) h.0 ∙ f.is ∙ ap (λ (v : ℕ). Is v f.next) (caps_small f.value n s f.caps) in
-            let e : kind_step (Is n f.next) seen j ≡ head_step t (i + 1) j b.modules b.has_item seen = ap (λ (x : Number). kind_step x seen j) (sym g) ∙ head_kind t (i + 1) j b.modules b.has_item seen no m is r in
+            let g : number_after t (word_at t (i + 1)).next ≡ Some (valued n f.next) = ap (λ (x : Word). number_after t x.next) h.0 ∙ f.is ∙ ap (λ (v : ℕ). Some (valued v f.next)) (caps_small f.value n s f.caps) in
+            let e : kind_step (Some (valued n f.next)) seen j ≡ head_step t (i + 1) j b.modules b.has_item seen = ap (λ (x : Option Number). kind_step x seen j) (sym g) ∙ head_kind t (i + 1) j b.modules b.has_item seen no m is r in
             rw (← e) (kind_case n k s (omega arith) r w f.next)
 
     val_right : (n : ℕ) (v : ℤ) → line_in_range (header_line (val n v)) ≡ true → Wrote t i j (header_line (val n v)) → Right t i b (head_step t (i + 1) j b.modules b.has_item seen)
@@ -421,7 +422,7 @@ module _ (t : Bytes) (i : ℕ) (b : Before) (small : b.modules ≤ 32) (seen : L
       item_case t i j b small seen agree x s w (λ e. o.0 (sym h ∙ e)) (λ e. o.1 (sym h ∙ e)) (λ e. o.2 (sym h ∙ e))
 
   -- a line that `scan` does not read to its feed
-  unread : Split (drop i t) → get_or t i 0 ≡ 40 → ((j : ℕ) (a : Bool) → scan depth_limit L t i ≡ Good j a → get_or t j 0 ≡ 10 → ⊥) → Failed t i b (not_written t (i + 1))
+  unread : Split (drop i t) → get_or t i 0 ≡ 40 → ((j : ℕ) (a : Bool) → scan depth_limit L t i ≡ good j a → get_or t j 0 ≡ 10 → ⊥) → Failed t i b (fault_code (not_written t (i + 1)))
   unread s o miss = record {
     line = s.line;
     others = lines s.rest;
@@ -430,8 +431,8 @@ module _ (t : Bytes) (i : ℕ) (b : Before) (small : b.modules ≤ 32) (seen : L
     above = above;
   }
     where
-      above : 0 < not_written t (i + 1)
-      above = unfold not_written in if_case (λ n. 0 < n) (closes_at 1 (drop (i + 1) t)) 4 3 (λ e. omega arith) (λ e. omega arith)
+      above : 0 < fault_code (not_written t (i + 1))
+      above = unfold not_written in if_case (λ f. 0 < fault_code f) (closes_at 1 (drop (i + 1) t)) BadlyWritten NotOneForm (λ e. omega arith) (λ e. omega arith)
 
   pub line_right : i < length t → ends_in_feed (drop i t) ≡ true → Right t i b (line_step t i b.modules b.has_item seen)
   unfolding line_step
@@ -440,24 +441,24 @@ module _ (t : Bytes) (i : ℕ) (b : Before) (small : b.modules ≤ 32) (seen : L
       s : Split (drop i t)
       s = split_at t i h e
 
-      go : (o : Bool) → eqb (get_or t i 0) 40 ≡ o → (x : Parsed) → scan depth_limit L t i ≡ x → Right t i b (line_step t i b.modules b.has_item seen)
+      go : (o : Bool) → eqb (get_or t i 0) 40 ≡ o → (x : Option Parsed) → scan depth_limit L t i ≡ x → Right t i b (line_step t i b.modules b.has_item seen)
       go false o x q = rw (o, line_step) (record { line = s.line; others = lines s.rest; rows = s.rows; fault = no_form_fault t i s.line s.rest s.span b (eqb-false (get_or t i 0) 40 o); above = omega arith })
-      go true o Bad q = rw (o, q, line_step) (unread s (eqb-true (get_or t i 0) 40 o) (λ j a f _. bad_not (sym q ∙ f)))
-      go true o (Good j a) q = rw (o, q, line_step) (ends (eqb (get_or t j 0) 10) refl)
+      go true o None q = rw (o, q, line_step) (unread s (eqb-true (get_or t i 0) 40 o) (λ j a f _. bad_not (sym q ∙ f)))
+      go true o (Some p) q = rw (o, q, line_step) (ends (eqb (get_or t p.next 0) 10) refl)
         where
-          f : Found depth_limit L t i j a
-          f = sound depth_limit t L i j a q
+          f : Found depth_limit L t i p.next p.range
+          f = sound depth_limit t L i p.next p.range q
 
-          here : get_or t j 0 ≡ 10 → Wrote t i j f.tree
-          here z = record { span = f.span ∙ ap (λ (y : Bytes). show_line f.tree ++ y) (at_cons t j 10 z (λ u. omega arith)); feed = z; deep = f.deep }
+          here : get_or t p.next 0 ≡ 10 → Wrote t i p.next f.tree
+          here z = record { span = f.span ∙ ap (λ (y : Bytes). show_line f.tree ++ y) (at_cons t p.next 10 z (λ u. omega arith)); feed = z; deep = f.deep }
 
-          ends : (y : Bool) → eqb (get_or t j 0) 10 ≡ y → Right t i b (parsed_step (Good j a) t i b.modules b.has_item seen)
-          ends false z = rw (z, parsed_step) (unread s (eqb-true (get_or t i 0) 40 o) (λ k c g u. eqb-false (get_or t j 0) 10 z (ap (λ (m : ℕ). get_or t m 0) (good_inj (sym q ∙ g)).0 ∙ u)))
-          ends true z = in_range a f.ranged
+          ends : (y : Bool) → eqb (get_or t p.next 0) 10 ≡ y → Right t i b (parsed_step (Some p) t i b.modules b.has_item seen)
+          ends false z = rw (z, parsed_step) (unread s (eqb-true (get_or t i 0) 40 o) (λ k c g u. eqb-false (get_or t p.next 0) 10 z (ap (λ (m : ℕ). get_or t m 0) (good_inj (sym q ∙ g)).0 ∙ u)))
+          ends true z = in_range p.range f.ranged
             where
-              w : Wrote t i j f.tree
-              w = here (eqb-true (get_or t j 0) 10 z)
+              w : Wrote t i p.next f.tree
+              w = here (eqb-true (get_or t p.next 0) 10 z)
 
-              in_range : (c : Bool) → line_in_range f.tree ≡ c → Right t i b (elim (eqb (get_or t j 0) 10) as (λ _. Step) [ true ↦ elim c as (λ _. Step) [ true ↦ head_step t (i + 1) j b.modules b.has_item seen | false ↦ Fault 5 ] | false ↦ Fault (not_written t (i + 1)) ])
-              in_range false g = rw z (wrote_fails t i j f.tree b 5 w (fault_range b f.tree g) (omega arith))
-              in_range true g = rw z (head_right j f.tree g w)
+              in_range : (c : Bool) → line_in_range f.tree ≡ c → Right t i b (elim (eqb (get_or t p.next 0) 10) as (λ _. Result Step Fault) [ true ↦ elim c as (λ _. Result Step Fault) [ true ↦ head_step t (i + 1) p.next b.modules b.has_item seen | false ↦ Err OutOfRange ] | false ↦ Err (not_written t (i + 1)) ])
+              in_range false g = rw z (wrote_fails t i p.next f.tree b 5 w (fault_range b f.tree g) (omega arith))
+              in_range true g = rw z (head_right p.next f.tree g w)

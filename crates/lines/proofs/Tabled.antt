@@ -17,13 +17,13 @@ use Rattle.spec.specs.Syntax as Syntax
 use Rattle.spec.specs.Show.{show_kind, show_bound, show_header, show_line, show_lines, header_lines, item_lines}
 use Rattle.spec.specs.Refusal.{lines, Before, in_place, line_in_range, tree_fault, decode_lines, gather, Gathered, decode}
 use Rattle.lines.specs.Bytes.{class_of}
-use Rattle.lines.specs.Parse.{key, code_after, word_at, kind_of, kind_numbers, lookup_key}
+use Rattle.std.specs.Prelude.{Option, Some, None}
+use Rattle.lines.specs.Parse.{valued, key, code_after, word_at, kind_of, kind_numbers, lookup_key}
 use Rattle.lines.specs.Read.{number_after}
 use Rattle.lines.specs.Tables.{kind_number, flag, put_header, put_kinds, entries, marked, header_size, items_size, header_at, put_mods, second_behind, second_key, flag_of}
 use Rattle.lines.proofs.Filled.{mark_if, header_if, rest_at, rest_of, Filled}
 use Rattle.lines.proofs.Laws.{if_case, inside}
 use Rattle.lines.specs.declared.parse.Number.{Number}
-use Rattle.lines.specs.declared.parse.Number.TheVariants.{Is}
 use Rattle.lines.specs.declared.parse.Word.{Word}
 use Rattle.lines.proofs.ReadLaws.{after_some}
 use Rattle.lines.proofs.Spelled.{cons_at, cons_next, span_next, all_wordly, word_fine, word_there, number_there}
@@ -99,10 +99,10 @@ module _ (t : Bytes) (at feed : ℕ) (b : Before) where
 
 -- ---- the second word of a line
 
-pub second_here : (t : Bytes) (v j : ℕ) → get_or t j 0 ≡ 32 → second_behind (Is v j) t ≡ (word_at t (j + 1)).key
+pub second_here : (t : Bytes) (v j : ℕ) → get_or t j 0 ≡ 32 → second_behind (Some (valued v j)) t ≡ (word_at t (j + 1)).key
 second_here t v j e = rw (eq-eqb (get_or t j 0) 32 e, second_behind)
 
-pub second_not : (t : Bytes) (v j : ℕ) → (get_or t j 0 ≡ 32 → ⊥) → second_behind (Is v j) t ≡ 0
+pub second_not : (t : Bytes) (v j : ℕ) → (get_or t j 0 ≡ 32 → ⊥) → second_behind (Some (valued v j)) t ≡ 0
 second_not t v j e = rw (ne_eqb (get_or t j 0) 32 e, second_behind)
 
 module _ (t : Bytes) (at : ℕ) where
@@ -120,8 +120,8 @@ module _ (t : Bytes) (at : ℕ) where
       let l = cons_at t j 32 _ k in
       let m : drop (j + 1) t ≡ v ++ (41 ∷ z) = cons_next t j 32 _ k ∙ append_assoc v (41 ∷ []) z in
       let y = word_there v t (j + 1) (41 ∷ z) g m (unfold class_of in refl) in
-      let num : number_after t (word_at t (at + 1)).next ≡ Is x.value j = ap (λ (u : Word). number_after t u.next) h.0 ∙ sym (after_some t (at + 1 + length w) c) ∙ x.is in
-      rw (o, second_key) (ap (λ (u : Number). second_behind u t) num ∙ second_here t x.value j l ∙ ap (λ (u : Word). u.key) y)
+      let num : number_after t (word_at t (at + 1)).next ≡ Some (valued x.value j) = ap (λ (u : Word). number_after t u.next) h.0 ∙ sym (after_some t (at + 1 + length w) c) ∙ x.is in
+      rw (o, second_key) (ap (λ (u : Option Number). second_behind u t) num ∙ second_here t x.value j l ∙ ap (λ (u : Word). u.key) y)
 
   pub second_kind : (feed : ℕ) (b : Before) (n : ℕ) (k : Kind) → Passed t at feed b (header_line (kind n k)) → kind_of (second_key t at) ≡ kind_number k
   unfolding show_line show_header

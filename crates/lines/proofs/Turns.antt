@@ -16,11 +16,12 @@ use Rattle.spec.specs.Show.{show_line}
 use Rattle.spec.specs.Refusal.{Verdict, well_formed, refused, lines, ends_in_feed, Before, at_start, after_line, has_name, line_fault, lines_fault, decode_lines, gather, in_set, byte_fault, set_fault, refusal, decode}
 use Rattle.spec.proofs.Shown.{decode_show_line, show_line_set}
 use Rattle.lines.specs.Read.{fault_line, set_line, line_step}
-use Rattle.lines.specs.Verdict.{told, Ended, modules_in}
+use Rattle.lines.specs.Verdict.{refused_as, told, Ended, modules_in}
 use Rattle.lines.proofs.Going.{Going}
 use Rattle.lines.specs.declared.read.Step.{Step}
 use Rattle.lines.specs.declared.read.Step.TheVariants.{Module, Kind, Val, Item}
-use Rattle.lines.specs.declared.read.Verdict.TheVariants.{Refused, Formed}
+use Rattle.std.specs.Prelude.{Result, Ok}
+use Rattle.lines.specs.declared.read.Fault.{Fault}
 use Rattle.lines.proofs.Laws.{if_case, inside}
 use Rattle.lines.proofs.Steps.{line_right, lines_feed, shown_fault, behind_feed, Passed, Failed, Right, Seen}
 
@@ -63,7 +64,7 @@ module _ (t : Bytes) (at n modules : ℕ) (items : Bool) (seen : List ℕ) (g : 
   abbrev before : Before
   before = record { modules = modules; has_item = items; kinds = g.kinds }
 
-  pub going_module : Right t at before (Module feed) → length seen ≡ name_bound → Going t (feed + 1) (n + 1) (modules + 1) false (replicate (length seen) 0)
+  pub going_module : Right t at before (Ok (Module feed)) → length seen ≡ name_bound → Going t (feed + 1) (n + 1) (modules + 1) false (replicate (length seen) 0)
   unfolding after_line modules_in gather
   going_module r z =
       let p = r.1 in
@@ -93,7 +94,7 @@ module _ (t : Bytes) (at n modules : ℕ) (items : Bool) (seen : List ℕ) (g : 
           let v : get_or (set seen k 1) n 0 ≡ get_or seen n 0 = get_or-set_other seen k n 1 0 (eqb-false n k e) in
           rw (v, e) (g.agree n q)
 
-  pub going_kind : (k : ℕ) → Right t at before (Kind feed k) → length seen ≡ name_bound → Going t (feed + 1) (n + 1) modules items (set seen k 1)
+  pub going_kind : (k : ℕ) → Right t at before (Ok (Kind feed k)) → length seen ≡ name_bound → Going t (feed + 1) (n + 1) modules items (set seen k 1)
   unfolding after_line modules_in gather
   going_kind k r z =
       let p = r.1 in
@@ -109,7 +110,7 @@ module _ (t : Bytes) (at n modules : ℕ) (items : Bool) (seen : List ℕ) (g : 
         early = omega (arith, g.early, m.1);
       }
 
-  pub going_val : Right t at before (Val feed) → Going t (feed + 1) (n + 1) modules items seen
+  pub going_val : Right t at before (Ok (Val feed)) → Going t (feed + 1) (n + 1) modules items seen
   unfolding after_line modules_in gather
   going_val r =
       let p = r.2 in
@@ -125,7 +126,7 @@ module _ (t : Bytes) (at n modules : ℕ) (items : Bool) (seen : List ℕ) (g : 
         early = omega (arith, g.early, m.1);
       }
 
-  pub going_item : Right t at before (Item feed) → Going t (feed + 1) (n + 1) modules true seen
+  pub going_item : Right t at before (Ok (Item feed)) → Going t (feed + 1) (n + 1) modules true seen
   unfolding after_line modules_in gather
   going_item r =
       let p = r.1 in
@@ -143,20 +144,20 @@ module _ (t : Bytes) (at n modules : ℕ) (items : Bool) (seen : List ℕ) (g : 
 
 -- a line with a fault ends the reading
 pub going_fault : (t : Bytes) (at n modules : ℕ) (items : Bool) (seen : List ℕ) (g : Going t at n modules items seen) (k : ℕ)
-    → Failed t at (record { modules = modules; has_item = items; kinds = g.kinds }) k → Refused k n ≡ told (lines_fault at_start 1 (lines t)) (modules_in (lines t))
+    → Failed t at (record { modules = modules; has_item = items; kinds = g.kinds }) k → refused_as k n ≡ told (lines_fault at_start 1 (lines t)) (modules_in (lines t))
 unfolding lines_fault
 going_fault t at n modules items seen g k f = go k f.fault f.above
   where
     b : Before
     b = record { modules = modules; has_item = items; kinds = g.kinds }
 
-    go : (k : ℕ) → line_fault b f.line ≡ k → 0 < k → Refused k n ≡ told (lines_fault at_start 1 (lines t)) (modules_in (lines t))
+    go : (k : ℕ) → line_fault b f.line ≡ k → 0 < k → refused_as k n ≡ told (lines_fault at_start 1 (lines t)) (modules_in (lines t))
     go zero e h = absurd (omega arith)
     go (suc k) e h =
         let u : lines_fault b n (f.line ∷ f.others) ≡ refused (suc k) n = rw (e, lines_fault) in
         ap (λ (v : Verdict). told v (modules_in (lines t))) (sym (g.verdict ∙ ap (lines_fault b n) f.rows ∙ u))
 
-pub going_end : (t : Bytes) (at n modules : ℕ) (items : Bool) (seen : List ℕ) → Going t at n modules items seen → length t ≤ at → Formed modules ≡ told (lines_fault at_start 1 (lines t)) (modules_in (lines t))
+pub going_end : (t : Bytes) (at n modules : ℕ) (items : Bool) (seen : List ℕ) → Going t at n modules items seen → length t ≤ at → Ok modules ≡ told (lines_fault at_start 1 (lines t)) (modules_in (lines t))
 unfolding lines_fault modules_in lines decode_lines gather
 going_end t at n modules items seen g h =
     let e : drop at t ≡ [] = drop_of_length-le t h in
@@ -167,7 +168,7 @@ going_end t at n modules items seen g h =
 
 -- ---- the whole text
 
-pub text_long : (t : Bytes) → 32768 < length t → Refused 1 0 ≡ told (refusal t) (length (decode t))
+pub text_long : (t : Bytes) → 32768 < length t → refused_as 1 0 ≡ told (refusal t) (length (decode t))
 unfolding refusal
 text_long t h = rw (lt-ltb 32768 (length t) h, refusal)
 
@@ -198,13 +199,13 @@ set_two t = go (byte_fault 1 t) (bytes_two t 1 (omega arith))
     go (refused k n) w = w
     go well_formed w = if_case Twos (ends_in_feed t) well_formed (refused 2 (length (lines t))) (λ _. tt) (λ e. (refl, some_line t e))
 
-pub text_set : (t : Bytes) (n : ℕ) → length t ≤ 32768 → n ≡ set_line t → (n ≡ 0 → ⊥) → Refused 2 n ≡ told (refusal t) (length (decode t))
+pub text_set : (t : Bytes) (n : ℕ) → length t ≤ 32768 → n ≡ set_line t → (n ≡ 0 → ⊥) → refused_as 2 n ≡ told (refusal t) (length (decode t))
 unfolding refusal set_line
 text_set t n h e f = go (set_fault t) refl (set_two t)
   where
-    go : (v : Verdict) → set_fault t ≡ v → Twos v → Refused 2 n ≡ told (refusal t) (length (decode t))
+    go : (v : Verdict) → set_fault t ≡ v → Twos v → refused_as 2 n ≡ told (refusal t) (length (decode t))
     go well_formed q w = absurd (f (e ∙ ap fault_line q))
-    go (refused k m) q w = rw (le-ltb 32768 (length t) h, q, refusal) (ap₂ Refused (sym w.0) (e ∙ ap fault_line q))
+    go (refused k m) q w = rw (le-ltb 32768 (length t) h, q, refusal) (ap₂ refused_as (sym w.0) (e ∙ ap fault_line q))
 
 fine_set : (t : Bytes) (n : ℕ) → n ≡ set_line t → n ≡ 0 → set_fault t ≡ well_formed
 unfolding set_line
@@ -234,6 +235,6 @@ unfolding refusal modules_in decode
 text_lines t n h e z = rw (le-ltb 32768 (length t) h, fine_set t n e z, refusal)
 
 -- what a step says of the line at which the reader stands
-pub going_right : (t : Bytes) (at n modules : ℕ) (items : Bool) (seen : List ℕ) (g : Going t at n modules items seen) → at < length t → (x : Step) → x ≡ line_step t at modules items seen
+pub going_right : (t : Bytes) (at n modules : ℕ) (items : Bool) (seen : List ℕ) (g : Going t at n modules items seen) → at < length t → (x : Result Step Fault) → x ≡ line_step t at modules items seen
     → Right t at (record { modules = modules; has_item = items; kinds = g.kinds }) x
 going_right t at n modules items seen g h x e = rw e (line_right t at (record { modules = modules; has_item = items; kinds = g.kinds }) g.few seen g.agree h g.ends)

@@ -1,7 +1,7 @@
 -- What the code of src/parse.rt does, on the bytes of a text and a position in it. proofs/ ties it to the bytes that show a tree. 01: The line;
 -- Refused because of the text.
 -- To a reader: definitions that contracts of this and other crates cite; each such contract is proved; check_drivers' own promise cites none of them.
-use Rattle.std.specs.Prelude.{Bool, true, false, ◌&&◌, not, List, [], ◌∷◌, ℕ, zero, suc, ◌+◌, ◌*◌, ◌-◌, eqb, ltb, length, get_or, drop}
+use Rattle.std.specs.Prelude.{Bool, true, false, ◌&&◌, not, List, [], ◌∷◌, Option, Some, None, ℕ, zero, suc, ◌+◌, ◌*◌, ◌-◌, eqb, ltb, length, get_or, drop}
 use Rattle.spec.specs.Bytes.{Bytes, bytes}
 use Rattle.spec.specs.Syntax.{name_bound, module_bound, number_bound}
 use Rattle.lines.specs.Bytes.{class_of, is_digit, is_word}
@@ -9,10 +9,8 @@ use Rattle.lines.specs.declared.parse.Cat.{Cat}
 use Rattle.lines.specs.declared.parse.Cat.TheVariants.{Name, Start, Mod, Count, Int, Kind, Dir, Bound, E, X, T, Lv, C, S, I, ThenS, ElseS, ThenI, ElseI, L, Nothing}
 use Rattle.lines.specs.declared.parse.Shape.{Shape}
 use Rattle.lines.specs.declared.parse.Parsed.{Parsed}
-use Rattle.lines.specs.declared.parse.Parsed.TheVariants.{Bad, Good}
 use Rattle.lines.specs.declared.parse.Word.{Word}
 use Rattle.lines.specs.declared.parse.Number.{Number}
-use Rattle.lines.specs.declared.parse.Number.TheVariants.{None, Is}
 use Rattle.lines.specs.declared.parse.Op.{Op}
 
 -- ---- words and numbers
@@ -44,35 +42,43 @@ word_at t at = word_from 8 t at 0 0
 unfoldable pub more_digit : ℕ → ℕ → ℕ
 more_digit a d = elim (ltb a 4294967296) [ true ↦ a * 10 + d | false ↦ a ]
 
+-- 01, The line: a number and where it ends
+abbrev pub valued : ℕ → ℕ → Number
+valued v next = record { value = v; next = next }
+
 -- 01, The line: the number whose digits stand behind those of a, to the first byte that is no digit, and where that is; the bytes begin at `at`
 unfoldable pub digits_from : Bytes → ℕ → ℕ → Number
-digits_from [] at a = Is a at
-digits_from (c ∷ s) at a = elim (is_digit (class_of c)) [ true ↦ digits_from s (suc at) (more_digit a (c - 48)) | false ↦ Is a at ]
+digits_from [] at a = valued a at
+digits_from (c ∷ s) at a = elim (is_digit (class_of c)) [ true ↦ digits_from s (suc at) (more_digit a (c - 48)) | false ↦ valued a at ]
 
 -- 01, The line: the number at a position and where it ends: 0 alone, or a digit that is not 0 and all digits behind it; none where no digit stands;
 -- one from 2^32 on is taken as some number from 2^32 on
-unfoldable pub number_at : Bytes → ℕ → Number
+unfoldable pub number_at : Bytes → ℕ → Option Number
 number_at t at =
     elim (eqb (get_or t at 0) 48) [
-      | true ↦ Is 0 (at + 1)
-      | false ↦ elim (is_digit (class_of (get_or t at 0))) [ true ↦ digits_from (drop at t) at 0 | false ↦ None ]
+      | true ↦ Some (valued 0 (at + 1))
+      | false ↦ elim (is_digit (class_of (get_or t at 0))) [ true ↦ Some (digits_from (drop at t) at 0) | false ↦ None ]
     ]
 
+-- 01, Refused because of the text: a part that ends at `next`, with its numbers in range (5) or not; a part that is bad is None
+abbrev pub good : ℕ → Bool → Option Parsed
+good next range = Some (record { next = next; range = range })
+
 -- 01, Refused because of the text: a number as a part: bad where there is none; in range (5) where it is below the limit
-abbrev pub numbered : Number → ℕ → Parsed
-numbered None limit = Bad
-numbered (Is v next) limit = Good next (ltb v limit)
+abbrev pub numbered : Option Number → ℕ → Option Parsed
+numbered None limit = None
+numbered (Some n) limit = good n.next (ltb n.value limit)
 
 -- 01, Refused because of the text: M of `module` as a part: bad where there is none; it has no range (5)
-abbrev pub counted : Number → Parsed
-counted None = Bad
-counted (Is v next) = Good next true
+abbrev pub counted : Option Number → Option Parsed
+counted None = None
+counted (Some n) = good n.next true
 
 -- 01, The line: the INT of `val` as a part: a number, or a minus and a number that is not 0; from −2,147,483,648 to 2,147,483,647 it is in range
-unfoldable pub int_at : Bytes → ℕ → Parsed
+unfoldable pub int_at : Bytes → ℕ → Option Parsed
 int_at t at =
     elim (eqb (get_or t at 0) 45) [
-      | true ↦ elim (eqb (get_or t (at + 1) 0) 48) [ true ↦ Bad | false ↦ numbered (number_at t (at + 1)) (number_bound + 1) ]
+      | true ↦ elim (eqb (get_or t (at + 1) 0) 48) [ true ↦ None | false ↦ numbered (number_at t (at + 1)) (number_bound + 1) ]
       | false ↦ numbered (number_at t at) number_bound
     ]
 
@@ -113,9 +119,9 @@ unfoldable pub either : ℕ → ℕ → ℕ → Bool
 either k a b = elim (eqb k a) [ true ↦ true | false ↦ eqb k b ]
 
 -- 01, Refused because of the text: a word as a part that ends at `next`: bad where it is none that may stand here
-abbrev pub worded : Bool → ℕ → Parsed
-worded true next = Good next true
-worded false next = Bad
+abbrev pub worded : Bool → ℕ → Option Parsed
+worded true next = good next true
+worded false next = None
 
 -- ---- shapes
 
@@ -220,7 +226,7 @@ shift q = record { need = q.need - 1; a = q.b; b = q.c; c = q.d; d = q.last; las
 -- ---- parts
 
 -- 01, The line: E without brackets as a part: a literal, `true` or `false`
-unfoldable pub literal : Bytes → ℕ → Parsed
+unfoldable pub literal : Bytes → ℕ → Option Parsed
 literal t at =
     elim (is_digit (class_of (get_or t at 0))) [
       | true ↦ numbered (number_at t at) number_bound
@@ -229,7 +235,7 @@ literal t at =
 
 -- 01, The line: a part of a category at a position where no bracket opens: a number, a word, a literal, `-` for X; bad where the category has only
 -- forms, or nothing
-abbrev pub atom : Cat → Bytes → ℕ → Parsed
+abbrev pub atom : Cat → Bytes → ℕ → Option Parsed
 atom Name t at = numbered (number_at t at) name_bound
 atom Start t at = numbered (number_at t at) number_bound
 atom Mod t at = numbered (number_at t at) module_bound
@@ -239,39 +245,39 @@ atom Kind t at = worded (not (eqb (kind_of (word_at t at).key) 0)) (word_at t at
 atom Dir t at = worded (either (word_at t at).key (key (bytes "in")) (key (bytes "out"))) (word_at t at).next
 atom Bound t at = worded (either (word_at t at).key (key (bytes "bound")) (key (bytes "unbound"))) (word_at t at).next
 atom E t at = literal t at
-atom X t at = elim (eqb (get_or t at 0) 45) [ true ↦ Good (at + 1) true | false ↦ literal t at ]
+atom X t at = elim (eqb (get_or t at 0) 45) [ true ↦ good (at + 1) true | false ↦ literal t at ]
 atom T t at = worded (either (word_at t at).key (key (bytes "bit")) (key (bytes "opaque"))) (word_at t at).next
-atom Lv t at = Bad
-atom C t at = Bad
-atom S t at = Bad
-atom I t at = Bad
-atom ThenS t at = Bad
-atom ElseS t at = Bad
-atom ThenI t at = Bad
-atom ElseI t at = Bad
-atom L t at = Bad
-atom Nothing t at = Bad
+atom Lv t at = None
+atom C t at = None
+atom S t at = None
+atom I t at = None
+atom ThenS t at = None
+atom ElseS t at = None
+atom ThenI t at = None
+atom ElseI t at = None
+atom L t at = None
+atom Nothing t at = None
 
 -- 01, The line; Refused because of the text: the parts of a form from i on, of which q is left, each behind one space, and then its last bracket,
 -- with `f` for a part; fewer than `left` of them. `range` (5) is whether all was in range so far
-unfoldable pub parts_at : (Cat → ℕ → Parsed) → ℕ → Bytes → Shape → ℕ → Bool → Parsed
-parts_at f zero t q i range = Bad
+unfoldable pub parts_at : (Cat → ℕ → Option Parsed) → ℕ → Bytes → Shape → ℕ → Bool → Option Parsed
+parts_at f zero t q i range = None
 parts_at f (suc left) t q i range =
     elim (eqb (get_or t i 0) 41) [
-      | true ↦ elim (eqb q.need 0) [ true ↦ Good (i + 1) range | false ↦ Bad ]
+      | true ↦ elim (eqb q.need 0) [ true ↦ good (i + 1) range | false ↦ None ]
       | false ↦ elim (eqb (get_or t i 0) 32) [
-        | true ↦ elim (f q.a (i + 1)) [ Bad ↦ Bad | Good j r ↦ parts_at f left t (shift q) j (range && r) ]
-        | false ↦ Bad
+        | true ↦ elim (f q.a (i + 1)) [ None ↦ None | Some p ↦ parts_at f left t (shift q) p.next (range && p.range) ]
+        | false ↦ None
       ]
     ]
 
 -- 01, The line: the form of a category whose bracket opens at a position: its head word, then its parts, with `f` for a part
-unfoldable pub form_at : (Cat → ℕ → Parsed) → Cat → Bytes → ℕ → Parsed
+unfoldable pub form_at : (Cat → ℕ → Option Parsed) → Cat → Bytes → ℕ → Option Parsed
 form_at f c t at =
     let w = word_at t (at + 1) in
     parts_at f (length t) t (shape c w.key) w.next true
 
 -- 01, The line: the part of a category at a position, at most d brackets deep
-unfoldable pub scan : ℕ → Cat → Bytes → ℕ → Parsed
-scan zero c t at = elim (eqb (get_or t at 0) 40) [ true ↦ Bad | false ↦ atom c t at ]
+unfoldable pub scan : ℕ → Cat → Bytes → ℕ → Option Parsed
+scan zero c t at = elim (eqb (get_or t at 0) 40) [ true ↦ None | false ↦ atom c t at ]
 scan (suc d) c t at = elim (eqb (get_or t at 0) 40) [ true ↦ form_at (λ k i. scan d k t i) c t at | false ↦ atom c t at ]

@@ -1,13 +1,12 @@
 -- The tables of a design: what the reader leaves in the lent slices of a text that it accepts. 01: The line.
 -- To a reader: definitions that contracts of this and other crates cite; each such contract is proved; check_drivers' own promise cites none of them.
-use Rattle.std.specs.Prelude.{Bool, true, false, List, [], ◌∷◌, ℕ, suc, ◌+◌, ◌*◌, eqb, length, get_or, set}
+use Rattle.std.specs.Prelude.{Bool, true, false, List, [], ◌∷◌, Option, Some, None, ℕ, suc, ◌+◌, ◌*◌, eqb, length, get_or, set}
 use Rattle.spec.specs.Bytes.{Bytes, bytes}
 use Rattle.spec.specs.Syntax.{name_bound, Kind, in_kind, out_kind, wire_kind, reg_kind, mem_kind, inst_kind, Header, kind, val, Items, Design, module_line}
 use Rattle.spec.specs.Show.{show_line, show_lines, header_lines, item_lines}
 use Rattle.lines.specs.Parse.{key, word_at}
 use Rattle.lines.specs.Read.{number_after}
 use Rattle.lines.specs.declared.parse.Number.{Number}
-use Rattle.lines.specs.declared.parse.Number.TheVariants.{None, Is}
 
 -- 01, The line: the number of a kind; 0 is no kind
 abbrev pub kind_number : Kind → ℕ
@@ -66,9 +65,9 @@ put_mods m o (k ∷ ms) table =
 -- ---- what the code reads
 
 -- 01, The line: the key of the word behind a number and one space, and 0 where there is no number or no space
-abbrev pub second_behind : Number → Bytes → ℕ
+abbrev pub second_behind : Option Number → Bytes → ℕ
 second_behind None t = 0
-second_behind (Is v j) t = elim (eqb (get_or t j 0) 32) [ true ↦ (word_at t (j + 1)).key | false ↦ 0 ]
+second_behind (Some n) t = elim (eqb (get_or t n.next 0) 32) [ true ↦ (word_at t (n.next + 1)).key | false ↦ 0 ]
 
 -- 01, The line: the key of the word behind the number of the form at a position, `(head NUMBER WORD`, and 0 where none stands so
 unfoldable pub second_key : Bytes → ℕ → ℕ

@@ -14,10 +14,8 @@ pub fn value(s: &[u8]) -> u64
     ensures { result ≡ min (number s.now) 4294967296 }
 {
     let mut a: u64 = 0;
-    let mut i = 0;
-    while i < s.len() {
-        a = a * 10 + digit(s[i]);
-        i += 1;
+    for &c in s {
+        a = a * 10 + digit(c);
         if 4294967296 <= a {
             return 4294967296;
         }

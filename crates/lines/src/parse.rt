@@ -3,8 +3,9 @@
 ghost use Rattle.std.specs.Prelude.{◌≡◌, ◌&&◌, drop, ◌-◌};
 ghost use Rattle.lines.specs.Parse.{word_at, more_digit, digits_from, number_at, numbered, counted, int_at, op_of, kind_of, either, worded, no_shape, fixed, behind, expr_shape, lone, width_shape, stmt_shape, item_shape, line_shape, shape, shift, literal, atom, scan};
 
-use crate::bytes::{Class, at8, class_of, is_digit, is_minus, is_open, is_word};
+use crate::bytes::{Class, class_of, is_digit, is_minus, is_open, is_word};
 use crate::keys;
+use crate::parts::byte;
 
 // Names and MOD are below 256; START and literals below 2,147,483,648.
 pub(crate) const NAMES: u64 = 256;
@@ -54,9 +55,9 @@ pub(crate) struct Shape {
 
 // A part that was read: where it ends, whether its numbers are in range (5).
 #[derive(Clone, Copy)]
-pub(crate) enum Parsed {
-    Bad,
-    Good { next: usize, range: bool },
+pub(crate) struct Parsed {
+    pub next: usize,
+    pub range: bool,
 }
 
 #[derive(Clone, Copy)]
@@ -66,10 +67,10 @@ pub struct Word {
 }
 
 // A number, where it is too large some number from 2^32 on, and where it ends.
-#[derive(Clone, Copy)]
-pub enum Number {
-    None,
-    Is { value: u64, next: usize },
+#[derive(Clone, Copy, Debug, PartialEq, Eq)]
+pub struct Number {
+    pub value: u64,
+    pub next: usize,
 }
 
 // The heads of E.
@@ -97,9 +98,8 @@ pub fn word_at(s: &[u8], at: usize) -> Word
 {
     let mut i = at;
     let mut code: u64 = 0;
-    let mut k: u64 = 0;
-    while k < 8 {
-        let c = at8(s, i);
+    for k in 0..8 {
+        let c = byte(s, i);
         if !is_word(c) {
             return Word {
                 key: code * 16 + k,
@@ -108,7 +108,6 @@ pub fn word_at(s: &[u8], at: usize) -> Word
         }
         code = code * 256 + c as u64;
         i += 1;
-        k += 1;
     }
     Word { key: 0, next: i }
 }
@@ -124,66 +123,66 @@ fn more(a: u64, d: u8) -> u64
 fn digits(s: &[u8], at: usize) -> Number
     ensures { result ≡ digits_from (drop at s.now) at 0 }
 {
-    let mut i = at;
     let mut a: u64 = 0;
-    while i < s.len() {
+    for i in at..s.len() {
         let c = s[i];
         if !is_digit(c) {
-            return Number::Is { value: a, next: i };
+            return Number { value: a, next: i };
         }
         a = more(a, c - b'0');
-        i += 1;
     }
-    Number::Is { value: a, next: i }
+    Number {
+        value: a,
+        next: s.len().max(at),
+    }
 }
 
 // The number at a position: 0, or a digit that is not 0 and all digits behind it.
-pub(crate) fn number_at(s: &[u8], at: usize) -> Number
+pub(crate) fn number_at(s: &[u8], at: usize) -> Option<Number>
     ensures { result ≡ number_at s.now at }
 {
-    let c = at8(s, at);
+    let c = byte(s, at);
     if c == b'0' {
-        return Number::Is {
+        return Some(Number {
             value: 0,
             next: at + 1,
-        };
+        });
     }
     if !is_digit(c) {
-        return Number::None;
+        return None;
     }
-    digits(s, at)
+    Some(digits(s, at))
 }
 
-fn numbered(n: Number, limit: u64) -> Parsed
+fn numbered(n: Option<Number>, limit: u64) -> Option<Parsed>
     ensures { result ≡ numbered n limit }
 {
-    match n {
-        Number::None => Parsed::Bad,
-        Number::Is { value, next } => Parsed::Good {
-            next,
-            range: value < limit,
-        },
-    }
+    let n = n?;
+    Some(Parsed {
+        next: n.next,
+        range: n.value < limit,
+    })
 }
 
-fn counted(n: Number) -> Parsed
+fn counted(n: Option<Number>) -> Option<Parsed>
     ensures { result ≡ counted n }
 {
-    match n {
-        Number::None => Parsed::Bad,
-        Number::Is { value: _, next } => Parsed::Good { next, range: true },
-    }
+    let n = n?;
+    Some(Parsed {
+        next: n.next,
+        range: true,
+    })
 }
 
 // INT: a number, or a minus and a number that is not 0.
-fn int(s: &[u8], at: usize) -> Parsed
+fn int(s: &[u8], at: usize) -> Option<Parsed>
     ensures { result ≡ int_at s.now at }
 {
-    if !is_minus(at8(s, at)) {
+    if !is_minus(byte(s, at)) {
         return numbered(number_at(s, at), NUMBERS);
     }
-    if at8(s, at + 1) == b'0' {
-        return Parsed::Bad;
+    if byte(s, at + 1) == b'0' {
+        return None;
     }
     numbered(number_at(s, at + 1), NUMBERS + 1)
 }
@@ -246,13 +245,13 @@ fn either(key: u64, a: u64, b: u64) -> bool
     key == b
 }
 
-fn worded(ok: bool, next: usize) -> Parsed
+fn worded(ok: bool, next: usize) -> Option<Parsed>
     ensures { result ≡ worded ok next }
 {
     if ok {
-        Parsed::Good { next, range: true }
+        Some(Parsed { next, range: true })
     } else {
-        Parsed::Bad
+        None
     }
 }
 
@@ -454,10 +453,10 @@ fn shift(q: Shape) -> Shape
 
 // ---- parts
 
-fn literal(s: &[u8], at: usize) -> Parsed
+fn literal(s: &[u8], at: usize) -> Option<Parsed>
     ensures { result ≡ literal s.now at }
 {
-    if is_digit(at8(s, at)) {
+    if is_digit(byte(s, at)) {
         return numbered(number_at(s, at), NUMBERS);
     }
     let w = word_at(s, at);
@@ -465,7 +464,7 @@ fn literal(s: &[u8], at: usize) -> Parsed
 }
 
 // A part with no brackets.
-fn atom(s: &[u8], at: usize, cat: Cat) -> Parsed
+fn atom(s: &[u8], at: usize, cat: Cat) -> Option<Parsed>
     ensures { result ≡ atom cat s.now at }
 {
     match cat {
@@ -488,7 +487,7 @@ fn atom(s: &[u8], at: usize, cat: Cat) -> Parsed
         }
         Cat::E => literal(s, at),
         Cat::X => {
-            if is_minus(at8(s, at)) {
+            if is_minus(byte(s, at)) {
                 worded(true, at + 1)
             } else {
                 literal(s, at)
@@ -498,56 +497,41 @@ fn atom(s: &[u8], at: usize, cat: Cat) -> Parsed
             let w = word_at(s, at);
             worded(either(w.key, keys::BIT, keys::OPAQUE), w.next)
         }
-        Cat::Lv => Parsed::Bad,
-        Cat::C => Parsed::Bad,
-        Cat::S => Parsed::Bad,
-        Cat::I => Parsed::Bad,
-        Cat::ThenS => Parsed::Bad,
-        Cat::ElseS => Parsed::Bad,
-        Cat::ThenI => Parsed::Bad,
-        Cat::ElseI => Parsed::Bad,
-        Cat::L => Parsed::Bad,
-        Cat::Nothing => Parsed::Bad,
+        _ => None,
     }
 }
 
 // The part of a category at a position, at most `depth` brackets deep.
-pub(crate) fn part(s: &[u8], at: usize, cat: Cat, depth: u32) -> Parsed
+pub(crate) fn part(s: &[u8], at: usize, cat: Cat, depth: u32) -> Option<Parsed>
     ensures { result ≡ scan depth cat s.now at }
 {
-    if !is_open(at8(s, at)) {
+    if !is_open(byte(s, at)) {
         return atom(s, at, cat);
     }
     if depth == 0 {
-        return Parsed::Bad;
+        return None;
     }
     let w = word_at(s, at + 1);
     let mut i = w.next;
     let mut q = shape_of(cat, w.key);
     let mut range = true;
-    let mut left = s.len();
-    while 0 < left {
-        left -= 1;
-        match class_of(at8(s, i)) {
+    // No form has as many parts as the text has bytes.
+    for _ in 0..s.len() {
+        match class_of(byte(s, i)) {
             Class::Close => {
                 if q.need == 0 {
-                    return Parsed::Good { next: i + 1, range };
+                    return Some(Parsed { next: i + 1, range });
                 }
-                return Parsed::Bad;
+                return None;
             }
             Class::Space => {
-                let a = q.a;
-                match part(s, i + 1, a, depth - 1) {
-                    Parsed::Bad => return Parsed::Bad,
-                    Parsed::Good { next, range: r } => {
-                        i = next;
-                        range = both(range, r);
-                        q = shift(q);
-                    }
-                }
+                let p = part(s, i + 1, q.a, depth - 1)?;
+                i = p.next;
+                range = both(range, p.range);
+                q = shift(q);
             }
-            _ => return Parsed::Bad,
+            _ => return None,
         }
     }
-    Parsed::Bad
+    None
 }

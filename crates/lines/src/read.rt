@@ -1,10 +1,11 @@
 // What a line is: its lowest fault, 3 to 7, or what it adds; and fault 2, over the whole text.
 ghost use Rattle.std.specs.Prelude.{◌≡◌, ◌≤◌, length, drop};
-ghost use Rattle.lines.specs.Read.{closes_at, not_written, set_line, number_after, module_step, kind_step, head_step, line_step};
+ghost use Rattle.lines.specs.Read.{closes_at, not_written, set_line, number_after, module_step, kind_step, head_step, line_step, fault_code};
 
-use crate::bytes::{Class, at8, class_of, is_feed, is_open, is_space};
+use crate::bytes::{Class, class_of, is_feed, is_open, is_space};
 use crate::keys;
-use crate::parse::{Cat, NAMES, Number, Parsed, number_at, part, word_at};
+use crate::parse::{Cat, NAMES, Number, number_at, part, word_at};
+use crate::parts::byte;
 
 pub(crate) const TEXT: usize = 32768;
 
@@ -12,10 +13,34 @@ pub(crate) const MODULES: u32 = 32;
 
 pub(crate) const DEPTH: u32 = 32;
 
-// What a line is: its lowest fault, or what it adds, with the place of its line feed.
+// What is wrong with a line, the faults 3 to 7 in order.
+#[derive(Clone, Copy, Debug, PartialEq, Eq)]
+pub(crate) enum Fault {
+    NotOneForm,
+    BadlyWritten,
+    OutOfRange,
+    OutOfPlace,
+    OneTooMany,
+}
+
+impl Fault {
+    // Its number in the specification.
+    pub(crate) fn number(self) -> u32
+        ensures { result ≡ fault_code self }
+    {
+        match self {
+            Fault::NotOneForm => 3,
+            Fault::BadlyWritten => 4,
+            Fault::OutOfRange => 5,
+            Fault::OutOfPlace => 6,
+            Fault::OneTooMany => 7,
+        }
+    }
+}
+
+// What a line adds, with the place of its line feed.
 #[derive(Clone, Copy)]
 pub(crate) enum Step {
-    Fault(u32),
     Module(usize),
     Kind(usize, usize),
     Val(usize),
@@ -26,9 +51,8 @@ pub(crate) enum Step {
 fn closes(s: &[u8], at: usize) -> bool
     ensures { result ≡ closes_at 1 (drop at s.now) }
 {
-    let mut i = at;
     let mut k: u32 = 1;
-    while i < s.len() {
+    for i in at..s.len() {
         match class_of(s[i]) {
             Class::Feed => return false,
             Class::Open => {
@@ -36,31 +60,28 @@ fn closes(s: &[u8], at: usize) -> bool
                     return false;
                 }
                 k += 1;
-                i += 1;
-                continue;
             }
             Class::Close => {
                 if k == 1 {
-                    return is_feed(at8(s, i + 1));
+                    return is_feed(byte(s, i + 1));
                 }
                 k -= 1;
-                i += 1;
-                continue;
             }
-            _ => {
-                i += 1;
-                continue;
-            }
+            _ => {}
         }
     }
     false
 }
 
-// 3 or 4, for a line that is not well written, behind its opening bracket.
-fn not_written(s: &[u8], at: usize) -> u32
+// The fault of a line that is not well written, behind its opening bracket.
+fn not_written(s: &[u8], at: usize) -> Fault
     ensures { result ≡ not_written s.now at }
 {
-    if closes(s, at) { 4 } else { 3 }
+    if closes(s, at) {
+        Fault::BadlyWritten
+    } else {
+        Fault::NotOneForm
+    }
 }
 
 // The line of the first byte outside the set, or of a text's end without a line feed; 0 where there is neither.
@@ -68,75 +89,64 @@ pub(crate) fn set_line(s: &[u8]) -> u32
     requires { length s.now ≤ 32768 }
     ensures { result ≡ set_line s.now }
 {
-    let mut i = 0;
     let mut n: u32 = 1;
-    while i < s.len() {
-        match class_of(s[i]) {
-            Class::Feed => {
-                n += 1;
-                i += 1;
-                continue;
-            }
+    for &b in s {
+        match class_of(b) {
+            Class::Feed => n += 1,
             Class::Refused => return n,
-            _ => {
-                i += 1;
-                continue;
-            }
+            _ => {}
         }
     }
-    if i == 0 {
-        return 0;
+    match s.last() {
+        None => 0,
+        Some(&b) if is_feed(b) => 0,
+        Some(_) => n,
     }
-    if is_feed(s[i - 1]) { 0 } else { n }
 }
 
 // The number behind a space.
-pub fn number_after(s: &[u8], at: usize) -> Number
+pub fn number_after(s: &[u8], at: usize) -> Option<Number>
     ensures { result ≡ number_after s.now at }
 {
-    if !is_space(at8(s, at)) {
-        return Number::None;
+    if !is_space(byte(s, at)) {
+        return None;
     }
     number_at(s, at + 1)
 }
 
-fn module_step(n: Number, modules: u32, feed: usize) -> Step
+fn module_step(n: Option<Number>, modules: u32, feed: usize) -> Result<Step, Fault>
     ensures { result ≡ module_step n modules feed }
 {
-    match n {
-        Number::None => Step::Fault(4),
-        Number::Is { value, next: _ } => {
-            if value != modules as u64 {
-                return Step::Fault(6);
-            }
-            if MODULES <= modules {
-                return Step::Fault(7);
-            }
-            Step::Module(feed)
-        }
+    let Some(n) = n else {
+        return Err(Fault::BadlyWritten);
+    };
+    if n.value != modules as u64 {
+        return Err(Fault::OutOfPlace);
     }
+    if MODULES <= modules {
+        return Err(Fault::OneTooMany);
+    }
+    Ok(Step::Module(feed))
 }
 
-fn kind_step(n: Number, seen: &[u8], feed: usize) -> Step
+fn kind_step(n: Option<Number>, seen: &[u8], feed: usize) -> Result<Step, Fault>
     ensures { result ≡ kind_step n seen.now feed }
 {
-    match n {
-        Number::None => Step::Fault(4),
-        Number::Is { value, next: _ } => {
-            if NAMES <= value {
-                return Step::Fault(5);
-            }
-            let name = value as usize;
-            if at8(seen, name) != 0 {
-                return Step::Fault(7);
-            }
-            Step::Kind(feed, name)
-        }
+    let Some(n) = n else {
+        return Err(Fault::BadlyWritten);
+    };
+    if NAMES <= n.value {
+        return Err(Fault::OutOfRange);
     }
+    let name = n.value as usize;
+    if byte(seen, name) != 0 {
+        return Err(Fault::OneTooMany);
+    }
+    Ok(Step::Kind(feed, name))
 }
 
 // A line that is well written and in range, by its head.
-fn head_step(s: &[u8], at: usize, feed: usize, modules: u32, items: bool, seen: &[u8]) -> Step
+fn head_step(s: &[u8], at: usize, feed: usize, modules: u32, items: bool, seen: &[u8]) -> Result<Step, Fault>
     ensures { result ≡ head_step s.now at feed modules items seen.now }
 {
     let w = word_at(s, at);
@@ -145,47 +155,45 @@ fn head_step(s: &[u8], at: usize, feed: usize, modules: u32, items: bool, seen: 
         return module_step(number_after(s, w.next), modules, feed);
     }
     if modules == 0 {
-        return Step::Fault(6);
+        return Err(Fault::OutOfPlace);
     }
     if key == keys::KIND {
         if items {
-            return Step::Fault(6);
+            return Err(Fault::OutOfPlace);
         }
         return kind_step(number_after(s, w.next), seen, feed);
     }
     if key == keys::VAL {
         if items {
-            return Step::Fault(6);
+            return Err(Fault::OutOfPlace);
         }
-        return Step::Val(feed);
+        return Ok(Step::Val(feed));
     }
-    Step::Item(feed)
+    Ok(Step::Item(feed))
 }
 
 // The line that starts at a position.
-pub(crate) fn line_step(s: &[u8], at: usize, modules: u32, items: bool, seen: &[u8]) -> Step
+pub(crate) fn line_step(s: &[u8], at: usize, modules: u32, items: bool, seen: &[u8]) -> Result<Step, Fault>
     ensures { result ≡ line_step s.now at modules items seen.now }
 {
-    if !is_open(at8(s, at)) {
-        return Step::Fault(3);
+    if !is_open(byte(s, at)) {
+        return Err(Fault::NotOneForm);
     }
-    match part(s, at, Cat::L, DEPTH) {
-        Parsed::Bad => Step::Fault(not_written(s, at + 1)),
-        Parsed::Good { next, range } => {
-            if !is_feed(at8(s, next)) {
-                return Step::Fault(not_written(s, at + 1));
-            }
-            if !range {
-                return Step::Fault(5);
-            }
-            head_step(s, at + 1, next, modules, items, seen)
-        }
+    let Some(p) = part(s, at, Cat::L, DEPTH) else {
+        return Err(not_written(s, at + 1));
+    };
+    if !is_feed(byte(s, p.next)) {
+        return Err(not_written(s, at + 1));
     }
+    if !p.range {
+        return Err(Fault::OutOfRange);
+    }
+    head_step(s, at + 1, p.next, modules, items, seen)
 }
 
-// The lowest fault of the text on its first faulty line, or how many modules a well formed text has.
-#[derive(Clone, Copy)]
-pub enum Verdict {
-    Refused(u32, u32),
-    Formed(u32),
+// The lowest fault of the text, 1 to 7, on its first faulty line: a text that is refused.
+#[derive(Clone, Copy, Debug, PartialEq, Eq)]
+pub struct Refusal {
+    pub number: u32,
+    pub line: u32,
 }

@@ -1,44 +1,40 @@
 // The tables of a text that is well formed: the kinds of each module's names, and where each module's header, items and end are.
-ghost use Rattle.std.specs.Prelude.{◌≡◌, ◌+◌, ◌*◌, ◌<◌, length, replicate};
+ghost use Rattle.std.specs.Prelude.{◌≡◌, ◌+◌, ◌*◌, ◌<◌, length};
 ghost use Rattle.lines.specs.Tables.{second_behind, second_key, flag_of, entries, marked};
-ghost use Rattle.lines.specs.Pass.{at_first_line, at_fault, behind_module, behind_line, Standing, step_at, behind, seen_behind, kinds_behind, mods_behind, answer_of, fault_row};
+ghost use Rattle.lines.specs.Pass.{at_first_line, behind_module, behind_line, Standing, step_at, behind, entered_number, seen_behind, kinds_behind, mods_behind};
 ghost use Rattle.lines.specs.Read.{step_number};
-ghost use Rattle.lines.specs.Verdict.{number_of, line_of};
 
-use crate::bytes::{at8, is_open, is_space};
+use crate::bytes::{is_open, is_space};
 use crate::keys;
 use crate::parse::{EACH_NAME, Number, kind_of, word_at};
-use crate::read::{Step, Verdict, line_step, number_after};
+use crate::parts::byte;
+use crate::read::{Fault, Refusal, Step, line_step, number_after};
 
 // How long the tables of kinds and of modules' places are.
 pub const KINDS: usize = 32 * EACH_NAME;
 
 pub const MODS: usize = 32 * 4;
 
-fn second_behind(s: &[u8], n: Number) -> u64
+fn second_behind(s: &[u8], n: Option<Number>) -> u64
     ensures { result ≡ second_behind n s.now }
 {
-    match n {
-        Number::None => 0,
-        Number::Is { value: _, next } => {
-            if !is_space(at8(s, next)) {
-                return 0;
-            }
-            let w = word_at(s, next + 1);
-            w.key
-        }
+    let Some(n) = n else {
+        return 0;
+    };
+    if !is_space(byte(s, n.next)) {
+        return 0;
     }
+    word_at(s, n.next + 1).key
 }
 
 // The word behind the number of the form at a position.
 fn second_key(s: &[u8], at: usize) -> u64
     ensures { result ≡ second_key s.now at }
 {
-    if !is_open(at8(s, at)) {
+    if !is_open(byte(s, at)) {
         return 0;
     }
-    let w = word_at(s, at + 1);
-    second_behind(s, number_after(s, w.next))
+    second_behind(s, number_after(s, word_at(s, at + 1).next))
 }
 
 fn flag_of(key: u64) -> u32
@@ -68,7 +64,7 @@ fn mark(mods: &mut [u32], m: usize, first: u32, end: u32)
 }
 
 // Where the reading stands: where the next line begins and which row it is, how many modules there are, whether the last of them
-// has an item, where its items begin so far, and the fault that ended the reading, or 0.
+// has an item, and where its items begin so far.
 #[derive(Clone, Copy)]
 pub(crate) struct Progress {
     pub next: usize,
@@ -76,7 +72,6 @@ pub(crate) struct Progress {
     pub modules: u32,
     pub items: bool,
     pub first: u32,
-    pub fault: u32,
 }
 
 pub(crate) fn start() -> Progress
@@ -88,21 +83,6 @@ pub(crate) fn start() -> Progress
         modules: 0,
         items: false,
         first: 0,
-        fault: 0,
-    }
-}
-
-// A fault ends the reading: nothing is left to read.
-fn stopped(p: Progress, end: usize, fault: u32) -> Progress
-    ensures { result ≡ at_fault p end fault }
-{
-    Progress {
-        next: end,
-        row: p.row,
-        modules: p.modules,
-        items: p.items,
-        first: p.first,
-        fault,
     }
 }
 
@@ -118,7 +98,6 @@ fn behind_module(p: Progress, next: usize, first: u32) -> Progress
         modules: p.modules + 1,
         items: false,
         first,
-        fault: 0,
     }
 }
 
@@ -130,14 +109,13 @@ fn behind_line(p: Progress, next: usize, items: bool, first: u32) -> Progress
     Progress {
         next,
         row: p.row + 1,
-        modules: p.modules,
         items,
         first,
-        fault: 0,
+        ..p
     }
 }
 
-// The line at a position: what it adds is entered into the tables. `seen` has the names with a kind in the last module.
+// The line at a position: what it adds is entered into the tables, which a fault leaves as they are. `seen` has the names with a kind in the last module.
 pub(crate) fn enter_line(
     text: &[u8],
     at: usize,
@@ -145,22 +123,22 @@ pub(crate) fn enter_line(
     seen: &mut [u8],
     kinds: &mut [u8],
     mods: &mut [u32],
-) -> Progress
+) -> Result<Progress, Fault>
     requires { Standing text.now at p seen.old kinds.old mods.old }
-    ensures { (result ≡ behind (step_at text.now at p seen.old) text.now p)
+    ensures { (result ≡ behind (step_at text.now at p seen.old) p)
         × ((seen.new ≡ seen_behind (step_at text.now at p seen.old) seen.old)
         × ((kinds.new ≡ kinds_behind (step_at text.now at p seen.old) text.now at p kinds.old)
         × ((mods.new ≡ mods_behind (step_at text.now at p seen.old) text.now at p mods.old)
-        × (result.fault ≡ step_number (step_at text.now at p seen.old))))) }
+        × (entered_number result ≡ step_number (step_at text.now at p seen.old))))) }
 {
-    match line_step(text, at, p.modules, p.items, seen) {
-        Step::Fault(k) => stopped(p, text.len(), k),
+    let step = line_step(text, at, p.modules, p.items, seen)?;
+    match step {
         Step::Module(feed) => {
             let flag = flag_of(second_key(text, at));
             let first = (feed + 1) as u32;
             enter(mods, p.modules as usize, flag, first);
-            clear_bytes(seen);
-            behind_module(p, feed + 1, first)
+            seen.fill(0);
+            Ok(behind_module(p, feed + 1, first))
         }
         Step::Kind(feed, name) => {
             let k = kind_of(second_key(text, at));
@@ -169,54 +147,23 @@ pub(crate) fn enter_line(
             kinds[m * EACH_NAME + name] = k;
             mark(mods, m, first, first);
             seen[name] = 1;
-            behind_line(p, feed + 1, p.items, first)
+            Ok(behind_line(p, feed + 1, p.items, first))
         }
         Step::Val(feed) => {
             let first = (feed + 1) as u32;
             mark(mods, (p.modules - 1) as usize, first, first);
-            behind_line(p, feed + 1, p.items, first)
+            Ok(behind_line(p, feed + 1, p.items, first))
         }
         Step::Item(feed) => {
             mark(mods, (p.modules - 1) as usize, p.first, (feed + 1) as u32);
-            behind_line(p, feed + 1, true, p.first)
+            Ok(behind_line(p, feed + 1, true, p.first))
         }
     }
 }
 
-// What was found once nothing is left to read.
-pub(crate) fn answer(p: Progress) -> Verdict
-    ensures { (result ≡ answer_of p) × ((number_of result ≡ p.fault) × (line_of result ≡ fault_row p)) }
-{
-    if p.fault == 0 {
-        return Verdict::Formed(p.modules);
-    }
-    Verdict::Refused(p.fault, p.row)
-}
-
-pub(crate) fn clear_bytes(s: &mut [u8])
-    ensures { s.new ≡ replicate (length s.old) 0 }
-{
-    let mut i = 0;
-    while i < s.len() {
-        s[i] = 0;
-        i += 1;
-    }
-}
-
-pub(crate) fn clear_mods(s: &mut [u32])
-    ensures { s.new ≡ replicate (length s.old) 0 }
-{
-    let mut i = 0;
-    while i < s.len() {
-        s[i] = 0;
-        i += 1;
-    }
-}
-
-// The lent tables are too short, the text is refused with a number and a line, or it is accepted and has so many modules.
-#[derive(Clone, Copy)]
-pub enum Read {
+// Why no tables are made: those lent are too short, or the text is refused.
+#[derive(Clone, Copy, Debug, PartialEq, Eq)]
+pub enum ReadError {
     Short,
-    Refused(u32, u32),
-    Accepted(u32),
+    Refused(Refusal),
 }

@@ -72,9 +72,7 @@ fn key(w: &[u8]) -> u64
         return 0;
     }
     let mut k: u64 = 1;
-    let mut i = w.len();
-    while 0 < i {
-        i -= 1;
+    for i in (0..w.len()).rev() {
         k = k * 256 + w[i] as u64;
     }
     k

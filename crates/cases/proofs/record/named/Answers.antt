@@ -2,14 +2,14 @@ use mathlib.Core.Path.{sym, ap, ◌∙◌}
 use Rattle.cases.specs.Stored.{answered, texted, named}
 use Rattle.cases.proofs.record.named.Goals as goal
 
-pub returns-in-None : goal.returns-in-None
+pub returns-in_default : goal.returns-in_default
 unfolding named
-returns-in-None c = ap (texted c.args.s.now c.args.name) (sym c.in-None.is ∙ c.number_after.ensures)
+returns-in_default c = ap (texted c.args.s.now c.args.name) (sym c.in_default.is ∙ c.number_after.ensures)
 
-pub returns-in-None-number_after : goal.returns-in-None-number_after
+pub returns-in_default-2 : goal.returns-in_default-2
 unfolding named
-returns-in-None-number_after c = ap (answered c.args.s.now c.args.name c.in-Is.text) (sym c.in-None-number_after.is ∙ c.number_after-in-Is.ensures) ∙ ap (texted c.args.s.now c.args.name) (sym c.in-Is.is ∙ c.number_after.ensures)
+returns-in_default-2 c = ap (answered c.args.s.now c.args.name c.in-Some.text.value) (sym c.in_default-2.is ∙ c.number_after-2.ensures) ∙ ap (texted c.args.s.now c.args.name) (sym c.in-Some.is ∙ c.number_after.ensures)
 
-pub returns-in-Is-number_after : goal.returns-in-Is-number_after
+pub returns : goal.returns
 unfolding named
-returns-in-Is-number_after c = c.closed.ensures ∙ ap (answered c.args.s.now c.args.name c.in-Is.text) (sym c.in-Is-number_after.is ∙ c.number_after-in-Is.ensures) ∙ ap (texted c.args.s.now c.args.name) (sym c.in-Is.is ∙ c.number_after.ensures)
+returns c = c.closed.ensures ∙ ap (answered c.args.s.now c.args.name c.in-Some.text.value) (sym c.in-Some-2.is ∙ c.number_after-2.ensures) ∙ ap (texted c.args.s.now c.args.name) (sym c.in-Some.is ∙ c.number_after.ensures)

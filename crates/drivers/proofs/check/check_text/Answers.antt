@@ -1,4 +1,5 @@
-use mathlib.Core.Path.{sym}
+use Rattle.std.specs.Prelude.{Err}
+use mathlib.Core.Path.{sym, ap, ◌∙◌}
 use Rattle.drivers.proofs.AnswerLaws.{text_short, own_fits, part_long, text_unread, text_refused, text_accepted}
 use Rattle.drivers.proofs.check.check_text.Goals as goal
 
@@ -8,14 +9,14 @@ returns-then-is_short c = text_short c.args.text.now c.args.report.now c.args.ki
 pub slice_bounds-check_accepted-end : goal.slice_bounds-check_accepted-end
 slice_bounds-check_accepted-end c = own_fits c.args.text.now c.args.report.now c.args.kinds.now c.args.mods.now c.args.names.now c.args.own.now c.args.g.now c.args.w.now c.args.k.now c.is_short.ensures c.if-is_short.false
 
-pub slice_bounds-check_accepted-end-in-Accepted : goal.slice_bounds-check_accepted-end-in-Accepted
-slice_bounds-check_accepted-end-in-Accepted c = sym (part_long c.args.text.now c.args.report.now c.args.kinds.now c.args.mods.now c.args.names.now c.args.own.now c.args.g.now c.args.w.now c.args.k.now c.is_short.ensures c.if-is_short.false)
+pub slice_bounds-check_accepted-end-in-Ok : goal.slice_bounds-check_accepted-end-in-Ok
+slice_bounds-check_accepted-end-in-Ok c = sym (part_long c.args.text.now c.args.report.now c.args.kinds.now c.args.mods.now c.args.names.now c.args.own.now c.args.g.now c.args.w.now c.args.k.now c.is_short.ensures c.if-is_short.false)
 
-pub returns-in-Short : goal.returns-in-Short
-returns-in-Short c = text_unread c.args.text.now c.args.report.now c.args.kinds.now c.args.mods.now c.args.names.now c.args.own.now c.args.g.now c.args.w.now c.args.k.now c.is_short.ensures c.if-is_short.false c.read_text.ensures.value c.in-Short.is
+pub returns-in-Err-Short : goal.returns-in-Err-Short
+returns-in-Err-Short c = text_unread c.args.text.now c.args.report.now c.args.kinds.now c.args.mods.now c.args.names.now c.args.own.now c.args.g.now c.args.w.now c.args.k.now c.is_short.ensures c.if-is_short.false c.read_text.ensures.value (c.in-Err-Short.is ∙ ap Err c.in-Err-Short.field-0-is)
 
-pub returns-in-Refused : goal.returns-in-Refused
-returns-in-Refused c = text_refused c.args.text.now c.args.report.now c.args.kinds.now c.args.mods.now c.args.names.now c.args.own.now c.args.g.now c.args.w.now c.args.k.now c.is_short.ensures c.if-is_short.false c.read_text.ensures.value c.in-Refused.is (c.refuse-in-Refused.ensures c.args.report.now)
+pub returns-in-Err-Refused : goal.returns-in-Err-Refused
+returns-in-Err-Refused c = text_refused c.args.text.now c.args.report.now c.args.kinds.now c.args.mods.now c.args.names.now c.args.own.now c.args.g.now c.args.w.now c.args.k.now c.is_short.ensures c.if-is_short.false c.read_text.ensures.value (c.in-Err-Refused.is ∙ ap Err c.in-Err-Refused.field-0-is) (c.refuse-in-Err-Refused.ensures c.args.report.now)
 
-pub returns-in-Accepted : goal.returns-in-Accepted
-returns-in-Accepted c = text_accepted c.args.text.now c.args.report.now c.args.kinds.now c.args.mods.now c.args.names.now c.args.own.now c.args.g.now c.args.w.now c.args.k.now c.is_short.ensures c.if-is_short.false c.read_text.ensures.value c.in-Accepted.is c.read_text.new.kinds c.read_text.new.mods c.read_text.ensures.kinds_after c.read_text.ensures.mods_after c.read_text.auto.kinds c.read_text.auto.mods c.check_accepted.ensures
+pub returns-in-Ok : goal.returns-in-Ok
+returns-in-Ok c = text_accepted c.args.text.now c.args.report.now c.args.kinds.now c.args.mods.now c.args.names.now c.args.own.now c.args.g.now c.args.w.now c.args.k.now c.is_short.ensures c.if-is_short.false c.read_text.ensures.value c.in-Ok.is c.read_text.new.kinds c.read_text.new.mods c.read_text.ensures.kinds_after c.read_text.ensures.mods_after c.read_text.auto.kinds c.read_text.auto.mods c.check_accepted.ensures

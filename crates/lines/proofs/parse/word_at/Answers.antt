@@ -15,7 +15,7 @@ pub overflow_add-result : goal.overflow_add-result
 overflow_add-result c = omega (arith, cap_below c.loop-k.k c.loop-k-test.true)
 
 pub returns-then-not-is_word : goal.returns-then-not-is_word
-returns-then-not-is_word c = word_stop c.args.s.now c.loop-k.i c.loop-k.code c.loop-k.k c.loop-k-test.true (rw c.at8-c.ensures at (sym c.is_word.ensures ∙ c.if-not-is_word.true)) ∙ sym c.loop-k.invariant.2
+returns-then-not-is_word c = word_stop c.args.s.now c.loop-k.i c.loop-k.code c.loop-k.k c.loop-k-test.true (rw c.byte-c.ensures at (sym c.is_word.ensures ∙ c.if-not-is_word.true)) ∙ sym c.loop-k.invariant.2
 
 pub overflow_mul-code : goal.overflow_mul-code
 overflow_mul-code c = omega (arith, cap_below c.loop-k.k c.loop-k-test.true)
@@ -24,16 +24,10 @@ pub overflow_add-code : goal.overflow_add-code
 overflow_add-code c = let h = word_range _ (sym c.is_word.ensures ∙ c.if-not-is_word.false) in omega (arith, cap_below c.loop-k.k c.loop-k-test.true)
 
 pub overflow_add-i : goal.overflow_add-i
-overflow_add-i c = let h = word_range _ (sym c.is_word.ensures ∙ c.if-not-is_word.false) in let l = inside c.args.s.now c.loop-k.i (λ z. omega (arith, c.at8-c.ensures)) in omega arith
-
-pub overflow_add-k : goal.overflow_add-k
-overflow_add-k c = omega arith
-
-pub loop-k-smaller : goal.loop-k-smaller
-loop-k-smaller c = omega arith
+overflow_add-i c = let h = word_range _ (sym c.is_word.ensures ∙ c.if-not-is_word.false) in let l = inside c.args.s.now c.loop-k.i (λ z. omega (arith, c.byte-c.ensures)) in omega arith
 
 pub loop-k-preserved : goal.loop-k-preserved
-loop-k-preserved c = let h = word_range _ (sym c.is_word.ensures ∙ c.if-not-is_word.false) in (omega arith, cap_step c.loop-k.code _ c.loop-k.k c.loop-k.invariant.1 (omega arith), c.loop-k.invariant.2 ∙ word_more c.args.s.now c.loop-k.i c.loop-k.code c.loop-k.k c.loop-k-test.true (rw c.at8-c.ensures at (sym c.is_word.ensures ∙ c.if-not-is_word.false)) ∙ rw c.at8-c.ensures)
+loop-k-preserved c = let h = word_range _ (sym c.is_word.ensures ∙ c.if-not-is_word.false) in (omega arith, cap_step c.loop-k.code _ c.loop-k.k c.loop-k.invariant.1 (omega arith), c.loop-k.invariant.2 ∙ word_more c.args.s.now c.loop-k.i c.loop-k.code c.loop-k.k c.loop-k-test.true (rw c.byte-c.ensures at (sym c.is_word.ensures ∙ c.if-not-is_word.false)) ∙ rw c.byte-c.ensures)
 
 pub returns : goal.returns
 returns c = word_long c.args.s.now c.loop-k.i c.loop-k.code c.loop-k.k c.loop-k-test.false ∙ sym c.loop-k.invariant.2

@@ -6,6 +6,3 @@ use Rattle.lines.proofs.parse.word_at.Given as goal
 
 abbrev pub invariant-loop-k : goal.invariant-loop-k
 invariant-loop-k l = (l.k ≤ 8) × (l.code < cap l.k) × (word_at l.s l.at ≡ word_from (8 - l.k) l.s l.i l.code l.k)
-
-abbrev pub decreases-loop-k : goal.decreases-loop-k
-decreases-loop-k l = 8 - l.k

@@ -7,6 +7,7 @@ use mathlib.Core.Path.{refl, sym, ap, ◌∙◌}
 use mathlib.Core.List.{[], ◌∷◌}
 use native.Mathlib.Omega.{arith}
 use Rattle.lines.proofs.read.closes.Goals as goal
+use Rattle.lines.proofs.read.closes.Goals.{in-Open+else-k-ge-DEPTH, in-Close+else-k-eq1, in_default}
 
 pub loop-i-init : goal.loop-i-init
 loop-i-init c = (omega arith, omega arith, refl)
@@ -26,38 +27,18 @@ overflow_add-k c = omega arith
 pub overflow_add-i : goal.overflow_add-i
 overflow_add-i c = omega arith
 
-pub loop-i-smaller-in-Open : goal.loop-i-smaller-in-Open
-loop-i-smaller-in-Open c = omega arith
-
-pub loop-i-preserved-in-Open : goal.loop-i-preserved-in-Open
-loop-i-preserved-in-Open c = (omega arith, omega arith, c.loop-i.invariant.2 ∙ closes_open c.args.s.now c.loop-i.i c.loop-i.k c.loop-i-test.true (class_is _ _ Open c.class_of.ensures c.in-Open.is) c.if-k-ge-DEPTH.false)
-
-pub overflow_add-i-then-k-eq1 : goal.overflow_add-i-then-k-eq1
-overflow_add-i-then-k-eq1 c = omega arith
-
 pub returns-then-k-eq1 : goal.returns-then-k-eq1
-returns-then-k-eq1 c = c.is_feed.ensures ∙ ap (λ (x : ℕ). eqb x 10) c.at8.ensures ∙ closes_last c.args.s.now c.loop-i.i c.loop-i.k c.loop-i-test.true (class_is _ _ Close c.class_of.ensures c.in-Close.is) c.if-k-eq1.true ∙ sym c.loop-i.invariant.2
+returns-then-k-eq1 c = c.is_feed.ensures ∙ ap (λ (x : ℕ). eqb x 10) c.byte.ensures ∙ closes_last c.args.s.now c.loop-i.i c.loop-i.k c.loop-i-test.true (class_is _ _ Close c.class_of.ensures c.in-Close.is) c.if-k-eq1.true ∙ sym c.loop-i.invariant.2
 
 pub overflow_sub-k : goal.overflow_sub-k
 overflow_sub-k c = omega arith
 
-pub overflow_add-i-in-Close : goal.overflow_add-i-in-Close
-overflow_add-i-in-Close c = omega arith
-
-pub loop-i-smaller-in-Close : goal.loop-i-smaller-in-Close
-loop-i-smaller-in-Close c = omega arith
-
-pub loop-i-preserved-in-Close : goal.loop-i-preserved-in-Close
-loop-i-preserved-in-Close c = (omega arith, omega arith, c.loop-i.invariant.2 ∙ closes_shut c.args.s.now c.loop-i.i c.loop-i.k c.loop-i-test.true (class_is _ _ Close c.class_of.ensures c.in-Close.is) c.if-k-eq1.false)
-
-pub overflow_add-i-in_default : goal.overflow_add-i-in_default
-overflow_add-i-in_default c = omega arith
-
-pub loop-i-smaller : goal.loop-i-smaller
-loop-i-smaller c = omega arith
-
 pub loop-i-preserved : goal.loop-i-preserved
-loop-i-preserved c = (c.loop-i.invariant.0, c.loop-i.invariant.1, c.loop-i.invariant.2 ∙ closes_plain c.args.s.now c.loop-i.i c.loop-i.k c.loop-i-test.true (not_feed (0 ∷ 3 ∷ 4 ∷ 5 ∷ 7 ∷ 8 ∷ []) _ _ c.class_of.ensures c.in_default.in_default-own.keys4 tt) (not_open (0 ∷ 3 ∷ 4 ∷ 5 ∷ 7 ∷ 8 ∷ []) _ _ c.class_of.ensures c.in_default.in_default-own.keys4 tt) (not_close (0 ∷ 3 ∷ 4 ∷ 5 ∷ 7 ∷ 8 ∷ []) _ _ c.class_of.ensures c.in_default.in_default-own.keys4 tt))
+loop-i-preserved c = elim c.match-class_of.branch [
+  | in-Open+else-k-ge-DEPTH w ↦ rw w.k-is (omega arith, omega arith, c.loop-i.invariant.2 ∙ closes_open c.args.s.now c.loop-i.i c.loop-i.k c.loop-i-test.true (class_is _ _ Open c.class_of.ensures w.in-Open.is) w.if-k-ge-DEPTH.false)
+  | in-Close+else-k-eq1 w ↦ rw w.k-is (omega arith, omega arith, c.loop-i.invariant.2 ∙ closes_shut c.args.s.now c.loop-i.i c.loop-i.k c.loop-i-test.true (class_is _ _ Close c.class_of.ensures w.in-Close.is) w.if-k-eq1.false)
+  | in_default w ↦ rw w.k-is (c.loop-i.invariant.0, c.loop-i.invariant.1, c.loop-i.invariant.2 ∙ closes_plain c.args.s.now c.loop-i.i c.loop-i.k c.loop-i-test.true (not_feed (0 ∷ 3 ∷ 4 ∷ 5 ∷ 7 ∷ 8 ∷ []) _ _ c.class_of.ensures w.in_default.in_default-own.keys4 tt) (not_open (0 ∷ 3 ∷ 4 ∷ 5 ∷ 7 ∷ 8 ∷ []) _ _ c.class_of.ensures w.in_default.in_default-own.keys4 tt) (not_close (0 ∷ 3 ∷ 4 ∷ 5 ∷ 7 ∷ 8 ∷ []) _ _ c.class_of.ensures w.in_default.in_default-own.keys4 tt))
+]
 
 pub returns : goal.returns
 returns c = closes_end c.args.s.now c.loop-i.i c.loop-i.k c.loop-i-test.false ∙ sym c.loop-i.invariant.2

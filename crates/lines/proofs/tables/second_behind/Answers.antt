@@ -7,10 +7,10 @@ use Rattle.lines.proofs.Laws.{byte_is, byte_not}
 use Rattle.lines.proofs.tables.second_behind.Goals as goal
 
 pub returns-then-not-is_space : goal.returns-then-not-is_space
-returns-then-not-is_space c = rw c.in-Is.is (sym (second_not c.args.s.now 0 _ (byte_not _ _ _ 32 c.is_space.ensures c.at8.ensures c.if-not-is_space.true)))
+returns-then-not-is_space c = rw c.in-Some.is (sym (second_not c.args.s.now 0 _ (byte_not _ _ _ 32 c.is_space.ensures c.byte.ensures c.if-not-is_space.true)))
 
-pub overflow_add-next : goal.overflow_add-next
-overflow_add-next c = let h = inside c.args.s.now c.in-Is.next (λ e. omega (arith, byte_is _ _ _ 32 c.is_space.ensures c.at8.ensures c.if-not-is_space.false)) in omega arith
+pub overflow_add-n : goal.overflow_add-n
+overflow_add-n c = let h = inside c.args.s.now c.in-Some.n.next (λ e. omega (arith, byte_is _ _ _ 32 c.is_space.ensures c.byte.ensures c.if-not-is_space.false)) in omega arith
 
-pub returns-else-not-is_space : goal.returns-else-not-is_space
-returns-else-not-is_space c = rw c.in-Is.is (ap (λ (w : Word). w.key) c.word_at-w.ensures ∙ sym (second_here c.args.s.now 0 _ (byte_is _ _ _ 32 c.is_space.ensures c.at8.ensures c.if-not-is_space.false)))
+pub returns : goal.returns
+returns c = rw c.in-Some.is (ap (λ (w : Word). w.key) c.word_at.ensures ∙ sym (second_here c.args.s.now 0 _ (byte_is _ _ _ 32 c.is_space.ensures c.byte.ensures c.if-not-is_space.false)))

@@ -11,9 +11,6 @@ returns-then-w-gt7 c = key_long c.args.w.now c.if-w-gt7.true
 pub loop-i-init : goal.loop-i-init
 loop-i-init c = (omega arith, key_none c.args.w.now (length c.args.w.now) refl, omega (arith, limit_one (length c.args.w.now)))
 
-pub overflow_sub-i : goal.overflow_sub-i
-overflow_sub-i c = omega arith
-
 pub overflow_mul-k : goal.overflow_mul-k
 overflow_mul-k c = omega (arith, key_fits (length c.args.w.now - c.loop-i.i) (omega arith))
 
@@ -22,9 +19,6 @@ bounds-w-i c = omega arith
 
 pub overflow_add-k : goal.overflow_add-k
 overflow_add-k c = omega (arith, key_fits (length c.args.w.now - c.loop-i.i) (omega arith), c.shared_slice_known-1.given (c.loop-i.i - 1))
-
-pub loop-i-smaller : goal.loop-i-smaller
-loop-i-smaller c = omega arith
 
 pub loop-i-preserved : goal.loop-i-preserved
 loop-i-preserved c = (omega arith, key_step c.args.w.now c.loop-i.i (c.loop-i.i - 1) (omega arith) (omega arith) c.loop-i.invariant.1, omega (arith, limit_step (length c.args.w.now) c.loop-i.i (c.loop-i.i - 1) (omega arith) (omega arith), c.shared_slice_known-1.given (c.loop-i.i - 1)))

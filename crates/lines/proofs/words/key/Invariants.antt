@@ -7,6 +7,3 @@ use Rattle.lines.proofs.words.key.Given as goal
 
 abbrev pub invariant-loop-i : goal.invariant-loop-i
 invariant-loop-i l = (l.i ≤ length l.w) × (l.k ≡ key (drop l.i l.w)) × (l.k < key_limit (length l.w - l.i))
-
-abbrev pub decreases-loop-i : goal.decreases-loop-i
-decreases-loop-i l = l.i
