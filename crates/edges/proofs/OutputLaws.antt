@@ -26,9 +26,9 @@ use Rattle.graph.specs.Table.{unbiased}
 use Rattle.graph.specs.Stands.{Stands, Headed}
 use Rattle.graph.specs.declared.Added as A
 use Rattle.graph.specs.declared.Added.TheVariants as added
-use Rattle.consteval.specs.Worth.{worth}
-use Rattle.consteval.specs.declared.Value.{Value as Answer}
-use Rattle.consteval.specs.declared.Value.TheVariants.{Known, Missing, Outside}
+use Rattle.std.specs.Prelude.{Some, None, Ok, Err}
+use Rattle.consteval.specs.declared.Outside.{Outside}
+use Rattle.consteval.specs.Worth.{Answer, worth}
 use Rattle.lines.specs.Parts.{part_end, piece, follows}
 use Rattle.edges.specs.Reads.{KindsOf, ReadAll, HeadAll}
 use Rattle.edges.specs.Shows.{ExprRead}
@@ -247,13 +247,13 @@ module _ (o : ℕ) (s : Summary) (x : Bytes) (a d : ℕ) (kinds : List ℕ) (nam
 -- ---- `output_node`
 
 module _ (i o : ℕ) (v : Answer) where
-  pub node_known : {y : ℕ} → v ≡ Known y → inst_out i (some (unbiased y)) o ≡ inst_out i (index_of (worth v)) o
+  pub node_known : {y : ℕ} → v ≡ Ok (Some y) → inst_out i (some (unbiased y)) o ≡ inst_out i (index_of (worth v)) o
   node_known {y} e = sym (ap (λ (u : Answer). inst_out i (index_of (worth u)) o) e ∙ ap (λ (z : ℤ). inst_out i (some z) o) (same_word y))
 
-  pub node_missing : v ≡ Missing → inst_out i none o ≡ inst_out i (index_of (worth v)) o
+  pub node_missing : v ≡ Ok None → inst_out i none o ≡ inst_out i (index_of (worth v)) o
   node_missing e = sym (ap (λ (u : Answer). inst_out i (index_of (worth u)) o) e)
 
-  pub node_outside : v ≡ Outside → inst_out i none o ≡ inst_out i (index_of (worth v)) o
+  pub node_outside : {f : Outside} → v ≡ Err f → inst_out i none o ≡ inst_out i (index_of (worth v)) o
   node_outside e = sym (ap (λ (u : Answer). inst_out i (index_of (worth u)) o) e)
 
 -- ---- `output_head`
