@@ -8,16 +8,15 @@ use lib.Dec.{ltb}
 use lib.IntN.{pos, negsuc}
 use borrow.Author.Tests.{ltb-true, ltb-false}
 use Rattle.spec.specs.Value.{Value}
-use Rattle.consteval.specs.Worth.{worth, biased}
-use Rattle.consteval.specs.declared.Value.{Value as Answer}
-use Rattle.consteval.specs.declared.Value.TheVariants.{Known}
+use Rattle.std.specs.Prelude.{Some, Ok}
+use Rattle.consteval.specs.Worth.{Answer, worth, biased}
 use Rattle.bench_c.specs.Eval.{code}
 
 by_test : (x : ℕ) (b : Bool) → ltb x 2147483648 ≡ b → biased (cond b (negsuc (2147483648 - suc x)) (pos (x - 2147483648))) ≡ x
 by_test x true e = omega (arith, ltb-true x 2147483648 e)
 by_test x false e = omega (arith, ltb-false x 2147483648 e)
 
-pub known_code : (x : ℕ) (a : Answer) (v : Value) → a ≡ Known x → worth a ≡ v → x ≡ code v
+pub known_code : (x : ℕ) (a : Answer) (v : Value) → a ≡ Ok (Some x) → worth a ≡ v → x ≡ code v
 known_code x a v e w = sym (by_test x (ltb x 2147483648) refl) ∙ ap (λ z. code (worth z)) (sym e) ∙ ap code w
 
 pub other_code : (a b : Answer) (v : Value) → a ≡ b → worth a ≡ v → code (worth b) ≡ code v

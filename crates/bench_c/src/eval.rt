@@ -5,7 +5,6 @@ ghost use Rattle.spec.specs.Value.{value};
 ghost use Rattle.consteval.specs.Worth.{names_of};
 ghost use Rattle.bench_c.specs.Eval.{allowed, code};
 
-use consteval::Value;
 
 // A depth that no bytes can turn into a full stack: 32, the brackets of the line format, for a greater one.
 fn bounded(depth: u32) -> u32
@@ -21,8 +20,8 @@ pub extern "C" fn drivercheck_eval(e: &[u8], depth: u32, names: &[u32], used: us
     ensures { result ≡ code (value (names_of names.now used) (decode_expr (allowed depth) e.now)) }
 {
     match consteval::eval(e, bounded(depth), names, used) {
-        Value::Known(x) => x as u64,
-        Value::Missing => 4294967296,
-        Value::Outside => 4294967297,
+        Ok(Some(x)) => x as u64,
+        Ok(None) => 4294967296,
+        Err(_) => 4294967297,
     }
 }

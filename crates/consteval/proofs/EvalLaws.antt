@@ -9,6 +9,7 @@ use lib.IntN.{ℤ, pos}
 use lib.ListN.{length, get_or, set}
 use lib.Dec.{eqb, ltb}
 use borrow.Author.Tests.{eq-eqb, ne_eqb, lt-ltb, le-ltb, ltb-true, ltb-false}
+use Rattle.std.specs.Prelude.{Option, Some, None as no_parts, Ok, Err}
 use Rattle.spec.specs.Bytes.{Bytes, lookup_word, number, is_form, parts}
 use Rattle.spec.specs.Syntax.{Expr, lit, truth, name, field, index, if_else, unary, binary, neg, not, clog2, add, sub, mul, eq, ne, lt, le, gt, ge, and, or, shl, shr, band, bor, bxor}
 use Rattle.spec.specs.Decode.{with_one, with_two, with_three, by_head, ExprHead, expr_heads, no_expr, no_value, expr_by, decode_atom, decode_expr}
@@ -18,17 +19,10 @@ use Rattle.lines.specs.Words.{word_of}
 use Rattle.lines.proofs.WordTables.{expr_head, on_word}
 use Rattle.lines.proofs.PartLaws.{others, parts_form, one_is, one_not, two_is, two_not, three_is, three_not}
 use Rattle.lines.proofs.WordLaws.{expr_words, truth_word}
-use Rattle.lines.specs.declared.parts.Single.{Single}
-use Rattle.lines.specs.declared.parts.Single.TheVariants.{Is, Not as not_one}
-use Rattle.lines.specs.declared.parts.Pair.{Pair}
-use Rattle.lines.specs.declared.parts.Pair.TheVariants.{Are as two, Not as not_two}
-use Rattle.lines.specs.declared.parts.Triple.{Triple}
-use Rattle.lines.specs.declared.parts.Triple.TheVariants.{Are as three, Not as not_three}
 use Rattle.lines.specs.declared.words.Word.{Word}
 use Rattle.lines.specs.declared.words.Word.TheVariants.{N as NWord, F as FWord, Ix as IxWord, If as IfWord, All as AllWord, Neg as NegWord, Not as NotWord, Clog2 as Clog2Word, Add as AddWord, Sub as SubWord, Mul as MulWord, Eq as EqWord, Ne as NeWord, Lt as LtWord, Le as LeWord, Gt as GtWord, Ge as GeWord, And as AndWord, Or as OrWord, Shl as ShlWord, Shr as ShrWord, Band as BandWord, Bor as BorWord, Bxor as BxorWord, True as TrueWord, False as FalseWord, Bit as BitWord, Opaque as OpaqueWord, Bits as BitsWord, Signed as SignedWord, Lv as LvWord, Set as SetWord, Default as DefaultWord, Loop as LoopWord, When as WhenWord, Then as ThenWord, Else as ElseWord, Conn as ConnWord, Dash as DashWord, Port as PortWord, Wire as WireWord, Reg as RegWord, Mem as MemWord, Const as ConstWord, Drive as DriveWord, On as OnWord, Inst as InstWord, Repeat as RepeatWord, ConstIf as ConstIfWord, In as InWord, Out as OutWord, Module as ModuleWord, Kind as KindWord, Val as ValWord, Bound as BoundWord, Unbound as UnboundWord, Other as OtherWord}
-use Rattle.consteval.specs.Worth.{signed, worth, pairs, names_of, unary_of, binary_of, shape, room, pushed}
-use Rattle.consteval.specs.declared.Value.{Value as Answer}
-use Rattle.consteval.specs.declared.Value.TheVariants.{Known, Missing, Outside}
+use Rattle.consteval.specs.Worth.{Answer, signed, worth, pairs, names_of, unary_of, binary_of, shape, room, pushed}
+use Rattle.consteval.specs.declared.Outside.{Outside}
 use Rattle.consteval.specs.declared.shape.Unary.{Unary as OneWord}
 use Rattle.consteval.specs.declared.shape.Binary.{Binary as TwoWord}
 use Rattle.consteval.specs.declared.shape.Shape.{Shape}
@@ -135,6 +129,15 @@ atom_word names n OtherWord = refl
 pub atom_law : (names : Names) (s : Bytes) → value names (decode_atom s) ≡ by_atom (shape (word_of s)) (number s)
 unfolding decode_atom
 atom_law names s = ap (value names) (truth_word (truth true) (truth false) (lit (number s)) s) ∙ atom_word names (number s) (word_of s)
+
+pub other_atom : (k : Shape) (n : ℕ) → (k ≡ True → ⊥) → (k ≡ False → ⊥) → within (pos n) ≡ by_atom k n
+other_atom Name n f g = refl
+other_atom If n f g = refl
+other_atom (One o) n f g = refl
+other_atom (Two o) n f g = refl
+other_atom True n f g = absurd (f refl)
+other_atom False n f g = absurd (g refl)
+other_atom None n f g = refl
 
 -- ---- forms, by the shape of the head word
 value_one : (names : Names) (g : Bytes → Expr) (ps : List Bytes) → value names (with_one no_value g ps) ≡ with_one missing (λ a. value names (g a)) ps
@@ -278,113 +281,113 @@ module _ (names : Names) (s : Bytes) (d : ℕ) where
             ∙ sym (ap (value names) (decode_form d s (form_test s ∙ eq-eqb (get_or s 0 0) 40 b) ∙ head_parts expr_heads no_expr no_value (expr_by (decode_expr d)) s form_parts))
 
     -- what a name is worth
-    module _ (e : k ≡ Name) {r : Single} (q : r ≡ single_of s h) where
+    module _ (e : k ≡ Name) {r : Option ℕ} (q : r ≡ single_of s h) where
       name_step : with_one missing (λ n. value_of_name names (number n)) (others s h) ≡ value names (decode_expr d s)
       name_step = ap (λ (x : Shape). by_shape names (decode_expr (d - 1)) x (others s h)) (sym e) ∙ step
 
-      pub name_is : {a : ℕ} → r ≡ Is a → value_of_name names (number (piece s h a)) ≡ value names (decode_expr d s)
+      pub name_is : {a : ℕ} → r ≡ Some a → value_of_name names (number (piece s h a)) ≡ value names (decode_expr d s)
       name_is p = sym (one_is missing s h (λ n. value_of_name names (number n)) q p) ∙ name_step
 
-      pub name_not : r ≡ not_one → missing ≡ value names (decode_expr d s)
+      pub name_not : r ≡ no_parts → missing ≡ value names (decode_expr d s)
       name_not p = sym (one_not missing s h (λ n. value_of_name names (number n)) q p) ∙ name_step
 
     -- an operator with one operand
-    module _ {o : OneWord} (e : k ≡ One o) {r : Single} (q : r ≡ single_of s h) where
+    module _ {o : OneWord} (e : k ≡ One o) {r : Option ℕ} (q : r ≡ single_of s h) where
       abbrev one_value : Bytes → Value
       one_value a = and_then (value names (decode_expr (d - 1) a)) (unary_value (unary_of o))
 
       one_step : with_one missing one_value (others s h) ≡ value names (decode_expr d s)
       one_step = ap (λ (x : Shape). by_shape names (decode_expr (d - 1)) x (others s h)) (sym e) ∙ step
 
-      pub one_wrong : r ≡ not_one → missing ≡ value names (decode_expr d s)
+      pub one_wrong : r ≡ no_parts → missing ≡ value names (decode_expr d s)
       one_wrong p = sym (one_not missing s h one_value q p) ∙ one_step
 
-      module _ {a : ℕ} (p : r ≡ Is a) {t : Bytes} (qt : t ≡ piece s h a) (v : Answer) (qv : worth v ≡ value names (decode_expr (d - 1) t)) where
+      module _ {a : ℕ} (p : r ≡ Some a) {t : Bytes} (qt : t ≡ piece s h a) (v : Answer) (qv : worth v ≡ value names (decode_expr (d - 1) t)) where
         one_then : and_then (worth v) (unary_value (unary_of o)) ≡ value names (decode_expr d s)
         one_then = ap (λ (x : Value). and_then x (unary_value (unary_of o))) (qv ∙ ap (λ (x : Bytes). value names (decode_expr (d - 1) x)) qt) ∙ sym (one_is missing s h one_value q p) ∙ one_step
 
-        pub one_known : {x : ℕ} → v ≡ Known x → unary_value (unary_of o) (signed x) ≡ value names (decode_expr d s)
+        pub one_known : {x : ℕ} → v ≡ Ok (Some x) → unary_value (unary_of o) (signed x) ≡ value names (decode_expr d s)
         one_known f = sym (ap (λ (x : Answer). and_then (worth x) (unary_value (unary_of o))) f) ∙ one_then
 
-        pub one_missing : v ≡ Missing → missing ≡ value names (decode_expr d s)
+        pub one_missing : v ≡ Ok no_parts → missing ≡ value names (decode_expr d s)
         one_missing f = sym (ap (λ (x : Answer). and_then (worth x) (unary_value (unary_of o))) f) ∙ one_then
 
-        pub one_outside : v ≡ Outside → outside ≡ value names (decode_expr d s)
+        pub one_outside : {e : Outside} → v ≡ Err e → outside ≡ value names (decode_expr d s)
         one_outside f = sym (ap (λ (x : Answer). and_then (worth x) (unary_value (unary_of o))) f) ∙ one_then
 
     -- an operator with two operands
-    module _ {o : TwoWord} (e : k ≡ Two o) {r : Pair} (q : r ≡ pair_of s h) where
+    module _ {o : TwoWord} (e : k ≡ Two o) {r : Option (ℕ × ℕ)} (q : r ≡ pair_of s h) where
       abbrev two_value : Bytes → Bytes → Value
       two_value a b = and_then (value names (decode_expr (d - 1) a)) (λ x. and_then (value names (decode_expr (d - 1) b)) (binary_value (binary_of o) x))
 
       two_step : with_two missing two_value (others s h) ≡ value names (decode_expr d s)
       two_step = ap (λ (x : Shape). by_shape names (decode_expr (d - 1)) x (others s h)) (sym e) ∙ step
 
-      pub two_wrong : r ≡ not_two → missing ≡ value names (decode_expr d s)
+      pub two_wrong : r ≡ no_parts → missing ≡ value names (decode_expr d s)
       two_wrong p = sym (two_not missing s h two_value q p) ∙ two_step
 
-      module _ {a c : ℕ} (p : r ≡ two a c) {t : Bytes} (qt : t ≡ piece s h a) (v : Answer) (qv : worth v ≡ value names (decode_expr (d - 1) t)) where
+      module _ {a c : ℕ} (p : r ≡ Some (a, c)) {t : Bytes} (qt : t ≡ piece s h a) (v : Answer) (qv : worth v ≡ value names (decode_expr (d - 1) t)) where
         abbrev second : ℤ → Value
         second x = and_then (value names (decode_expr (d - 1) (piece s a c))) (binary_value (binary_of o) x)
 
         two_then : and_then (worth v) second ≡ value names (decode_expr d s)
         two_then = ap (λ (x : Value). and_then x second) (qv ∙ ap (λ (x : Bytes). value names (decode_expr (d - 1) x)) qt) ∙ sym (two_is missing s h two_value q p) ∙ two_step
 
-        pub two_missing : v ≡ Missing → missing ≡ value names (decode_expr d s)
+        pub two_missing : v ≡ Ok no_parts → missing ≡ value names (decode_expr d s)
         two_missing f = sym (ap (λ (x : Answer). and_then (worth x) second) f) ∙ two_then
 
-        pub two_outside : v ≡ Outside → outside ≡ value names (decode_expr d s)
+        pub two_outside : {e : Outside} → v ≡ Err e → outside ≡ value names (decode_expr d s)
         two_outside f = sym (ap (λ (x : Answer). and_then (worth x) second) f) ∙ two_then
 
-        module _ {x : ℕ} (f : v ≡ Known x) {u : Bytes} (qu : u ≡ piece s a c) (y : Answer) (qy : worth y ≡ value names (decode_expr (d - 1) u)) where
+        module _ {x : ℕ} (f : v ≡ Ok (Some x)) {u : Bytes} (qu : u ≡ piece s a c) (y : Answer) (qy : worth y ≡ value names (decode_expr (d - 1) u)) where
           both_then : and_then (worth y) (binary_value (binary_of o) (signed x)) ≡ value names (decode_expr d s)
           both_then =
               ap (λ (z : Value). and_then z (binary_value (binary_of o) (signed x))) (qy ∙ ap (λ (z : Bytes). value names (decode_expr (d - 1) z)) qu)
               ∙ sym (ap (λ (z : Answer). and_then (worth z) second) f) ∙ two_then
 
-          pub both_known : {z : ℕ} → y ≡ Known z → binary_value (binary_of o) (signed x) (signed z) ≡ value names (decode_expr d s)
+          pub both_known : {z : ℕ} → y ≡ Ok (Some z) → binary_value (binary_of o) (signed x) (signed z) ≡ value names (decode_expr d s)
           both_known g = sym (ap (λ (z : Answer). and_then (worth z) (binary_value (binary_of o) (signed x))) g) ∙ both_then
 
-          pub both_missing : y ≡ Missing → missing ≡ value names (decode_expr d s)
+          pub both_missing : y ≡ Ok no_parts → missing ≡ value names (decode_expr d s)
           both_missing g = sym (ap (λ (z : Answer). and_then (worth z) (binary_value (binary_of o) (signed x))) g) ∙ both_then
 
-          pub both_outside : y ≡ Outside → outside ≡ value names (decode_expr d s)
+          pub both_outside : {e : Outside} → y ≡ Err e → outside ≡ value names (decode_expr d s)
           both_outside g = sym (ap (λ (z : Answer). and_then (worth z) (binary_value (binary_of o) (signed x))) g) ∙ both_then
 
     -- `if`
-    module _ (e : k ≡ If) {r : Triple} (q : r ≡ triple_of s h) where
+    module _ (e : k ≡ If) {r : Option (ℕ × ℕ × ℕ)} (q : r ≡ triple_of s h) where
       abbrev if_value : Bytes → Bytes → Bytes → Value
       if_value c a b = and_then (value names (decode_expr (d - 1) c)) (λ x. elim (is_zero x) [ true ↦ value names (decode_expr (d - 1) b) | false ↦ value names (decode_expr (d - 1) a) ])
 
       if_step : with_three missing if_value (others s h) ≡ value names (decode_expr d s)
       if_step = ap (λ (x : Shape). by_shape names (decode_expr (d - 1)) x (others s h)) (sym e) ∙ step
 
-      pub if_wrong : r ≡ not_three → missing ≡ value names (decode_expr d s)
+      pub if_wrong : r ≡ no_parts → missing ≡ value names (decode_expr d s)
       if_wrong p = sym (three_not missing s h if_value q p) ∙ if_step
 
-      module _ {i j l : ℕ} (p : r ≡ three i j l) {t : Bytes} (qt : t ≡ piece s h i) (v : Answer) (qv : worth v ≡ value names (decode_expr (d - 1) t)) where
+      module _ {i j l : ℕ} (p : r ≡ Some (i, j, l)) {t : Bytes} (qt : t ≡ piece s h i) (v : Answer) (qv : worth v ≡ value names (decode_expr (d - 1) t)) where
         abbrev branch : ℤ → Value
         branch x = elim (is_zero x) [ true ↦ value names (decode_expr (d - 1) (piece s j l)) | false ↦ value names (decode_expr (d - 1) (piece s i j)) ]
 
         if_then : and_then (worth v) branch ≡ value names (decode_expr d s)
         if_then = ap (λ (x : Value). and_then x branch) (qv ∙ ap (λ (x : Bytes). value names (decode_expr (d - 1) x)) qt) ∙ sym (three_is missing s h if_value q p) ∙ if_step
 
-        pub if_missing : v ≡ Missing → missing ≡ value names (decode_expr d s)
+        pub if_missing : v ≡ Ok no_parts → missing ≡ value names (decode_expr d s)
         if_missing f = sym (ap (λ (x : Answer). and_then (worth x) branch) f) ∙ if_then
 
-        pub if_outside : v ≡ Outside → outside ≡ value names (decode_expr d s)
+        pub if_outside : {e : Outside} → v ≡ Err e → outside ≡ value names (decode_expr d s)
         if_outside f = sym (ap (λ (x : Answer). and_then (worth x) branch) f) ∙ if_then
 
-        if_known : {x : ℕ} → v ≡ Known x → branch (signed x) ≡ value names (decode_expr d s)
+        if_known : {x : ℕ} → v ≡ Ok (Some x) → branch (signed x) ≡ value names (decode_expr d s)
         if_known f = sym (ap (λ (x : Answer). and_then (worth x) branch) f) ∙ if_then
 
-        pub if_zero : {x : ℕ} → v ≡ Known x → x ≡ 2147483648 → {u : Bytes} → u ≡ piece s j l → value names (decode_expr (d - 1) u) ≡ value names (decode_expr d s)
+        pub if_zero : {x : ℕ} → v ≡ Ok (Some x) → x ≡ 2147483648 → {u : Bytes} → u ≡ piece s j l → value names (decode_expr (d - 1) u) ≡ value names (decode_expr d s)
         if_zero {x} f z qu = ap (λ (x : Bytes). value names (decode_expr (d - 1) x)) qu ∙ take_else (is_zero (signed x)) (zero_test x ∙ eq-eqb x 2147483648 z) ∙ if_known f
           where
             take_else : (b : Bool) → b ≡ true → value names (decode_expr (d - 1) (piece s j l)) ≡ elim b as (λ _. Value) [ true ↦ value names (decode_expr (d - 1) (piece s j l)) | false ↦ value names (decode_expr (d - 1) (piece s i j)) ]
             take_else b e = rw e
 
-        pub if_other : {x : ℕ} → v ≡ Known x → (x ≡ 2147483648 → ⊥) → {u : Bytes} → u ≡ piece s i j → value names (decode_expr (d - 1) u) ≡ value names (decode_expr d s)
+        pub if_other : {x : ℕ} → v ≡ Ok (Some x) → (x ≡ 2147483648 → ⊥) → {u : Bytes} → u ≡ piece s i j → value names (decode_expr (d - 1) u) ≡ value names (decode_expr d s)
         if_other {x} f z qu = ap (λ (x : Bytes). value names (decode_expr (d - 1) x)) qu ∙ take_then (is_zero (signed x)) (zero_test x ∙ ne_eqb x 2147483648 z) ∙ if_known f
           where
             take_then : (b : Bool) → b ≡ false → value names (decode_expr (d - 1) (piece s i j)) ≡ elim b as (λ _. Value) [ true ↦ value names (decode_expr (d - 1) (piece s j l)) | false ↦ value names (decode_expr (d - 1) (piece s i j)) ]

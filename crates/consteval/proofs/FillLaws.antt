@@ -11,6 +11,7 @@ use lib.ListN.{length, take, drop, get_or, set, length-drop, length-set, drop_of
 use lib.Seq.{drop-cons, drop-drop}
 use lib.Dec.{eqb, ltb}
 use borrow.Author.Tests.{ne_eqb, lt-ltb, le-ltb, ltb-true, ltb-false}
+use Rattle.std.specs.Prelude.{Option, Some, None, Ok, Err}
 use Rattle.spec.specs.Bytes.{Bytes, bytes, onto, parts, number, number_after, negated, integer}
 use Rattle.spec.specs.Syntax.{Item, Items, item_line}
 use Rattle.spec.specs.Decode.{with_one, with_two, with_three, with_four, ItemHead, item_heads, no_item, nothing, items_in, on_by, inst_by, repeat_by, item_by, decode_expr, decode_item, depth_limit, LineHead, module_head, kind_head, val_head, item_head, line_by, decode_line, by_head}
@@ -22,16 +23,13 @@ use Rattle.lines.specs.Words.{word_of}
 use Rattle.lines.proofs.WordTables.{line_head, item_head_of}
 use Rattle.lines.proofs.PartLaws.{others, parts_form, two_is, two_not}
 use Rattle.lines.proofs.WordLaws.{line_words, item_words}
-use Rattle.lines.specs.declared.parts.Pair.{Pair}
-use Rattle.lines.specs.declared.parts.Pair.TheVariants.{Are as two, Not as not_two}
 use Rattle.lines.specs.declared.words.Word.{Word}
 use Rattle.lines.specs.declared.words.Word.TheVariants.{N as NWord, F as FWord, Ix as IxWord, If as IfWord, All as AllWord, Neg as NegWord, Not as NotWord, Clog2 as Clog2Word, Add as AddWord, Sub as SubWord, Mul as MulWord, Eq as EqWord, Ne as NeWord, Lt as LtWord, Le as LeWord, Gt as GtWord, Ge as GeWord, And as AndWord, Or as OrWord, Shl as ShlWord, Shr as ShrWord, Band as BandWord, Bor as BorWord, Bxor as BxorWord, True as TrueWord, False as FalseWord, Bit as BitWord, Opaque as OpaqueWord, Bits as BitsWord, Signed as SignedWord, Lv as LvWord, Set as SetWord, Default as DefaultWord, Loop as LoopWord, When as WhenWord, Then as ThenWord, Else as ElseWord, Conn as ConnWord, Dash as DashWord, Port as PortWord, Wire as WireWord, Reg as RegWord, Mem as MemWord, Const as ConstWord, Drive as DriveWord, On as OnWord, Inst as InstWord, Repeat as RepeatWord, ConstIf as ConstIfWord, In as InWord, Out as OutWord, Module as ModuleWord, Kind as KindWord, Val as ValWord, Bound as BoundWord, Unbound as UnboundWord, Other as OtherWord}
 use Rattle.consteval.specs.Worth.{signed, names_of, room, pushed, biased}
-use Rattle.consteval.specs.Fill.{feed, line_end, role, held, val_of_line, const_of_item, const_of_line, Filling, filling, by_entry, vals_of, consts_of, then_consts, fill_of}
-use Rattle.consteval.specs.declared.fill.Filled.{Filled}
-use Rattle.consteval.specs.declared.fill.Filled.TheVariants.{Used, Outside as Left, Short, Bad as Wrong}
-use Rattle.consteval.specs.declared.fill.Entry.{Entry}
-use Rattle.consteval.specs.declared.fill.Entry.TheVariants.{Skip, Put, Outside, Bad}
+use Rattle.consteval.specs.Fill.{Filled, Entry, feed, line_end, role, held, val_of_line, const_of_item, const_of_line, Filling, filling, by_entry, entry_of, entries_of, vals_of, consts_of, then_consts, fill_of}
+use Rattle.consteval.specs.declared.fill.FillError.{FillError}
+use Rattle.consteval.specs.declared.fill.FillError.TheVariants.{Short, Bad}
+use Rattle.consteval.specs.declared.fill.Source.{Source}
 use Rattle.consteval.specs.declared.fill.Role.{Role}
 use Rattle.consteval.specs.declared.fill.Role.TheVariants.{Val, Const, Other}
 use Rattle.consteval.proofs.ArithLaws.{neg_out, signed_low, signed_high}
@@ -99,16 +97,16 @@ bias_back x = go (ltb x 2147483648) refl
     go true e = let h = ltb-true x 2147483648 e in (let z : x ≡ 2147483648 - suc (2147483648 - suc x) = omega arith in z) ∙ sym (ap biased (signed_low x h))
     go false e = let h = ltb-false x 2147483648 e in (let z : x ≡ x - 2147483648 + 2147483648 = omega arith in z) ∙ sym (ap biased (signed_high x h))
 
-pub held_in : (n x : ℕ) → n < 4294967296 → Put n x ≡ held n (known (signed x))
-held_in n x h = ap (Put n) (bias_back x) ∙ sym (pick (ltb n 4294967296) (lt-ltb n 4294967296 h))
+pub held_in : (n x : ℕ) → n < 4294967296 → Ok (Some (n, x)) ≡ held n (known (signed x))
+held_in n x h = ap (λ (y : ℕ). Ok (Some (n, y))) (bias_back x) ∙ sym (pick (ltb n 4294967296) (lt-ltb n 4294967296 h))
   where
-    pick : (b : Bool) → b ≡ true → elim b as (λ _. Entry) [ true ↦ Put n (biased (signed x)) | false ↦ Bad ] ≡ Put n (biased (signed x))
+    pick : (b : Bool) → b ≡ true → elim b as (λ _. Entry) [ true ↦ Ok (Some (n, biased (signed x))) | false ↦ Err Bad ] ≡ Ok (Some (n, biased (signed x)))
     pick b e = rw e
 
-pub held_not : (n : ℕ) (z : ℤ) → 4294967296 ≤ n → Bad ≡ held n (known z)
+pub held_not : (n : ℕ) (z : ℤ) → 4294967296 ≤ n → Err Bad ≡ held n (known z)
 held_not n z h = sym (pick (ltb n 4294967296) (le-ltb n 4294967296 h))
   where
-    pick : (b : Bool) → b ≡ false → elim b as (λ _. Entry) [ true ↦ Put n (biased z) | false ↦ Bad ] ≡ Bad
+    pick : (b : Bool) → b ≡ false → elim b as (λ _. Entry) [ true ↦ Ok (Some (n, biased z)) | false ↦ Err Bad ] ≡ Err Bad
     pick b e = rw e
 
 pub held_capped : (n : ℕ) (x : Value) → held (min n 4294967296) x ≡ held n x
@@ -146,49 +144,52 @@ whole_plain (c ∷ s) f = capped_value (number (c ∷ s)) ∙ ap within (sym (pi
     pick b e = rw e
 
 -- ---- what a line adds, by its head word
+abbrev skip : Entry
+skip = Ok None
+
 abbrev val_by : Role → List Bytes → Entry
-val_by Val ps = with_two Skip (λ n i. held (number n) (within (integer i))) ps
-val_by Const ps = Skip
-val_by Other ps = Skip
+val_by Val ps = with_two skip (λ n i. held (number n) (within (integer i))) ps
+val_by Const ps = skip
+val_by Other ps = skip
 
 abbrev const_by : Names → Role → List Bytes → Entry
-const_by names Val ps = Skip
-const_by names Const ps = with_two Skip (λ n e. held (number n) (value names (decode_expr 31 e))) ps
-const_by names Other ps = Skip
+const_by names Val ps = skip
+const_by names Const ps = with_two skip (λ n e. held (number n) (value names (decode_expr 31 e))) ps
+const_by names Other ps = skip
 
 -- a form with another number of parts adds nothing
-module _ {A : Type 0} (f : A → Entry) (z : A) (no : f z ≡ Skip) where
-  at_one : (g : Bytes → A) (ps : List Bytes) → f (with_one z g ps) ≡ with_one Skip (λ a. f (g a)) ps
+module _ {A : Type 0} (f : A → Entry) (z : A) (no : f z ≡ Ok None) where
+  at_one : (g : Bytes → A) (ps : List Bytes) → f (with_one z g ps) ≡ with_one skip (λ a. f (g a)) ps
   at_one g [] = no
   at_one g (a ∷ []) = refl
   at_one g (a ∷ b ∷ ps) = no
 
-  at_two : (g : Bytes → Bytes → A) (ps : List Bytes) → f (with_two z g ps) ≡ with_two Skip (λ a b. f (g a b)) ps
+  at_two : (g : Bytes → Bytes → A) (ps : List Bytes) → f (with_two z g ps) ≡ with_two skip (λ a b. f (g a b)) ps
   at_two g [] = no
   at_two g (a ∷ ps) = at_one (g a) ps
 
-  at_three : (g : Bytes → Bytes → Bytes → A) (ps : List Bytes) → f (with_three z g ps) ≡ with_three Skip (λ a b c. f (g a b c)) ps
+  at_three : (g : Bytes → Bytes → Bytes → A) (ps : List Bytes) → f (with_three z g ps) ≡ with_three skip (λ a b c. f (g a b c)) ps
   at_three g [] = no
   at_three g (a ∷ ps) = at_two (g a) ps
 
-  at_four : (g : Bytes → Bytes → Bytes → Bytes → A) (ps : List Bytes) → f (with_four z g ps) ≡ with_four Skip (λ a b c d. f (g a b c d)) ps
+  at_four : (g : Bytes → Bytes → Bytes → Bytes → A) (ps : List Bytes) → f (with_four z g ps) ≡ with_four skip (λ a b c d. f (g a b c d)) ps
   at_four g [] = no
   at_four g (a ∷ ps) = at_three (g a) ps
 
-skip_one : (ps : List Bytes) → with_one Skip (λ (a : Bytes). Skip) ps ≡ Skip
+skip_one : (ps : List Bytes) → with_one skip (λ (a : Bytes). skip) ps ≡ Ok None
 skip_one [] = refl
 skip_one (a ∷ []) = refl
 skip_one (a ∷ b ∷ ps) = refl
 
-skip_two : (ps : List Bytes) → with_two Skip (λ (a b : Bytes). Skip) ps ≡ Skip
+skip_two : (ps : List Bytes) → with_two skip (λ (a b : Bytes). skip) ps ≡ Ok None
 skip_two [] = refl
 skip_two (a ∷ ps) = skip_one ps
 
-skip_three : (ps : List Bytes) → with_three Skip (λ (a b c : Bytes). Skip) ps ≡ Skip
+skip_three : (ps : List Bytes) → with_three skip (λ (a b c : Bytes). skip) ps ≡ Ok None
 skip_three [] = refl
 skip_three (a ∷ ps) = skip_two ps
 
-skip_four : (ps : List Bytes) → with_four Skip (λ (a b c d : Bytes). Skip) ps ≡ Skip
+skip_four : (ps : List Bytes) → with_four skip (λ (a b c d : Bytes). skip) ps ≡ Ok None
 skip_four [] = refl
 skip_four (a ∷ ps) = skip_three ps
 
@@ -252,12 +253,12 @@ val_line s BoundWord ps = refl
 val_line s UnboundWord ps = refl
 val_line s OtherWord ps = refl
 
-on_skip : (names : Names) (d : ℕ) (ps : List Bytes) → const_of_item names (on_by d ps) ≡ Skip
+on_skip : (names : Names) (d : ℕ) (ps : List Bytes) → const_of_item names (on_by d ps) ≡ Ok None
 unfolding on_by
 on_skip names d [] = refl
 on_skip names d (a ∷ ps) = refl
 
-inst_skip : (names : Names) (d : ℕ) (ps : List Bytes) → const_of_item names (inst_by d ps) ≡ Skip
+inst_skip : (names : Names) (d : ℕ) (ps : List Bytes) → const_of_item names (inst_by d ps) ≡ Ok None
 unfolding inst_by
 inst_skip names d [] = refl
 inst_skip names d (a ∷ []) = refl
@@ -265,7 +266,7 @@ inst_skip names d (a ∷ b ∷ []) = refl
 inst_skip names d (a ∷ b ∷ c ∷ []) = refl
 inst_skip names d (a ∷ b ∷ c ∷ e ∷ ps) = refl
 
-repeat_skip : (names : Names) (d : ℕ) (f : Bytes → Item) (ps : List Bytes) → const_of_item names (repeat_by d f ps) ≡ Skip
+repeat_skip : (names : Names) (d : ℕ) (f : Bytes → Item) (ps : List Bytes) → const_of_item names (repeat_by d f ps) ≡ Ok None
 unfolding repeat_by
 repeat_skip names d f [] = refl
 repeat_skip names d f (a ∷ []) = refl
@@ -393,19 +394,19 @@ const_line names s UnboundWord ps q = q
 const_line names s OtherWord ps q = q
 
 module _ (s : Bytes) where
-  pub val_empty : length s ≡ 0 → Skip ≡ val_of_line (decode_line s)
+  pub val_empty : length s ≡ 0 → Ok None ≡ val_of_line (decode_line s)
   unfolding decode_line by_head parts
   val_empty h = go s h
     where
-      go : (s : Bytes) → length s ≡ 0 → Skip ≡ val_of_line (decode_line s)
+      go : (s : Bytes) → length s ≡ 0 → Ok None ≡ val_of_line (decode_line s)
       go [] z = refl
       go (c ∷ s) z = absurd (omega arith)
 
-  pub const_empty : (names : Names) → length s ≡ 0 → Skip ≡ const_of_line names (decode_line s)
+  pub const_empty : (names : Names) → length s ≡ 0 → Ok None ≡ const_of_line names (decode_line s)
   unfolding decode_line by_head parts
   const_empty names h = go s h
     where
-      go : (s : Bytes) → length s ≡ 0 → Skip ≡ const_of_line names (decode_line s)
+      go : (s : Bytes) → length s ≡ 0 → Ok None ≡ const_of_line names (decode_line s)
       go [] z = refl
       go (c ∷ s) z = absurd (omega arith)
 
@@ -435,97 +436,72 @@ module _ (s : Bytes) where
         ∙ sym (ap (const_of_line names) line_law
         ∙ const_line names s w (others s h) (ap (const_of_item names) item_law ∙ const_item names (decode_item 31) (items_in (bytes "then") (decode_item 30)) (items_in (bytes "else") (decode_item 30)) w (others s h)))
 
-    module _ (e : k ≡ Val) {r : Pair} (q : r ≡ pair_of s h) where
-      pub val_is : {a b : ℕ} → r ≡ two a b → held (number (piece s h a)) (within (integer (piece s a b))) ≡ val_of_line (decode_line s)
-      val_is p = sym (two_is Skip s h (λ n i. held (number n) (within (integer i))) q p) ∙ ap (λ (x : Role). val_by x (others s h)) (sym e) ∙ val_step
+    module _ (e : k ≡ Val) {r : Option (ℕ × ℕ)} (q : r ≡ pair_of s h) where
+      pub val_is : {a b : ℕ} → r ≡ Some (a, b) → held (number (piece s h a)) (within (integer (piece s a b))) ≡ val_of_line (decode_line s)
+      val_is p = sym (two_is (Ok None) s h (λ n i. held (number n) (within (integer i))) q p) ∙ ap (λ (x : Role). val_by x (others s h)) (sym e) ∙ val_step
 
-      pub val_not : r ≡ not_two → Skip ≡ val_of_line (decode_line s)
-      val_not p = sym (two_not Skip s h (λ n i. held (number n) (within (integer i))) q p) ∙ ap (λ (x : Role). val_by x (others s h)) (sym e) ∙ val_step
+      pub val_not : r ≡ None → Ok None ≡ val_of_line (decode_line s)
+      val_not p = sym (two_not (Ok None) s h (λ n i. held (number n) (within (integer i))) q p) ∙ ap (λ (x : Role). val_by x (others s h)) (sym e) ∙ val_step
 
-    pub val_const : k ≡ Const → Skip ≡ val_of_line (decode_line s)
-    val_const e = ap (λ (x : Role). val_by x (others s h)) (sym e) ∙ val_step
-
-    pub val_other : k ≡ Other → Skip ≡ val_of_line (decode_line s)
-    val_other e = ap (λ (x : Role). val_by x (others s h)) (sym e) ∙ val_step
+    pub val_other : (k ≡ Val → ⊥) → Ok None ≡ val_of_line (decode_line s)
+    val_other f = go k f ∙ val_step
+      where
+        go : (k : Role) → (k ≡ Val → ⊥) → Ok None ≡ val_by k (others s h)
+        go Val f = absurd (f refl)
+        go Const f = refl
+        go Other f = refl
 
     module _ (names : Names) where
-      module _ (e : k ≡ Const) {r : Pair} (q : r ≡ pair_of s h) where
-        pub const_is : {a b : ℕ} → r ≡ two a b → held (number (piece s h a)) (value names (decode_expr 31 (piece s a b))) ≡ const_of_line names (decode_line s)
-        const_is p = sym (two_is Skip s h (λ n x. held (number n) (value names (decode_expr 31 x))) q p) ∙ ap (λ (x : Role). const_by names x (others s h)) (sym e) ∙ const_step names
+      module _ (e : k ≡ Const) {r : Option (ℕ × ℕ)} (q : r ≡ pair_of s h) where
+        pub const_is : {a b : ℕ} → r ≡ Some (a, b) → held (number (piece s h a)) (value names (decode_expr 31 (piece s a b))) ≡ const_of_line names (decode_line s)
+        const_is p = sym (two_is (Ok None) s h (λ n x. held (number n) (value names (decode_expr 31 x))) q p) ∙ ap (λ (x : Role). const_by names x (others s h)) (sym e) ∙ const_step names
 
-        pub const_not : r ≡ not_two → Skip ≡ const_of_line names (decode_line s)
-        const_not p = sym (two_not Skip s h (λ n x. held (number n) (value names (decode_expr 31 x))) q p) ∙ ap (λ (x : Role). const_by names x (others s h)) (sym e) ∙ const_step names
+        pub const_not : r ≡ None → Ok None ≡ const_of_line names (decode_line s)
+        const_not p = sym (two_not (Ok None) s h (λ n x. held (number n) (value names (decode_expr 31 x))) q p) ∙ ap (λ (x : Role). const_by names x (others s h)) (sym e) ∙ const_step names
 
-      pub const_val : k ≡ Val → Skip ≡ const_of_line names (decode_line s)
-      const_val e = ap (λ (x : Role). const_by names x (others s h)) (sym e) ∙ const_step names
+      pub const_other : (k ≡ Const → ⊥) → Ok None ≡ const_of_line names (decode_line s)
+      const_other f = go k f ∙ const_step names
+        where
+          go : (k : Role) → (k ≡ Const → ⊥) → Ok None ≡ const_by names k (others s h)
+          go Val f = refl
+          go Const f = absurd (f refl)
+          go Other f = refl
 
-      pub const_other : k ≡ Other → Skip ≡ const_of_line names (decode_line s)
-      const_other e = ap (λ (x : Role). const_by names x (others s h)) (sym e) ∙ const_step names
-
--- ---- `fill_vals` and `fill_consts`: one law for each way of the loop
-pub put_in : (n v : ℕ) (next : List ℕ → ℕ → Filling) (t : List ℕ) (used : ℕ) → room t used ≡ true → by_entry (Put n v) next t used ≡ next (pushed t used n v) (used + 1)
+-- ---- `fill_lines`: one law for each way of the loop
+pub put_in : (n v : ℕ) (next : List ℕ → ℕ → Filling) (t : List ℕ) (used : ℕ) → room t used ≡ true → by_entry (Ok (Some (n, v))) next t used ≡ next (pushed t used n v) (used + 1)
 put_in n v next t used e = pick (room t used) e
   where
-    pick : (b : Bool) → b ≡ true → elim b as (λ _. Filling) [ true ↦ next (pushed t used n v) (used + 1) | false ↦ filling Short t ] ≡ next (pushed t used n v) (used + 1)
+    pick : (b : Bool) → b ≡ true → elim b as (λ _. Filling) [ true ↦ next (pushed t used n v) (used + 1) | false ↦ filling (Err Short) t ] ≡ next (pushed t used n v) (used + 1)
     pick b e = rw e
 
-pub put_full : (n v : ℕ) (next : List ℕ → ℕ → Filling) (t : List ℕ) (used : ℕ) → room t used ≡ false → by_entry (Put n v) next t used ≡ filling Short t
+pub put_full : (n v : ℕ) (next : List ℕ → ℕ → Filling) (t : List ℕ) (used : ℕ) → room t used ≡ false → by_entry (Ok (Some (n, v))) next t used ≡ filling (Err Short) t
 put_full n v next t used e = pick (room t used) e
   where
-    pick : (b : Bool) → b ≡ false → elim b as (λ _. Filling) [ true ↦ next (pushed t used n v) (used + 1) | false ↦ filling Short t ] ≡ filling Short t
+    pick : (b : Bool) → b ≡ false → elim b as (λ _. Filling) [ true ↦ next (pushed t used n v) (used + 1) | false ↦ filling (Err Short) t ] ≡ filling (Err Short) t
     pick b e = rw e
 
-module _ (s : Bytes) (at : ℕ) (t : List ℕ) (used : ℕ) where
-  pub vals_end : length s ≤ at → vals_of (lines (drop at s)) t used ≡ filling (Used used) t
-  unfolding vals_of
-  vals_end h = rw (line_none s at h)
+module _ (from : Source) (s : Bytes) (at : ℕ) (t : List ℕ) (used : ℕ) where
+  pub lines_end : length s ≤ at → entries_of from (lines (drop at s)) t used ≡ filling (Ok used) t
+  unfolding entries_of
+  lines_end h = rw (line_none s at h)
 
-  module _ (h : at < length s) {e : ℕ} (q : e ≡ line_end s at) {r : Entry} (qr : r ≡ val_of_line (decode_line (take (e - at) (drop at s)))) where
-    vals_step : {x : Entry} → r ≡ x → vals_of (lines (drop at s)) t used ≡ by_entry x (vals_of (lines (drop (e + 1) s))) t used
-    unfolding vals_of
-    vals_step p = ap (λ (l : List Bytes). vals_of l t used) (line_step s at h q) ∙ ap (λ (x : Entry). by_entry x (vals_of (lines (drop (e + 1) s))) t used) (sym qr ∙ p)
+  module _ (h : at < length s) {e : ℕ} (q : e ≡ line_end s at) {r : Entry} (qr : r ≡ entry_of from (names_of t used) (decode_line (take (e - at) (drop at s)))) where
+    line_adds : {x : Entry} → r ≡ x → entries_of from (lines (drop at s)) t used ≡ by_entry x (entries_of from (lines (drop (e + 1) s))) t used
+    unfolding entries_of
+    line_adds p = ap (λ (l : List Bytes). entries_of from l t used) (line_step s at h q) ∙ ap (λ (x : Entry). by_entry x (entries_of from (lines (drop (e + 1) s))) t used) (sym qr ∙ p)
 
-    pub vals_skip : r ≡ Skip → vals_of (lines (drop at s)) t used ≡ vals_of (lines (drop (e + 1) s)) t used
-    vals_skip p = vals_step p
+    pub line_skips : r ≡ Ok None → entries_of from (lines (drop at s)) t used ≡ entries_of from (lines (drop (e + 1) s)) t used
+    line_skips p = line_adds p
 
-    pub vals_outside : r ≡ Outside → vals_of (lines (drop at s)) t used ≡ filling Left t
-    vals_outside p = vals_step p
+    pub line_stops : {x : FillError} → r ≡ Err x → entries_of from (lines (drop at s)) t used ≡ filling (Err x) t
+    line_stops p = line_adds p
 
-    pub vals_bad : r ≡ Bad → vals_of (lines (drop at s)) t used ≡ filling Wrong t
-    vals_bad p = vals_step p
+    module _ {n v : ℕ} (p : r ≡ Ok (Some (n, v))) where
+      pub line_puts : room t used ≡ true → entries_of from (lines (drop at s)) t used ≡ entries_of from (lines (drop (e + 1) s)) (pushed t used n v) (used + 1)
+      line_puts m = line_adds p ∙ put_in n v (entries_of from (lines (drop (e + 1) s))) t used m
 
-    module _ {n v : ℕ} (p : r ≡ Put n v) where
-      pub vals_put : room t used ≡ true → vals_of (lines (drop at s)) t used ≡ vals_of (lines (drop (e + 1) s)) (pushed t used n v) (used + 1)
-      vals_put m = vals_step p ∙ put_in n v (vals_of (lines (drop (e + 1) s))) t used m
-
-      pub vals_full : room t used ≡ false → vals_of (lines (drop at s)) t used ≡ filling Short t
-      vals_full m = vals_step p ∙ put_full n v (vals_of (lines (drop (e + 1) s))) t used m
-
-module _ (s : Bytes) (at : ℕ) (t : List ℕ) (used : ℕ) where
-  pub consts_end : length s ≤ at → consts_of (lines (drop at s)) t used ≡ filling (Used used) t
-  unfolding consts_of
-  consts_end h = rw (line_none s at h)
-
-  module _ (h : at < length s) {e : ℕ} (q : e ≡ line_end s at) {r : Entry} (qr : r ≡ const_of_line (names_of t used) (decode_line (take (e - at) (drop at s)))) where
-    consts_step : {x : Entry} → r ≡ x → consts_of (lines (drop at s)) t used ≡ by_entry x (consts_of (lines (drop (e + 1) s))) t used
-    unfolding consts_of
-    consts_step p = ap (λ (l : List Bytes). consts_of l t used) (line_step s at h q) ∙ ap (λ (x : Entry). by_entry x (consts_of (lines (drop (e + 1) s))) t used) (sym qr ∙ p)
-
-    pub consts_skip : r ≡ Skip → consts_of (lines (drop at s)) t used ≡ consts_of (lines (drop (e + 1) s)) t used
-    consts_skip p = consts_step p
-
-    pub consts_outside : r ≡ Outside → consts_of (lines (drop at s)) t used ≡ filling Left t
-    consts_outside p = consts_step p
-
-    pub consts_bad : r ≡ Bad → consts_of (lines (drop at s)) t used ≡ filling Wrong t
-    consts_bad p = consts_step p
-
-    module _ {n v : ℕ} (p : r ≡ Put n v) where
-      pub consts_put : room t used ≡ true → consts_of (lines (drop at s)) t used ≡ consts_of (lines (drop (e + 1) s)) (pushed t used n v) (used + 1)
-      consts_put m = consts_step p ∙ put_in n v (consts_of (lines (drop (e + 1) s))) t used m
-
-      pub consts_full : room t used ≡ false → consts_of (lines (drop at s)) t used ≡ filling Short t
-      consts_full m = consts_step p ∙ put_full n v (consts_of (lines (drop (e + 1) s))) t used m
+      pub line_full : room t used ≡ false → entries_of from (lines (drop at s)) t used ≡ filling (Err Short) t
+      line_full m = line_adds p ∙ put_full n v (entries_of from (lines (drop (e + 1) s))) t used m
 
 full_same : (t : List ℕ) (used n v : ℕ) → room t used ≡ false → pushed t used n v ≡ t
 unfolding pushed
@@ -544,14 +520,8 @@ module _ (header items : Bytes) (t : List ℕ) {a : Filled} {x : List ℕ} (q : 
   unfolding fill_of
   after_vals = ap (λ (f : Filling). then_consts items f.answer f.table) q
 
-  pub fill_used : {n : ℕ} → a ≡ Used n → consts_of (lines items) x n ≡ fill_of header items t
+  pub fill_used : {n : ℕ} → a ≡ Ok n → consts_of (lines items) x n ≡ fill_of header items t
   fill_used e = ap (λ (y : Filled). then_consts items y x) (sym e) ∙ after_vals
 
-  pub fill_left : a ≡ Left → filling Left x ≡ fill_of header items t
-  fill_left e = ap (λ (y : Filled). then_consts items y x) (sym e) ∙ after_vals
-
-  pub fill_short : a ≡ Short → filling Short x ≡ fill_of header items t
-  fill_short e = ap (λ (y : Filled). then_consts items y x) (sym e) ∙ after_vals
-
-  pub fill_wrong : a ≡ Wrong → filling Wrong x ≡ fill_of header items t
-  fill_wrong e = ap (λ (y : Filled). then_consts items y x) (sym e) ∙ after_vals
+  pub fill_stop : {e : FillError} → a ≡ Err e → filling (Err e) x ≡ fill_of header items t
+  fill_stop e = ap (λ (y : Filled). then_consts items y x) (sym e) ∙ after_vals

@@ -10,6 +10,7 @@ use lib.ListN.{length, set, length-set}
 use lib.Seq.{get_or-set_same, get_or-set_other}
 use lib.Dec.{ltb}
 use borrow.Author.Tests.{lt-ltb, ltb-true, ltb-false}
+use Rattle.std.specs.Prelude.{Some, None, Ok, Err}
 use Rattle.spec.specs.Bytes.{Bytes}
 use Rattle.spec.specs.Syntax.{Item, Items, port, wire, reg, mem, const, drive, on, inst, repeat, const_if, Header, kind, val, Line, module_line, header_line, item_line}
 use Rattle.spec.specs.Decode.{decode_line}
@@ -17,16 +18,11 @@ use Rattle.spec.specs.Refusal.{lines, decode_lines, in_int, line_in_range, item_
 use Rattle.spec.specs.Value.{Value, known, missing, outside, Names, within, value, is_outside, Table, val_names, with_value, const_names, name_table, own_vals}
 use Rattle.spec.specs.Constants.{InInt, AllInInt}
 use Rattle.spec.proofs.Constants.{constants}
-use Rattle.consteval.specs.Worth.{signed, worth, refused_if, number_of, pairs, names_of, room, pushed, biased}
-use Rattle.consteval.specs.declared.Value.{Value as Answer}
-use Rattle.consteval.specs.declared.Value.TheVariants.{Known, Missing, Outside}
-use Rattle.consteval.specs.Fill.{held, entry_number, val_of_line, const_of_item, const_of_line, Filling, filling, by_entry, vals_of, consts_of, then_consts, fill_of, headers_of, items_of, line_out, all_in_range, Right, Fills}
+use Rattle.consteval.specs.Worth.{Answer, signed, worth, refused_if, number_of, pairs, names_of, room, pushed, biased}
+use Rattle.consteval.specs.Fill.{Filled, Entry, held, entry_number, val_of_line, const_of_item, const_of_line, Filling, filling, by_entry, entries_of, vals_of, consts_of, then_consts, fill_of, headers_of, items_of, line_out, all_in_range, Right, Fills}
 use Rattle.consteval.proofs.ArithLaws.{signed_low, signed_high}
 use Rattle.consteval.proofs.FillLaws.{pushed_length, put_in, put_full}
-use Rattle.consteval.specs.declared.fill.Filled.{Filled}
-use Rattle.consteval.specs.declared.fill.Entry.{Entry}
-use Rattle.consteval.specs.declared.fill.Entry.TheVariants.{Put, Bad}
-use Rattle.consteval.specs.declared.fill.Filled.TheVariants.{Used, Outside as Left, Short, Bad as Wrong}
+use Rattle.consteval.specs.declared.fill.FillError.TheVariants.{Outside, Short, Bad}
 
 -- ---- a pair more
 
@@ -153,7 +149,7 @@ module _ (ls : List Bytes) (go_on : Goes ls) (t : List ℕ) (used : ℕ) (fits :
       here = ap (λ (y : ℤ). (n, y) ∷ names_of t used) (sign_bias z i)
 
       put : (a : Bool) → a ≡ true → (b : Bool) → room t used ≡ b →
-          RightOf (by_entry (elim a as (λ _. Entry) [ true ↦ Put n (biased z) | false ↦ Bad ]) (consts_of ls) t used) (const_names (record { names = (n, z) ∷ names_of t used; out = false }) rest)
+          RightOf (by_entry (elim a as (λ _. Entry) [ true ↦ Ok (Some (n, biased z)) | false ↦ Err Bad ]) (consts_of ls) t used) (const_names (record { names = (n, z) ∷ names_of t used; out = false }) rest)
       put false e b r = absurd (let y : ◌≡◌ {A = ℕ} 0 1 = cc in omega arith)
       put true e true r =
           let eq = names_pushed t used n (biased z) r ∙ here in
@@ -185,7 +181,7 @@ module _ (ls : List Bytes) (go_on : Goes ls) (t : List ℕ) (used : ℕ) (fits :
   line_right (item_line i) e = item_right i e
 
 consts_right : (ls : List Bytes) → all_in_range (decode_lines ls) ≡ true → Goes ls
-unfolding consts_of decode_lines all_in_range items_of const_names
+unfolding entries_of decode_lines all_in_range items_of const_names
 consts_right [] a t used f i = (refl, refl, f)
 consts_right (s ∷ ls) a t used f i =
     let p = both (line_in_range (decode_line s)) (all_in_range (decode_lines ls)) a in
@@ -193,10 +189,10 @@ consts_right (s ∷ ls) a t used f i =
 
 -- ---- the header's lines
 abbrev RightVals : Filled → List ℕ → Names → Type 0
-RightVals (Used n) t vs = (names_of t n ≡ vs) × (n ≤ length t / 2) × AllInInt (names_of t n)
-RightVals Left t vs = ⊥
-RightVals Short t vs = length t / 2 < length vs
-RightVals Wrong t vs = ⊥
+RightVals (Ok n) t vs = (names_of t n ≡ vs) × (n ≤ length t / 2) × AllInInt (names_of t n)
+RightVals (Err Outside) t vs = ⊥
+RightVals (Err Short) t vs = length t / 2 < length vs
+RightVals (Err Bad) t vs = ⊥
 
 abbrev ValsOf : Filling → Names → Type 0
 ValsOf f vs = RightVals f.answer f.table vs
@@ -218,7 +214,7 @@ module _ (ls : List Bytes) (go_on : GoesVals ls) (t : List ℕ) (used : ℕ) (fi
   abbrev after : Names → Names
   after names = val_names names (headers_of (decode_lines ls))
 
-  val_put : (n : ℕ) (z : ℤ) → in_int z ≡ true → (b : Bool) → room t used ≡ b → ValsOf (by_entry (Put n (biased z)) (vals_of ls) t used) (after ((n, z) ∷ names_of t used))
+  val_put : (n : ℕ) (z : ℤ) → in_int z ≡ true → (b : Bool) → room t used ≡ b → ValsOf (by_entry (Ok (Some (n, biased z))) (vals_of ls) t used) (after ((n, z) ∷ names_of t used))
   val_put n z i true r =
       let eq = names_pushed t used n (biased z) r ∙ ap (λ (y : ℤ). (n, y) ∷ names_of t used) (sign_bias z i) in
       let next = go_on (pushed t used n (biased z)) (used + 1) (pushed_fits t used n (biased z) r) (subst (λ (x : Names). AllInInt x) (sym eq) (i, ints)) in
@@ -234,7 +230,7 @@ module _ (ls : List Bytes) (go_on : GoesVals ls) (t : List ℕ) (used : ℕ) (fi
       subst (λ (x : Entry). ValsOf (by_entry x (vals_of ls) t used) (after ((n, z) ∷ names_of t used)))
       (sym (ap (held n) (within_known z i) ∙ hold (ltb n 4294967296) (lt-ltb n 4294967296 h))) (val_put n z i (room t used) refl)
     where
-      hold : (b : Bool) → b ≡ true → elim b as (λ _. Entry) [ true ↦ Put n (biased z) | false ↦ Bad ] ≡ Put n (biased z)
+      hold : (b : Bool) → b ≡ true → elim b as (λ _. Entry) [ true ↦ Ok (Some (n, biased z)) | false ↦ Err Bad ] ≡ Ok (Some (n, biased z))
       hold b e = rw e
 
   header_right : (l : Line) → line_in_range l ≡ true → ValsOf (by_entry (val_of_line l) (vals_of ls) t used) (val_names (names_of t used) (headers_of (l ∷ decode_lines ls)))
@@ -245,7 +241,7 @@ module _ (ls : List Bytes) (go_on : GoesVals ls) (t : List ℕ) (used : ℕ) (fi
   header_right (item_line i) e = go_on t used fits ints
 
 vals_right : (ls : List Bytes) → all_in_range (decode_lines ls) ≡ true → GoesVals ls
-unfolding vals_of decode_lines all_in_range headers_of val_names
+unfolding entries_of decode_lines all_in_range headers_of val_names
 vals_right [] a t used f i = (refl, f, i)
 vals_right (s ∷ ls) a t used f i =
     let p = both (line_in_range (decode_line s)) (all_in_range (decode_lines ls)) a in
@@ -258,12 +254,12 @@ names_none t = let z : min 0 (length t / 2) ≡ 0 = omega arith in ap (pairs t) 
 
 both_right : (items : Bytes) → all_in_range (decode_lines (lines items)) ≡ true → (vs : Names) (a : Filled) (x : List ℕ) → RightVals a x vs →
     RightOf (then_consts items a x) (const_names (record { names = vs; out = false }) (items_of (decode_lines (lines items))))
-both_right items e vs (Used n) x r =
+both_right items e vs (Ok n) x r =
     subst (λ (y : Names). RightOf (consts_of (lines items) x n) (const_names (record { names = y; out = false }) (items_of (decode_lines (lines items))))) r.0
     (consts_right (lines items) e x n r.1 r.2)
-both_right items e vs Left x r = absurd r
-both_right items e vs Short x r = omega (arith, grows (record { names = vs; out = false }) (items_of (decode_lines (lines items))), r)
-both_right items e vs Wrong x r = absurd r
+both_right items e vs (Err Outside) x r = absurd r
+both_right items e vs (Err Short) x r = omega (arith, grows (record { names = vs; out = false }) (items_of (decode_lines (lines items))), r)
+both_right items e vs (Err Bad) x r = absurd r
 
 pub fills : (header items : Bytes) (t : List ℕ) → Fills (fill_of header items t).answer header items (fill_of header items t).table
 unfolding fill_of name_table own_vals
@@ -279,15 +275,15 @@ filled header items t r t' e = (e, subst (λ (f : Filling). Fills f.answer heade
 held_number : (n : ℕ) (x : Value) → n < 4294967296 → entry_number (held n x) ≡ refused_if (is_outside x)
 held_number n (known z) h = hold (ltb n 4294967296) (lt-ltb n 4294967296 h)
   where
-    hold : (b : Bool) → b ≡ true → entry_number (elim b as (λ _. Entry) [ true ↦ Put n (biased z) | false ↦ Bad ]) ≡ 0
+    hold : (b : Bool) → b ≡ true → entry_number (elim b as (λ _. Entry) [ true ↦ Ok (Some (n, biased z)) | false ↦ Err Bad ]) ≡ 0
     hold b e = rw e
 held_number n missing h = refl
 held_number n outside h = refl
 
 answer_number : (v : Answer) → refused_if (is_outside (worth v)) ≡ number_of v
-answer_number (Known x) = refl
-answer_number Missing = refl
-answer_number Outside = refl
+answer_number (Ok (Some x)) = refl
+answer_number (Ok None) = refl
+answer_number (Err e) = refl
 
 pub held_by : (n : ℕ) (v : Answer) (r : Entry) → r ≡ held n (worth v) → (r ≡ held n (worth v)) × (n < 4294967296 → entry_number r ≡ number_of v)
 held_by n v r e = (e, λ h. ap entry_number e ∙ held_number n (worth v) h ∙ answer_number v)

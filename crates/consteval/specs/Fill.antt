@@ -1,7 +1,7 @@
 -- The name table of a module as it is filled: what each line adds, line by line, until a line stops it. 01: The line; The value; Refused because of
 -- the text; Refused because of the state.
 -- To a reader: definitions that contracts of this and other crates cite; each such contract is proved; check_drivers' own promise cites none of them.
-use Rattle.std.specs.Prelude.{◌≡◌, Bool, true, false, ◌&&◌, List, [], ◌∷◌, ℕ, suc, ◌+◌, ◌/◌, ◌≤◌, ◌<◌, length, drop, eqb, ltb}
+use Rattle.std.specs.Prelude.{◌≡◌, Bool, true, false, ◌&&◌, List, [], ◌∷◌, ℕ, suc, ◌+◌, ◌/◌, ◌≤◌, ◌<◌, length, drop, eqb, ltb, Option, Some, None, Result, Ok, Err}
 use Rattle.spec.specs.Bytes.{Bytes}
 use Rattle.spec.specs.Syntax.{Item, Items, port, wire, reg, mem, const, drive, on, inst, repeat, const_if, Header, kind, val, Module, Line, module_line, header_line, item_line}
 use Rattle.spec.specs.Decode.{decode_line}
@@ -11,10 +11,10 @@ use Rattle.spec.specs.Cleared.{ByNumber}
 use Rattle.lines.specs.declared.words.Word.{Word}
 use Rattle.lines.specs.declared.words.Word.TheVariants.{N as NWord, F as FWord, Ix as IxWord, If as IfWord, All as AllWord, Neg as NegWord, Not as NotWord, Clog2 as Clog2Word, Add as AddWord, Sub as SubWord, Mul as MulWord, Eq as EqWord, Ne as NeWord, Lt as LtWord, Le as LeWord, Gt as GtWord, Ge as GeWord, And as AndWord, Or as OrWord, Shl as ShlWord, Shr as ShrWord, Band as BandWord, Bor as BorWord, Bxor as BxorWord, True as TrueWord, False as FalseWord, Bit as BitWord, Opaque as OpaqueWord, Bits as BitsWord, Signed as SignedWord, Lv as LvWord, Set as SetWord, Default as DefaultWord, Loop as LoopWord, When as WhenWord, Then as ThenWord, Else as ElseWord, Conn as ConnWord, Dash as DashWord, Port as PortWord, Wire as WireWord, Reg as RegWord, Mem as MemWord, Const as ConstWord, Drive as DriveWord, On as OnWord, Inst as InstWord, Repeat as RepeatWord, ConstIf as ConstIfWord, In as InWord, Out as OutWord, Module as ModuleWord, Kind as KindWord, Val as ValWord, Bound as BoundWord, Unbound as UnboundWord, Other as OtherWord}
 use Rattle.consteval.specs.Worth.{names_of, room, pushed, biased}
-use Rattle.consteval.specs.declared.fill.Filled.{Filled}
-use Rattle.consteval.specs.declared.fill.Filled.TheVariants.{Used, Outside as Left, Short, Bad as Wrong}
-use Rattle.consteval.specs.declared.fill.Entry.{Entry}
-use Rattle.consteval.specs.declared.fill.Entry.TheVariants.{Skip, Put, Outside, Bad}
+use Rattle.consteval.specs.declared.fill.FillError.{FillError}
+use Rattle.consteval.specs.declared.fill.FillError.TheVariants.{Outside, Short, Bad}
+use Rattle.consteval.specs.declared.fill.Source.{Source}
+use Rattle.consteval.specs.declared.fill.Source.TheVariants.{Header as from_header, Items as from_items}
 use Rattle.consteval.specs.declared.fill.Role.{Role}
 use Rattle.consteval.specs.declared.fill.Role.TheVariants.{Val, Const, Other}
 
@@ -87,45 +87,51 @@ role BoundWord = Other
 role UnboundWord = Other
 role OtherWord = Other
 
+-- 01, The value; Refused because of the state: what the code answers for a table: how many pairs are used, or why there is none
+abbrev pub Filled : Type 0
+Filled = Result ℕ FillError
+
+-- 01, The value; Refused because of the state: what a line adds: a name and what holds its value, or nothing; or why it stops the table
+abbrev pub Entry : Type 0
+Entry = Result (Option (ℕ × ℕ)) FillError
+
 -- 01, The value; Refused because of the state: what a name and its value add: both, as they are held, or bad where the name is no number below 2^32;
 -- nothing where there is no value; or it is outside INT
 abbrev pub held : ℕ → Value → Entry
-held n (known z) = elim (ltb n 4294967296) [ true ↦ Put n (biased z) | false ↦ Bad ]
-held n missing = Skip
-held n outside = Outside
+held n (known z) = elim (ltb n 4294967296) [ true ↦ Ok (Some (n, biased z)) | false ↦ Err Bad ]
+held n missing = Ok None
+held n outside = Err Outside
 
 -- 01, Refused because of the state: 20 where the value is outside INT, 0 where a pair or nothing is added; `Bad` is of no line in range, and counts as
 -- 20 too
 abbrev pub entry_number : Entry → ℕ
-entry_number Skip = 0
-entry_number (Put n v) = 0
-entry_number Outside = 20
-entry_number Bad = 20
+entry_number (Ok p) = 0
+entry_number (Err e) = 20
 
 -- 01, The value: what a line adds to the table as a header line: a `val` line its name and INT
 abbrev pub val_of_line : Line → Entry
-val_of_line (module_line m b) = Skip
-val_of_line (header_line (kind n k)) = Skip
+val_of_line (module_line m b) = Ok None
+val_of_line (header_line (kind n k)) = Ok None
 val_of_line (header_line (val n z)) = held n (within z)
-val_of_line (item_line i) = Skip
+val_of_line (item_line i) = Ok None
 
 -- 01, The value: what an item adds to the table under the names so far: a `const` its name and value
 abbrev pub const_of_item : Names → Item → Entry
-const_of_item names (port d n w s) = Skip
-const_of_item names (wire n e s) = Skip
-const_of_item names (reg n s) = Skip
-const_of_item names (mem n s) = Skip
+const_of_item names (port d n w s) = Ok None
+const_of_item names (wire n e s) = Ok None
+const_of_item names (reg n s) = Ok None
+const_of_item names (mem n s) = Ok None
 const_of_item names (const n e) = held n (value names e)
-const_of_item names (drive lv e) = Skip
-const_of_item names (on s ss) = Skip
-const_of_item names (inst i) = Skip
-const_of_item names (repeat n l h is) = Skip
-const_of_item names (const_if c is js) = Skip
+const_of_item names (drive lv e) = Ok None
+const_of_item names (on s ss) = Ok None
+const_of_item names (inst i) = Ok None
+const_of_item names (repeat n l h is) = Ok None
+const_of_item names (const_if c is js) = Ok None
 
 -- 01, The value: what a line adds to the table as an item line under the names so far
 abbrev pub const_of_line : Names → Line → Entry
-const_of_line names (module_line m b) = Skip
-const_of_line names (header_line h) = Skip
+const_of_line names (module_line m b) = Ok None
+const_of_line names (header_line h) = Ok None
 const_of_line names (item_line i) = const_of_item names i
 
 -- 01, The value: an answer and the table that is left
@@ -140,27 +146,32 @@ filling r t = record { answer = r; table = t }
 -- 01, The value; Refused because of the state: one entry, and what follows it: nothing is added, or a pair where there is room; else it ends there,
 -- with the table as it is
 abbrev pub by_entry : Entry → (List ℕ → ℕ → Filling) → List ℕ → ℕ → Filling
-by_entry Skip next t used = next t used
-by_entry (Put n v) next t used = elim (room t used) [ true ↦ next (pushed t used n v) (used + 1) | false ↦ filling Short t ]
-by_entry Outside next t used = filling Left t
-by_entry Bad next t used = filling Wrong t
+by_entry (Ok None) next t used = next t used
+by_entry (Ok (Some (n, v))) next t used = elim (room t used) [ true ↦ next (pushed t used n v) (used + 1) | false ↦ filling (Err Short) t ]
+by_entry (Err e) next t used = filling (Err e) t
 
--- 01, The value: the `val` lines among these, in order, `used` pairs being there already
-unfoldable pub vals_of : List Bytes → List ℕ → ℕ → Filling
-vals_of [] t used = filling (Used used) t
-vals_of (s ∷ ls) t used = by_entry (val_of_line (decode_line s)) (vals_of ls) t used
+-- 01, The value: what a line adds, as a header's line or as an item's line under the names so far
+abbrev pub entry_of : Source → Names → Line → Entry
+entry_of from_header names l = val_of_line l
+entry_of from_items names l = const_of_line names l
 
--- 01, The value: the top-level `const` lines among these, in order, each under the names so far
-unfoldable pub consts_of : List Bytes → List ℕ → ℕ → Filling
-consts_of [] t used = filling (Used used) t
-consts_of (s ∷ ls) t used = by_entry (const_of_line (names_of t used) (decode_line s)) (consts_of ls) t used
+-- 01, The value: the lines that add to the table among these, in order, each under the names so far, `used` pairs being there already
+unfoldable pub entries_of : Source → List Bytes → List ℕ → ℕ → Filling
+entries_of from [] t used = filling (Ok used) t
+entries_of from (s ∷ ls) t used = by_entry (entry_of from (names_of t used) (decode_line s)) (entries_of from ls) t used
+
+-- 01, The value: the `val` lines among these
+abbrev pub vals_of : List Bytes → List ℕ → ℕ → Filling
+vals_of = entries_of from_header
+
+-- 01, The value: the top-level `const` lines among these
+abbrev pub consts_of : List Bytes → List ℕ → ℕ → Filling
+consts_of = entries_of from_items
 
 -- 01, The value; Refused because of the state: the items' lines behind the header's, where these did not end it
 abbrev pub then_consts : Bytes → Filled → List ℕ → Filling
-then_consts items (Used n) t = consts_of (lines items) t n
-then_consts items Left t = filling Left t
-then_consts items Short t = filling Short t
-then_consts items Wrong t = filling Wrong t
+then_consts items (Ok n) t = consts_of (lines items) t n
+then_consts items (Err e) t = filling (Err e) t
 
 -- 01, The value: the header's lines, then the items' lines
 unfoldable pub fill_of : Bytes → Bytes → List ℕ → Filling
@@ -198,24 +209,22 @@ all_in_range (l ∷ ls) = line_in_range l && all_in_range ls
 -- 01, Refused because of the state: 20 where a constant is outside INT or the table is too small, 0 where it is filled; `Bad` is no answer of lines
 -- in range, and counts as 20 too
 abbrev pub number_of : Filled → ℕ
-number_of (Used n) = 0
-number_of Left = 20
-number_of Short = 20
-number_of Wrong = 20
+number_of (Ok n) = 0
+number_of (Err Outside) = 20
+number_of (Err Short) = 20
+number_of (Err Bad) = 20
 
 -- 01, The value: how many pairs are used; 0 where the number is 20
 abbrev pub used_of : Filled → ℕ
-used_of (Used n) = n
-used_of Left = 0
-used_of Short = 0
-used_of Wrong = 0
+used_of (Ok n) = n
+used_of (Err e) = 0
 
 -- 01, Refused because of the state: why the number is 20: a constant is outside INT, or there are more names than places for pairs
 abbrev pub Stopped : Filled → List ℕ → Table → Type 0
-Stopped (Used n) t T = ⊥
-Stopped Left t T = T.out ≡ true
-Stopped Short t T = length t / 2 < length T.names
-Stopped Wrong t T = ⊥
+Stopped (Ok n) t T = ⊥
+Stopped (Err Outside) t T = T.out ≡ true
+Stopped (Err Short) t T = length t / 2 < length T.names
+Stopped (Err Bad) t T = ⊥
 
 -- 01, The value; Refused because of the state: an answer and the table that is left, against the specification's name table: the used pairs, which
 -- have their places, are its names, and no constant is outside INT; or the number is 20

@@ -1,14 +1,13 @@
 -- What the code's enums mean: a value in whole numbers, the name table, what a head word makes of an expression. 01: The value; Refused because of
 -- the state; Forms for specific places.
 -- To a reader: definitions that contracts of this and other crates cite; each such contract is proved; check_drivers' own promise cites none of them.
-use Rattle.std.specs.Prelude.{Bool, true, false, List, [], ◌∷◌, ℕ, zero, suc, ◌+◌, ◌-◌, ◌/◌, min, ℤ, pos, negsuc, length, get_or, set, ltb}
+use Rattle.std.specs.Prelude.{Bool, true, false, List, [], ◌∷◌, ℕ, zero, suc, ◌+◌, ◌-◌, ◌/◌, min, ℤ, pos, negsuc, length, get_or, set, ltb, Option, Some, None as no_value, Result, Ok, Err}
 use Rattle.std.proofs.Math.IntN.{sub_ℕ}
 use Rattle.spec.specs.Syntax.{Unary, neg, not, clog2, Binary, add, sub, mul, eq, ne, lt, le, gt, ge, and, or, shl, shr, band, bor, bxor}
 use Rattle.spec.specs.Value.{Value, known, missing, outside, Names}
 use Rattle.lines.specs.declared.words.Word.{Word}
 use Rattle.lines.specs.declared.words.Word.TheVariants.{N as NWord, F as FWord, Ix as IxWord, If as IfWord, All as AllWord, Neg as NegWord, Not as NotWord, Clog2 as Clog2Word, Add as AddWord, Sub as SubWord, Mul as MulWord, Eq as EqWord, Ne as NeWord, Lt as LtWord, Le as LeWord, Gt as GtWord, Ge as GeWord, And as AndWord, Or as OrWord, Shl as ShlWord, Shr as ShrWord, Band as BandWord, Bor as BorWord, Bxor as BxorWord, True as TrueWord, False as FalseWord, Bit as BitWord, Opaque as OpaqueWord, Bits as BitsWord, Signed as SignedWord, Lv as LvWord, Set as SetWord, Default as DefaultWord, Loop as LoopWord, When as WhenWord, Then as ThenWord, Else as ElseWord, Conn as ConnWord, Dash as DashWord, Port as PortWord, Wire as WireWord, Reg as RegWord, Mem as MemWord, Const as ConstWord, Drive as DriveWord, On as OnWord, Inst as InstWord, Repeat as RepeatWord, ConstIf as ConstIfWord, In as InWord, Out as OutWord, Module as ModuleWord, Kind as KindWord, Val as ValWord, Bound as BoundWord, Unbound as UnboundWord, Other as OtherWord}
-use Rattle.consteval.specs.declared.Value.{Value as Answer}
-use Rattle.consteval.specs.declared.Value.TheVariants.{Known, Missing, Outside}
+use Rattle.consteval.specs.declared.Outside.{Outside}
 use Rattle.consteval.specs.declared.shape.Unary.{Unary as OneWord}
 use Rattle.consteval.specs.declared.shape.Unary.TheVariants.{Neg, Not, Clog2}
 use Rattle.consteval.specs.declared.shape.Binary.{Binary as TwoWord}
@@ -25,11 +24,15 @@ abbrev pub biased : ℤ → ℕ
 biased (pos n) = n + 2147483648
 biased (negsuc n) = 2147483648 - suc n
 
+-- 01, Forms for specific places; The value; Refused because of the state: what the code answers: what holds a value, or nothing; or that it is outside INT
+abbrev pub Answer : Type 0
+Answer = Result (Option ℕ) Outside
+
 -- 01, Forms for specific places; The value; Refused because of the state: the value of each answer: a whole number, none, or outside INT
 abbrev pub worth : Answer → Value
-worth (Known x) = known (signed x)
-worth Missing = missing
-worth Outside = outside
+worth (Ok (Some x)) = known (signed x)
+worth (Ok no_value) = missing
+worth (Err e) = outside
 
 -- 01, Refused because of the state: 20 where this is so, and 0 where it is not
 abbrev pub refused_if : Bool → ℕ
@@ -38,9 +41,8 @@ refused_if false = 0
 
 -- 01, Refused because of the state: 20 where the value is outside INT, else 0
 abbrev pub number_of : Answer → ℕ
-number_of (Known x) = 0
-number_of Missing = 0
-number_of Outside = 20
+number_of (Ok v) = 0
+number_of (Err e) = 20
 
 -- 01, The value: the name table of the first k pairs, each a name and what holds its value; they stand the newest last, and are given the newest
 -- first

@@ -7,25 +7,25 @@ ghost use Rattle.spec.specs.Value.{within, truth_value, clog2_bits, clog2_value,
 ghost use Rattle.spec.specs.Syntax.{and, or};
 ghost use Rattle.consteval.specs.Worth.{signed, worth, unary_of, binary_of};
 
-use crate::Value;
 use crate::shape::{Binary, Unary};
+use crate::{Outside, Value};
 
 pub(crate) fn positive(n: u64) -> Value
     ensures { worth result ≡ within (pos n) }
 {
     if n < 2147483648 {
-        return Value::Known((n + 2147483648) as u32);
+        return Ok(Some((n + 2147483648) as u32));
     }
-    Value::Outside
+    Err(Outside)
 }
 
 pub(crate) fn negative(n: u64) -> Value
     ensures { worth result ≡ within (neg_ℤ (pos n)) }
 {
     if n <= 2147483648 {
-        return Value::Known((2147483648 - n) as u32);
+        return Ok(Some((2147483648 - n) as u32));
     }
-    Value::Outside
+    Err(Outside)
 }
 
 fn difference(a: u64, b: u64) -> Value
@@ -42,9 +42,9 @@ pub fn truth(b: bool) -> Value
     ensures { worth result ≡ truth_value b }
 {
     if b {
-        Value::Known(2147483649)
+        Ok(Some(2147483649))
     } else {
-        Value::Known(2147483648)
+        Ok(Some(2147483648))
     }
 }
 
@@ -97,7 +97,7 @@ fn clog2(x: u32) -> Value
     ensures { worth result ≡ clog2_value (signed x) }
 {
     if x <= 2147483648 {
-        return Value::Missing;
+        return Ok(None);
     }
     positive(clog2_bits(x - 2147483648) as u64)
 }
@@ -136,17 +136,17 @@ fn shl(x: u32, y: u32) -> Value
     ensures { worth result ≡ shl_value (signed x) (signed y) }
 {
     if y < 2147483648 {
-        return Value::Missing;
+        return Ok(None);
     }
     let n = y - 2147483648;
     if x == 2147483648 {
         if n < 999999 {
-            return Value::Known(x);
+            return Ok(Some(x));
         }
-        return Value::Missing;
+        return Ok(None);
     }
     if n >= 32 {
-        return Value::Outside;
+        return Err(Outside);
     }
     if x < 2147483648 {
         return negative(((2147483648 - x) as u64) << n);
@@ -181,9 +181,9 @@ fn shr(x: u32, y: u32) -> Value
     ensures { worth result ≡ shr_value (signed x) (signed y) }
 {
     if y >= 2147483648 {
-        return Value::Known(shift_down(x, y - 2147483648));
+        return Ok(Some(shift_down(x, y - 2147483648)));
     }
-    Value::Missing
+    Ok(None)
 }
 
 // A word with its top bit inverted is the two's complement of the value that it holds. These three invert it, and invert it back.
@@ -222,8 +222,8 @@ pub(crate) fn binary(o: Binary, x: u32, y: u32) -> Value
         Binary::Or => either(x, y),
         Binary::Shl => shl(x, y),
         Binary::Shr => shr(x, y),
-        Binary::Band => Value::Known(band(x, y)),
-        Binary::Bor => Value::Known(bor(x, y)),
-        Binary::Bxor => Value::Known(bxor(x, y)),
+        Binary::Band => Ok(Some(band(x, y))),
+        Binary::Bor => Ok(Some(bor(x, y))),
+        Binary::Bxor => Ok(Some(bxor(x, y))),
     }
 }

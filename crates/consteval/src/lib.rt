@@ -9,7 +9,6 @@ ghost use Rattle.consteval.specs.Worth.{worth, names_of};
 
 use crate::shape::Shape;
 use lines::bytes::is_open;
-use lines::parts::{Pair, Single, Triple};
 use lines::{numbers, parts, words};
 
 pub mod arith;
@@ -17,13 +16,12 @@ pub mod fill;
 pub mod names;
 mod shape;
 
-// A value v in INT is held as v + 2147483648.
-#[derive(Clone, Copy)]
-pub enum Value {
-    Known(u32),
-    Missing,
-    Outside,
-}
+// A constant is outside INT.
+#[derive(Clone, Copy, Debug, PartialEq, Eq)]
+pub struct Outside;
+
+// A value v in INT is held as v + 2147483648; `None` where there is none.
+pub type Value = Result<Option<u32>, Outside>;
 
 fn literal(e: &[u8]) -> Value
     ensures { worth result ≡ within (pos (number e.now)) }
@@ -38,11 +36,7 @@ fn atom(e: &[u8]) -> Value
     match shape::shape_of(words::word_of(e)) {
         Shape::True => arith::truth(true),
         Shape::False => arith::truth(false),
-        Shape::Name => literal(e),
-        Shape::If => literal(e),
-        Shape::One(_) => literal(e),
-        Shape::Two(_) => literal(e),
-        Shape::None => literal(e),
+        _ => literal(e),
     }
 }
 
@@ -58,46 +52,48 @@ pub fn eval(e: &[u8], depth: u32, names: &[u32], used: usize) -> Value
     }
     let h = parts::part_end(e, 1);
     match shape::shape_of(words::word_of(parts::between(e, 0, h))) {
-        Shape::Name => match parts::as_one(e, h) {
-            Single::Is(a) => names::look_up(names, used, numbers::value(parts::between(e, h, a))),
-            Single::Not => Value::Missing,
-        },
-        Shape::If => match parts::as_three(e, h) {
-            Triple::Are(a, b, c) => match eval(parts::between(e, h, a), depth - 1, names, used) {
-                Value::Known(x) => {
-                    if x == 2147483648 {
-                        eval(parts::between(e, b, c), depth - 1, names, used)
-                    } else {
-                        eval(parts::between(e, a, b), depth - 1, names, used)
-                    }
-                }
-                Value::Missing => Value::Missing,
-                Value::Outside => Value::Outside,
-            },
-            Triple::Not => Value::Missing,
-        },
-        Shape::One(o) => match parts::as_one(e, h) {
-            Single::Is(a) => match eval(parts::between(e, h, a), depth - 1, names, used) {
-                Value::Known(x) => arith::unary(o, x),
-                Value::Missing => Value::Missing,
-                Value::Outside => Value::Outside,
-            },
-            Single::Not => Value::Missing,
-        },
-        Shape::Two(o) => match parts::as_two(e, h) {
-            Pair::Are(a, b) => match eval(parts::between(e, h, a), depth - 1, names, used) {
-                Value::Known(x) => match eval(parts::between(e, a, b), depth - 1, names, used) {
-                    Value::Known(y) => arith::binary(o, x, y),
-                    Value::Missing => Value::Missing,
-                    Value::Outside => Value::Outside,
-                },
-                Value::Missing => Value::Missing,
-                Value::Outside => Value::Outside,
-            },
-            Pair::Not => Value::Missing,
-        },
-        Shape::True => Value::Missing,
-        Shape::False => Value::Missing,
-        Shape::None => Value::Missing,
+        Shape::Name => {
+            let Some(a) = parts::as_one(e, h) else {
+                return Ok(None);
+            };
+            Ok(names::look_up(names, used, numbers::value(parts::between(e, h, a))))
+        }
+        Shape::If => {
+            let Some((a, b, c)) = parts::as_three(e, h) else {
+                return Ok(None);
+            };
+            let Some(x) = eval(parts::between(e, h, a), depth - 1, names, used)? else {
+                return Ok(None);
+            };
+            if x == 2147483648 {
+                eval(parts::between(e, b, c), depth - 1, names, used)
+            } else {
+                eval(parts::between(e, a, b), depth - 1, names, used)
+            }
+        }
+        Shape::One(o) => {
+            let Some(a) = parts::as_one(e, h) else {
+                return Ok(None);
+            };
+            let Some(x) = eval(parts::between(e, h, a), depth - 1, names, used)? else {
+                return Ok(None);
+            };
+            arith::unary(o, x)
+        }
+        Shape::Two(o) => {
+            let Some((a, b)) = parts::as_two(e, h) else {
+                return Ok(None);
+            };
+            let Some(x) = eval(parts::between(e, h, a), depth - 1, names, used)? else {
+                return Ok(None);
+            };
+            let Some(y) = eval(parts::between(e, a, b), depth - 1, names, used)? else {
+                return Ok(None);
+            };
+            arith::binary(o, x, y)
+        }
+        Shape::True => Ok(None),
+        Shape::False => Ok(None),
+        Shape::None => Ok(None),
     }
 }

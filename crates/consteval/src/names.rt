@@ -1,9 +1,7 @@
 // The name table: pairs of a name and its value, the newest last. To take the newest away is to count one pair less.
-ghost use Rattle.std.specs.Prelude.{◌≡◌, ◌/◌, min, length};
+ghost use Rattle.std.specs.Prelude.{◌≡◌, ◌/◌, min, length, Ok};
 ghost use Rattle.spec.specs.Value.{value_of_name};
 ghost use Rattle.consteval.specs.Worth.{worth, names_of, room, pushed};
-
-use crate::Value;
 
 // How many pairs count: those that are used, as far as there are places.
 fn counted(names: &[u32], used: usize) -> usize
@@ -17,17 +15,15 @@ fn counted(names: &[u32], used: usize) -> usize
 }
 
 // The newest value of a name.
-pub(crate) fn look_up(names: &[u32], used: usize, n: u64) -> Value
-    ensures { worth result ≡ value_of_name (names_of names.now used) n }
+pub(crate) fn look_up(names: &[u32], used: usize, n: u64) -> Option<u32>
+    ensures { worth (Ok result) ≡ value_of_name (names_of names.now used) n }
 {
-    let mut i = counted(names, used);
-    while 0 < i {
-        i -= 1;
+    for i in (0..counted(names, used)).rev() {
         if names[i + i] as u64 == n {
-            return Value::Known(names[i + i + 1]);
+            return Some(names[i + i + 1]);
         }
     }
-    Value::Missing
+    None
 }
 
 // Puts a pair behind those that are used, and says whether there was room.

@@ -10,15 +10,14 @@ use lib.ListN.{get_or}
 use lib.Dec.{ltb}
 use lib.IntN.{ℤ, negsuc}
 use borrow.Author.Tests.{ltb-true}
-use Rattle.std.specs.Prelude.{Result, Ok}
+use Rattle.std.specs.Prelude.{Result, Some, None, Ok, Err}
 use Rattle.spec.specs.Value.{Value}
 use Rattle.spec.specs.Edge.{Node, inst_out, no_reads, Head, is_inst, indexed_reads}
 use Rattle.graph.specs.Table.{unbiased}
 use Rattle.graph.specs.Stands.{full, Heading, Read}
 use Rattle.graph.specs.declared.Full.{Full}
-use Rattle.consteval.specs.Worth.{signed, worth}
-use Rattle.consteval.specs.declared.Value.{Value as Answer}
-use Rattle.consteval.specs.declared.Value.TheVariants.{Known, Missing, Outside}
+use Rattle.consteval.specs.declared.Outside.{Outside}
+use Rattle.consteval.specs.Worth.{Answer, signed, worth}
 use Rattle.edges.specs.Reads.{kind_word}
 use Rattle.edges.specs.Shows.{one_read, NodesRead, inst_by}
 use Rattle.edges.proofs.ReadLaws.{read_none, read_one, read_out}
@@ -61,14 +60,14 @@ module _ (i p : ℕ) {v : Answer} {z : Value} (qv : worth v ≡ z) where
   by_value : (u : Answer) → v ≡ u → indexed_reads i (worth u) p ≡ indexed_reads i z p
   by_value u e = ap (λ (y : Value). indexed_reads i y p) (ap worth (sym e) ∙ qv)
 
-  pub reads_missing : v ≡ Missing → no_reads ≡ indexed_reads i z p
-  reads_missing e = by_value Missing e
+  pub reads_missing : v ≡ Ok None → no_reads ≡ indexed_reads i z p
+  reads_missing e = by_value (Ok None) e
 
-  pub reads_outside : v ≡ Outside → record { nodes = []; out = true } ≡ indexed_reads i z p
-  reads_outside e = by_value Outside e
+  pub reads_outside : {f : Outside} → v ≡ Err f → record { nodes = []; out = true } ≡ indexed_reads i z p
+  reads_outside {f} e = by_value (Err f) e
 
-  pub reads_known : {x : ℕ} → v ≡ Known x → one_read (inst_out i (some (unbiased x)) p) ≡ indexed_reads i z p
-  reads_known {x} e = ap (λ (u : ℤ). one_read (inst_out i (some u) p)) (sym (same_word x)) ∙ by_value (Known x) e
+  pub reads_known : {x : ℕ} → v ≡ Ok (Some x) → one_read (inst_out i (some (unbiased x)) p) ≡ indexed_reads i z p
+  reads_known {x} e = ap (λ (u : ℤ). one_read (inst_out i (some u) p)) (sym (same_word x)) ∙ by_value (Ok (Some x)) e
 
 module _ (g : List ℕ) (from : ℕ) where
   module _ (m : Node) (a : Result ℕ Full) (g' : List ℕ) (read : (hs : List Head) (n : Node) (start : ℕ) (rs : List Node) → Heading g hs n start rs from → Read a g' hs n start rs from m) where
@@ -80,13 +79,13 @@ module _ (g : List ℕ) (from : ℕ) where
 
   -- the index: its value
   module _ (i p : ℕ) {v : Answer} {z : Value} (qv : worth v ≡ z) where
-    pub index_missing : v ≡ Missing → NodesRead true (indexed_reads i z p) g g from
+    pub index_missing : v ≡ Ok None → NodesRead true (indexed_reads i z p) g g from
     index_missing e = rw (sym qv ∙ ap worth e) (λ hs n start rs h. read_none hs n start from g rs h)
 
-    pub index_outside : (g' : List ℕ) → v ≡ Outside → NodesRead false (indexed_reads i z p) g g' from
+    pub index_outside : (g' : List ℕ) {f : Outside} → v ≡ Err f → NodesRead false (indexed_reads i z p) g g' from
     index_outside g' e = rw (sym qv ∙ ap worth e) (λ hs n start rs h. read_out hs n start from g' rs)
 
-    module _ {x : ℕ} (e : v ≡ Known x) (a : Result ℕ Full) (g' : List ℕ) (read : (hs : List Head) (n : Node) (start : ℕ) (rs : List Node) → Heading g hs n start rs from → Read a g' hs n start rs from (inst_out i (some (unbiased x)) p)) where
+    module _ {x : ℕ} (e : v ≡ Ok (Some x)) (a : Result ℕ Full) (g' : List ℕ) (read : (hs : List Head) (n : Node) (start : ℕ) (rs : List Node) → Heading g hs n start rs from → Read a g' hs n start rs from (inst_out i (some (unbiased x)) p)) where
       pub index_at : {j : ℕ} → a ≡ Ok j → NodesRead true (indexed_reads i z p) g g' from
       index_at f = rw (sym (reads_known i p qv e)) (output_at (inst_out i (some (unbiased x)) p) a g' read f)
 

@@ -10,7 +10,7 @@ use lib.ListN.{drop, get_or}
 use lib.Dec.{ltb}
 use lib.IntN.{ℤ}
 use borrow.Author.Tests.{ltb-true, eq-eqb, ne_eqb}
-use Rattle.std.specs.Prelude.{Result, Ok}
+use Rattle.std.specs.Prelude.{Result, Some, None, Ok, Err}
 use Rattle.spec.specs.Bytes.{Bytes, show_number, show_rest, show_form}
 use Rattle.spec.specs.Syntax.{Expr, lit, truth, name, field, index, if_else, unary, binary, all, Place, single, at, Conn, Inst, inst, Header}
 use Rattle.spec.specs.Show.{show_expr, show_place, show_conns, show_item}
@@ -26,16 +26,14 @@ use Rattle.runs.specs.Run.{ShowsItem}
 use Rattle.graph.specs.Table.{unbiased}
 use Rattle.graph.specs.Stands.{full, Stands, Headed}
 use Rattle.graph.specs.declared.Full.{Full}
-use Rattle.consteval.specs.Worth.{worth}
-use Rattle.consteval.specs.declared.Value.{Value as Answer}
-use Rattle.consteval.specs.declared.Value.TheVariants.{Known, Missing, Outside}
+use Rattle.consteval.specs.declared.Outside.{Outside}
+use Rattle.consteval.specs.Worth.{Answer, worth}
 use Rattle.lines.specs.Parts.{part_end, piece, follows}
 use Rattle.edges.specs.Reads.{KindsOf, ReadAll, HeadAll}
 use Rattle.edges.specs.Shows.{ExprRead}
 use Rattle.edges.specs.Lines.{place_end, module_end, number_at, index_value, inst_index, inst_module, IndexIs, ModuleIs, ShowsConn, ShowsConns, ConnRead, ConnsRead, OutputHead, InstHeads}
 use Rattle.edges.proofs.ReadLaws.{read_none, read_then, read_stops, head_one, head_full, heads_none, heads_then, heads_stop}
 use Rattle.edges.proofs.ExprLaws.{and_none}
-use Rattle.edges.proofs.InstLaws.{same_word}
 use Rattle.edges.proofs.PartLaws.{EndsAt, Ended, ended, ended_next, ended_after, number_here, follows_byte, both_true}
 use Rattle.edges.proofs.LineLaws.{as_headed, as_full}
 
@@ -247,13 +245,13 @@ module _ (o : ℕ) (s : Summary) (x : Bytes) (a d : ℕ) (kinds : List ℕ) (nam
 -- ---- `output_node`
 
 module _ (i o : ℕ) (v : Answer) where
-  pub node_known : {y : ℕ} → v ≡ Known y → inst_out i (some (unbiased y)) o ≡ inst_out i (index_of (worth v)) o
+  pub node_known : {y : ℕ} → v ≡ Ok (Some y) → inst_out i (some (unbiased y)) o ≡ inst_out i (index_of (worth v)) o
   node_known {y} e = sym (ap (λ (u : Answer). inst_out i (index_of (worth u)) o) e ∙ ap (λ (z : ℤ). inst_out i (some z) o) (same_word y))
 
-  pub node_missing : v ≡ Missing → inst_out i none o ≡ inst_out i (index_of (worth v)) o
+  pub node_missing : v ≡ Ok None → inst_out i none o ≡ inst_out i (index_of (worth v)) o
   node_missing e = sym (ap (λ (u : Answer). inst_out i (index_of (worth u)) o) e)
 
-  pub node_outside : v ≡ Outside → inst_out i none o ≡ inst_out i (index_of (worth v)) o
+  pub node_outside : {f : Outside} → v ≡ Err f → inst_out i none o ≡ inst_out i (index_of (worth v)) o
   node_outside e = sym (ap (λ (u : Answer). inst_out i (index_of (worth u)) o) e)
 
 -- ---- `output_head`

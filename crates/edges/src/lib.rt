@@ -156,12 +156,12 @@ fn index_read(
     ensures reads_or_cleared { ReadsOrCleared result (indexed_reads i (value (names_of names.now used) (decode_expr depth e.now)) p) from g.old g.new }
 {
     match consteval::eval(e, depth, names, used) {
-        Value::Known(v) => match graph::read(g, from, Node::OutputAt(i, v, p)) {
+        Ok(Some(v)) => match graph::read(g, from, Node::OutputAt(i, v, p)) {
             Ok(_) => true,
             Err(_) => false,
         },
-        Value::Missing => true,
-        Value::Outside => {
+        Ok(None) => true,
+        Err(_) => {
             graph::clear(g);
             false
         }
@@ -365,7 +365,7 @@ pub fn inst_index(x: &[u8], depth: u32, names: &[u32], used: usize) -> Value
     let a = next_end(x, 5);
     let e = parts::between(x, a, next_end(x, a));
     if is_minus(parts::byte(e, 0)) {
-        return Value::Missing;
+        return Ok(None);
     }
     consteval::eval(e, under(depth, 1), names, used)
 }
@@ -512,9 +512,8 @@ fn output_node(i: u32, index: Value, o: u32) -> Node
     ensures { node_of result ≡ inst_out i (index_of (worth index)) o }
 {
     match index {
-        Value::Known(v) => Node::OutputAt(i, v, o),
-        Value::Missing => Node::Output(i, o),
-        Value::Outside => Node::Output(i, o),
+        Ok(Some(v)) => Node::OutputAt(i, v, o),
+        _ => Node::Output(i, o),
     }
 }
 

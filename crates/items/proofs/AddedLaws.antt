@@ -22,9 +22,9 @@ use Rattle.edges.specs.Reads.{kind_word}
 use Rattle.edges.specs.Total.{parts_behind}
 use Rattle.edges.proofs.TotalLaws.{parts_same}
 use Rattle.items.specs.declared.Named.{Named}
-use Rattle.items.specs.declared.Extended as E
-use Rattle.items.specs.declared.Extended.TheVariants as extended
-use Rattle.items.specs.Lines.{number_at, named_at, index_at, ExtentIs, lvalue_part, driven}
+use Rattle.consteval.specs.declared.Outside.{Outside}
+use Rattle.std.specs.Prelude.{Ok, Err}
+use Rattle.items.specs.Lines.{Extended, number_at, named_at, index_at, ExtentIs, lvalue_part, driven}
 use Rattle.items.specs.Added.{OwnLeaves, and_then, driving_by, is_output, output_row, port_added, reg_added, mem_added, extent_as, driven_site, output_driven, drive_by, drive_added, block_added, set_by, set_added, default_by, default_name, default_added, all_added, when_added, stmt_added, on_added, line_added}
 
 -- ---- what is left, by the answer
@@ -142,24 +142,24 @@ as_of (extent.Range l h) = refl
 as_of extent.Dynamic = refl
 as_of extent.Unknown = refl
 
-module _ (y : Bytes) (l : Named) (bound : Bool) (d : ℕ) (names : Names) (own : List ℕ) (x : E.Extended) (hx : ExtentIs x bound names (index_at y l.end d)) where
-  extent_said : (z : E.Extended) → x ≡ z → ExtentIs z bound names (index_at y l.end d)
+module _ (y : Bytes) (l : Named) (bound : Bool) (d : ℕ) (names : Names) (own : List ℕ) (x : Extended) (hx : ExtentIs x bound names (index_at y l.end d)) where
+  extent_said : (z : Extended) → x ≡ z → ExtentIs z bound names (index_at y l.end d)
   extent_said z q = rw q at hx
 
-  pub driven_outside : x ≡ extended.Outside → (own' : List ℕ) → Cleared own' → OwnLeaves false (output_driven y l bound d names own) own'
+  pub driven_outside : {f : Outside} → x ≡ Err f → (own' : List ℕ) → Cleared own' → OwnLeaves false (output_driven y l bound d names own) own'
   unfolding output_driven
-  driven_outside q own' z =
-      let e : output_driven y l bound d names own ≡ added stored.Full own = rw (extent_said extended.Outside q, output_driven) in
+  driven_outside {f} q own' z =
+      let e : output_driven y l bound d names own ≡ added stored.Full own = rw (extent_said (Err f) q, output_driven) in
       leaves_by false own' e (refl, z)
 
-  driven_is : (w : Extent) → x ≡ extended.Is w → output_driven y l bound d names own ≡ row_added site_table own (site_numbers (record { name = l.name; extent = w; start = l.start }))
+  driven_is : (w : Extent) → x ≡ Ok w → output_driven y l bound d names own ≡ row_added site_table own (site_numbers (record { name = l.name; extent = w; start = l.start }))
   unfolding output_driven
   driven_is w q =
-      let t = extent_said (extended.Is w) q in
+      let t = extent_said (Ok w) q in
       let z : output_driven y l bound d names own ≡ row_added site_table own (site_numbers (driven_site y l bound d names)) = rw (t.0, output_driven) in
       z ∙ ap (λ (e : Extent). row_added site_table own (site_numbers (record { name = l.name; extent = e; start = l.start }))) (ap extent_as (sym t.1) ∙ as_of w)
 
-  module _ (w : Extent) (q : x ≡ extended.Is w) (r : Stored) (own₁ : List ℕ)
+  module _ (w : Extent) (q : x ≡ Ok w) (r : Stored) (own₁ : List ℕ)
       (e : added r own₁ ≡ row_added site_table own (site_numbers (record { name = l.name; extent = w; start = l.start }))) where
     pub driven_done : r ≡ stored.Done → OwnLeaves true (output_driven y l bound d names own) own₁
     driven_done f = leaves_by true own₁ (driven_is w q) (stored_done r own₁ e f)

@@ -1,7 +1,7 @@
 -- Constants, extents and driven names: one law for each way of `constant_at`, `lvalue_extent`, `drive_output` and `drive`.
 -- Assumes nothing.
 use mathlib.Core.Path.{◌≡◌, refl, sym, ◌∙◌, ap, ap₂, subst}
-use mathlib.Core.Bool.{Bool, true, false, ◌&&◌, ◌||◌, or-true, true≢false}
+use mathlib.Core.Bool.{Bool, true, false, ◌&&◌, ◌||◌, or-true}
 use mathlib.Core.List.{List, [], ◌∷◌, ◌++◌, append-nil}
 use mathlib.Core.Option.{some}
 use Prim.Native.Nat.{ℕ, zero, suc, ◌+◌, ◌-◌, ◌≤◌}
@@ -15,14 +15,14 @@ use Rattle.spec.specs.Syntax.{out_kind, Expr, Index, whole, at_bit, high_low, LV
 use Rattle.spec.specs.Show.{show_expr, show_index}
 use Rattle.spec.specs.Decode.{decode_expr}
 use Rattle.spec.specs.Refusal.{expr_depth, index_depth}
-use Rattle.spec.specs.Value.{Value, known, missing, outside, Names, value, is_outside}
+use Rattle.spec.specs.Value.{Value, known, Names, value, is_outside}
 use Rattle.spec.specs.Site.{Site, kind_of, bit_extent, range_extent, lvalue_extent, Driving, an_output, a_wire, a_reg, a_mem, nothing, driving, drive_site, drive_misuse, drive_constants, line_sites, index_constants, line_constants, any_outside, line_misuses, line_outputs, Misused}
+use Rattle.std.specs.Prelude.{Option, Some, None, Ok, Err, is_some, unwrap_or, is_err}
 use Rattle.spec.specs.Block.{line_pairs, line_regs, line_mems}
 use Rattle.spec.proofs.Shown.{expr_shown}
 use Rattle.lines.specs.Parts.{part_end, piece, next_end, follows}
-use Rattle.consteval.specs.Worth.{signed, worth}
-use Rattle.consteval.specs.declared.Value.{Value as Answer}
-use Rattle.consteval.specs.declared.Value.TheVariants.{Known, Missing, Outside}
+use Rattle.consteval.specs.Worth.{Answer, signed, worth}
+use Rattle.consteval.specs.declared.Outside.{Outside}
 use Rattle.sites.specs.Own as table
 use Rattle.sites.specs.Own.{extent_of, site_of, misuse_of, unbiased, value_of, own_of, grown, room, added, add_site, add_misuse}
 use Rattle.sites.specs.declared.Extent.{Extent}
@@ -36,11 +36,8 @@ use Rattle.runs.proofs.Inside.{placed}
 use Rattle.edges.specs.Reads.{kind_word, KindsOf}
 use Rattle.walk.specs.Walk.{Own, own_line, over_own, add_all, same_misused}
 use Rattle.items.specs.declared.Named.{Named}
-use Rattle.items.specs.declared.Constant.{Constant}
-use Rattle.items.specs.declared.Extended as E
-use Rattle.items.specs.declared.Extended.TheVariants as extended
 use Rattle.items.specs.Held.{Held, OwnAfter}
-use Rattle.items.specs.Lines.{named_at, NamedIs, NamedAt, ShowsLValue, ConstantIs, expr_at, index_at, index_outside, says_outside, ExtentIs, with_block, DriveOutput, DriveLine, lvalue_part, driven, drive_outside}
+use Rattle.items.specs.Lines.{named_at, NamedIs, NamedAt, ShowsLValue, Extended, expr_at, index_at, index_outside, says_outside, ExtentIs, with_block, DriveOutput, DriveLine, lvalue_part, driven, drive_outside}
 use Rattle.items.proofs.Places.{part_follows, part_ends, named_means, drive_lvalue, lvalue_named}
 use Rattle.items.proofs.Tables.{held_within, held_sites, held_misuse}
 
@@ -60,24 +57,14 @@ same_word x = go (ltb x 2147483648) refl
     go true e = let l = ltb-true x 2147483648 e in let h : 2147483648 - suc x ≡ 2147483647 - x = omega arith in rw (e, unbiased) (ap negsuc h)
     go false e = rw (e, unbiased)
 
-module _ (x : Bytes) (b e d : ℕ) (names : Names) {t : Bytes} (qt : t ≡ piece x b e) (r : Answer) (q : worth r ≡ value names (decode_expr d t)) where
-  constant_here : worth r ≡ value names (decode_expr d (piece x b e))
-  constant_here = q ∙ ap (λ (u : Bytes). value names (decode_expr d u)) qt
+-- a constant that is not outside INT, by whether it has a value and which
+pub inside : (r : Option ℕ) → is_outside (worth (Ok r)) ≡ false
+inside (Some x) = refl
+inside None = refl
 
-  pub constant_known : {v : ℕ} → r ≡ Known v → ConstantIs (record { out = false; known = true; value = v }) (value names (decode_expr d (piece x b e)))
-  constant_known {v} f =
-      let z : value names (decode_expr d (piece x b e)) ≡ known (signed v) = sym constant_here ∙ ap worth f in
-      record { out = ap is_outside (sym z); within = λ _. z ∙ ap known (same_word v) }
-
-  pub constant_missing : r ≡ Missing → ConstantIs (record { out = false; known = false; value = 0 }) (value names (decode_expr d (piece x b e)))
-  constant_missing f =
-      let z : value names (decode_expr d (piece x b e)) ≡ missing = sym constant_here ∙ ap worth f in
-      record { out = ap is_outside (sym z); within = λ _. z }
-
-  pub constant_outside : r ≡ Outside → ConstantIs (record { out = true; known = false; value = 0 }) (value names (decode_expr d (piece x b e)))
-  constant_outside f =
-      let z : value names (decode_expr d (piece x b e)) ≡ outside = sym constant_here ∙ ap worth f in
-      record { out = ap is_outside (sym z); within = λ g. absurd (true≢false g) }
+pub told : (r : Option ℕ) → worth (Ok r) ≡ value_of (is_some r) (unwrap_or r 0)
+told (Some x) = ap known (same_word x)
+told None = refl
 
 -- ---- the index that stands in any bytes
 
@@ -117,25 +104,25 @@ index_read y end d (high_low h k) q l =
 -- ---- extents
 
 -- what the code says of the index behind the part that ends at `end`
-abbrev Extends : E.Extended → Bytes → ℕ → Bool → ℕ → Names → Type 0
+abbrev Extends : Extended → Bytes → ℕ → Bool → ℕ → Names → Type 0
 Extends r y end bound d names = ExtentIs r bound names (index_at y end d) × (says_outside r ≡ index_outside y end d names)
 
-says_so : (r : E.Extended) (bound : Bool) (names : Names) (i : Index) → ExtentIs r bound names i → says_outside r ≡ any_outside names (index_constants i)
-says_so (extended.Is e) bound names i h = sym h.0
-says_so extended.Outside bound names i h = sym h
+says_so : (r : Extended) (bound : Bool) (names : Names) (i : Index) → ExtentIs r bound names i → says_outside r ≡ any_outside names (index_constants i)
+says_so (Ok e) bound names i h = sym h.0
+says_so (Err e) bound names i h = sym h
 
-module _ (r : E.Extended) (y : Bytes) (end : ℕ) (bound : Bool) (d : ℕ) (names : Names) where
+module _ (r : Extended) (y : Bytes) (end : ℕ) (bound : Bool) (d : ℕ) (names : Names) where
   extends_by : (i : Index) → index_at y end d ≡ i → ExtentIs r bound names i → Extends r y end bound d names
   extends_by i q h =
       let t : ExtentIs r bound names (index_at y end d) = subst (ExtentIs r bound names) (sym q) h in
       (t, says_so r bound names (index_at y end d) t)
 
-pub extent_whole : (y : Bytes) (end : ℕ) (bound : Bool) (d : ℕ) (names : Names) → follows y end ≡ false → Extends (extended.Is extent.Whole) y end bound d names
+pub extent_whole : (y : Bytes) (end : ℕ) (bound : Bool) (d : ℕ) (names : Names) → follows y end ≡ false → Extends (Ok extent.Whole) y end bound d names
 unfolding any_outside index_constants lvalue_extent
-extent_whole y end bound d names f = extends_by (extended.Is extent.Whole) y end bound d names whole (index_none y end d f) (refl, refl)
+extent_whole y end bound d names f = extends_by (Ok extent.Whole) y end bound d names whole (index_none y end d f) (refl, refl)
 
 module _ (y : Bytes) (end : ℕ) (bound : Bool) (d : ℕ) (names : Names) (f : follows y end ≡ true) {a : ℕ} (qa : a ≡ part_end y (end + 1))
-    (h : Constant) (ch : ConstantIs h (value names (decode_expr d (piece y end a)))) where
+    (h : Answer) (ch : worth h ≡ value names (decode_expr d (piece y end a))) where
   second_here : {t : Bool} → follows y a ≡ t → follows y (next_end y end) ≡ t
   unfolding next_end
   second_here g = ap (λ (n : ℕ). follows y n) (sym qa) ∙ g
@@ -155,33 +142,45 @@ module _ (y : Bytes) (end : ℕ) (bound : Bool) (d : ℕ) (names : Names) (f : f
       index_two y end d f (second_here g)
       ∙ ap₂ high_low first_here (ap (λ (n : ℕ). decode_expr d (piece y n (part_end y (n + 1)))) (sym qa) ∙ ap (λ (n : ℕ). decode_expr d (piece y a n)) (sym qb))
 
-  pub extent_out : h.out ≡ true → Extends extended.Outside y end bound d names
+  pub extent_out : {w : Outside} {r : Extended} → h ≡ Err w → r ≡ Err (record {}) → Extends r y end bound d names
   unfolding any_outside index_constants
-  extent_out o = go (follows y a) refl
+  extent_out {r = r} o p = go (follows y a) refl
     where
-      go : (t : Bool) → follows y a ≡ t → Extends extended.Outside y end bound d names
-      go false g = extends_by extended.Outside y end bound d names _ (one_here g) (rw (sym ch.out ∙ o))
-      go true g = extends_by extended.Outside y end bound d names _ (two_here g refl) (rw (sym ch.out ∙ o))
+      out : is_outside (value names (decode_expr d (piece y end a))) ≡ true
+      out = ap is_outside (sym ch ∙ ap worth o)
 
-  module _ (o : h.out ≡ false) where
-    pub extent_bit : follows y a ≡ false → (x : Extent) → extent_of x ≡ bit_extent bound (value_of h.known h.value) → Extends (extended.Is x) y end bound d names
+      go : (t : Bool) → follows y a ≡ t → Extends r y end bound d names
+      go false g = extends_by r y end bound d names _ (one_here g) (rw p (rw out))
+      go true g = extends_by r y end bound d names _ (two_here g refl) (rw p (rw out))
+
+  module _ {c : Option ℕ} (o : h ≡ Ok c) where
+    first_told : value names (decode_expr d (piece y end a)) ≡ value_of (is_some c) (unwrap_or c 0)
+    first_told = sym ch ∙ ap worth o ∙ told c
+
+    first_inside : is_outside (value names (decode_expr d (piece y end a))) ≡ false
+    first_inside = ap is_outside (sym ch ∙ ap worth o) ∙ inside c
+
+    pub extent_bit : follows y a ≡ false → (x : Extent) → extent_of x ≡ bit_extent bound (value_of (is_some c) (unwrap_or c 0)) → Extends (Ok x) y end bound d names
     unfolding any_outside index_constants lvalue_extent
-    extent_bit g x w = extends_by (extended.Is x) y end bound d names _ (one_here g) (rw (sym ch.out ∙ o), w ∙ ap (bit_extent bound) (sym (ch.within o)))
+    extent_bit g x w = extends_by (Ok x) y end bound d names _ (one_here g) (rw first_inside, w ∙ ap (bit_extent bound) (sym first_told))
 
-    module _ (g : follows y a ≡ true) {b : ℕ} (qb : b ≡ part_end y (a + 1)) (m : Constant) (cm : ConstantIs m (value names (decode_expr d (piece y a b)))) where
-      pub extent_second_out : m.out ≡ true → Extends extended.Outside y end bound d names
+    module _ (g : follows y a ≡ true) {b : ℕ} (qb : b ≡ part_end y (a + 1)) (m : Answer) (cm : worth m ≡ value names (decode_expr d (piece y a b))) where
+      pub extent_second_out : {w : Outside} {r : Extended} → m ≡ Err w → r ≡ Err (record {}) → Extends r y end bound d names
       unfolding any_outside index_constants
-      extent_second_out n =
-          extends_by extended.Outside y end bound d names _ (two_here g qb) (rw (sym cm.out ∙ n) (or-true (is_outside (value names (decode_expr d (piece y end a))))))
+      extent_second_out {r = r} n p =
+          let out : is_outside (value names (decode_expr d (piece y a b))) ≡ true = ap is_outside (sym cm ∙ ap worth n) in
+          extends_by r y end bound d names _ (two_here g qb) (rw p (rw out (or-true (is_outside (value names (decode_expr d (piece y end a)))))))
 
-      pub extent_range : m.out ≡ false → (x : Extent) → extent_of x ≡ range_extent bound (value_of h.known h.value) (value_of m.known m.value)
-          → Extends (extended.Is x) y end bound d names
+      pub extent_range : {e : Option ℕ} → m ≡ Ok e → (x : Extent) → extent_of x ≡ range_extent bound (value_of (is_some c) (unwrap_or c 0)) (value_of (is_some e) (unwrap_or e 0))
+          → Extends (Ok x) y end bound d names
       unfolding any_outside index_constants lvalue_extent
-      extent_range n x w =
-          extends_by (extended.Is x) y end bound d names _ (two_here g qb) (
-            rw (sym ch.out ∙ o, sym cm.out ∙ n),
-            w ∙ ap (λ (z : Value). range_extent bound z (value_of m.known m.value)) (sym (ch.within o))
-                ∙ ap (range_extent bound (value names (decode_expr d (piece y end a)))) (sym (cm.within n)),
+      extent_range {e} n x w =
+          let second_inside : is_outside (value names (decode_expr d (piece y a b))) ≡ false = ap is_outside (sym cm ∙ ap worth n) ∙ inside e in
+          let second_told : value names (decode_expr d (piece y a b)) ≡ value_of (is_some e) (unwrap_or e 0) = sym cm ∙ ap worth n ∙ told e in
+          extends_by (Ok x) y end bound d names _ (two_here g qb) (
+            rw (first_inside, second_inside),
+            w ∙ ap (λ (z : Value). range_extent bound z (value_of (is_some e) (unwrap_or e 0))) (sym first_told)
+                ∙ ap (range_extent bound (value names (decode_expr d (piece y end a)))) (sym second_told),
           )
 
 -- ---- what a drive adds, by what driving does
@@ -221,24 +220,24 @@ true_right a b e = rw e (or-true a)
 
 -- ---- the drive of an output
 
-module _ (y : Bytes) (l : Named) (bound : Bool) (d : ℕ) (names : Names) (x : E.Extended) (hx : ExtentIs x bound names (index_at y l.end d)) where
-  extent_told : (lv : LValue) → ShowsLValue y d lv → NamedIs l y lv.name lv.start (show_index lv.index) → (z : E.Extended) → x ≡ z → ExtentIs z bound names lv.index
+module _ (y : Bytes) (l : Named) (bound : Bool) (d : ℕ) (names : Names) (x : Extended) (hx : ExtentIs x bound names (index_at y l.end d)) where
+  extent_told : (lv : LValue) → ShowsLValue y d lv → NamedIs l y lv.name lv.start (show_index lv.index) → (z : Extended) → x ≡ z → ExtentIs z bound names lv.index
   extent_told lv p n z q =
       let t : ExtentIs x bound names lv.index = subst (ExtentIs x bound names) (index_read y l.end d lv.index n.behind p.deep) hx in
       rw q at t
 
-  pub output_outside : (own own' : List ℕ) → x ≡ extended.Outside → DriveOutput false y l bound d names own own'
-  output_outside own own' q lv e p n header k text o h =
-      let t = extent_told lv p n extended.Outside q in
+  pub output_outside : (own own' : List ℕ) {z : Outside} → x ≡ Err z → DriveOutput false y l bound d names own own'
+  output_outside own own' {z} q lv e p n header k text o h =
+      let t = extent_told lv p n (Err z) q in
       rw (drive_line_constants bound header names lv e an_output (ap driving k), t)
 
-  module _ (own own' : List ℕ) (w : Extent) (q : x ≡ extended.Is w) (r : Stored) (size : length own' ≡ length own)
+  module _ (own own' : List ℕ) (w : Extent) (q : x ≡ Ok w) (r : Stored) (size : length own' ≡ length own)
       (s : length own ≡ table.places → added r (own_of own') ≡ add_site (site_of (record { name = l.name; extent = w; start = l.start })) (own_of own)) where
     abbrev new_site : Site
     new_site = site_of (record { name = l.name; extent = w; start = l.start })
 
     site_told : (lv : LValue) → ShowsLValue y d lv → NamedIs l y lv.name lv.start (show_index lv.index) → new_site ∷ [] ≡ drive_site an_output bound names lv
-    site_told lv p n = let t = (extent_told lv p n (extended.Is w) q).1 in λ i. record { name = n.name i; extent = t i; start = n.start i } ∷ []
+    site_told lv p n = let t = (extent_told lv p n (Ok w) q).1 in λ i. record { name = n.name i; extent = t i; start = n.start i } ∷ []
 
     -- there is room, or there is none
     site_room : (o : Own) → (own_of own).sites ≡ o.sites → ltb (length o.sites) 1024 ≡ true
@@ -258,7 +257,7 @@ module _ (y : Bytes) (l : Named) (bound : Bool) (d : ℕ) (names : Names) (x : E
           let g = s h.sized ∙ site_room o h.sites f in
           let u : (own_of own).sites ++ new_site ∷ [] ≡ o.sites ++ drive_site an_output bound names lv =
           ap (λ (z : List Site). z ++ new_site ∷ []) h.sites ∙ ap (λ (z : List Site). o.sites ++ z) (site_told lv p n) in
-          drive_by bound header names lv e an_output (ap driving k) (extent_told lv p n (extended.Is w) q).0 text own' o
+          drive_by bound header names lv e an_output (ap driving k) (extent_told lv p n (Ok w) q).0 text own' o
           (held_sites text own own' o h size ((own_of own).sites ++ new_site ∷ []) (ap (λ (z : table.Added table.Own). z.own) g) (o.sites ++ drive_site an_output bound names lv) u)
 
       full_over : ltb (length o.sites) 1024 ≡ false → OwnAfter false text own' bound header names (drive lv e) o
@@ -397,8 +396,12 @@ module _ (x : Bytes) (d : ℕ) (kinds : List ℕ) (names : Names) where
     pub other_kind : (k ≡ 2 → ⊥) → false ≡ drive_outside x d kinds names
     other_kind f = by_kind false (ne_eqb k 2 f) _ refl
 
-    pub output_kind : k ≡ 2 → (v : E.Extended) → says_outside v ≡ index_outside y l.end d names → (o : Bool) → says_outside v ≡ o → o ≡ drive_outside x d kinds names
+    pub output_kind : k ≡ 2 → (v : Extended) → says_outside v ≡ index_outside y l.end d names → (o : Bool) → says_outside v ≡ o → o ≡ drive_outside x d kinds names
     output_kind z v h o q = by_kind true (eq-eqb k 2 z) o (sym h ∙ q)
+
+pub says_err : (r : Extended) → says_outside r ≡ is_err r
+says_err (Ok e) = refl
+says_err (Err e) = refl
 
 -- on what shows a `drive`, and by the kind of its name
 pub drive_means : (x : Bytes) (d : ℕ) (kinds : List ℕ) (names : Names) → get_or x 1 0 ≡ 100 → (lv : LValue) (e : Expr) → ShowsItem x d (drive lv e)

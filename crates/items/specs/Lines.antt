@@ -1,7 +1,7 @@
 -- What the code says of a collected line and of the parts of one. 01: The line; The value; The site; The block; Refused because
 -- of the state.
 -- To a reader: definitions that contracts of this and other crates cite; each such contract is proved; check_drivers' own promise cites none of them.
-use Rattle.std.specs.Prelude.{◌≡◌, Bool, true, false, ◌&&◌, List, ◌∷◌, ℕ, ◌+◌, ◌≤◌, ◌<◌, length, get_or, take, drop, replicate, eqb, ltb}
+use Rattle.std.specs.Prelude.{◌≡◌, Bool, true, false, ◌&&◌, List, ◌∷◌, ℕ, ◌+◌, ◌≤◌, ◌<◌, length, get_or, take, drop, replicate, eqb, ltb, Result, Ok, Err}
 use Rattle.std.proofs.Math.Option.{some}
 use Rattle.std.proofs.lemmas.List.Edits.{sets}
 use Rattle.spec.specs.Bytes.{Bytes, number, show_number, show_rest}
@@ -9,20 +9,19 @@ use Rattle.spec.specs.Syntax.{name_bound, number_bound, out_kind, Expr, Width, I
 use Rattle.spec.specs.Show.{show_index, show_lvalue, show_stmt, show_stmts}
 use Rattle.spec.specs.Decode.{decode_expr}
 use Rattle.spec.specs.Refusal.{index_depth, stmt_depth, stmts_depth, stmt_in_range, stmts_in_range}
-use Rattle.spec.specs.Value.{Value, Names, is_outside}
+use Rattle.spec.specs.Value.{Names}
 use Rattle.spec.specs.Site.{kind_of, lvalue_extent, index_constants, line_constants, any_outside, Misused, stmt_misuses, stmts_misuses}
 use Rattle.spec.specs.Block.{Pair, stmt_pairs, stmts_pairs}
 use Rattle.spec.specs.Check.{pair_limit}
 use Rattle.lines.specs.Parts.{piece, next_end, follows}
-use Rattle.sites.specs.Own.{extent_of, value_of}
+use Rattle.sites.specs.Own.{extent_of}
 use Rattle.runs.specs.Run.{ShowsItem}
 use Rattle.edges.specs.Reads.{KindsOf}
 use Rattle.steps.specs.Steps.{plain}
 use Rattle.walk.specs.Walk.{Own, add_all, same_pair, same_misused}
 use Rattle.items.specs.declared.Named.{Named}
-use Rattle.items.specs.declared.Constant.{Constant}
-use Rattle.items.specs.declared.Extended as E
-use Rattle.items.specs.declared.Extended.TheVariants as extended
+use Rattle.consteval.specs.declared.Outside.{Outside}
+use Rattle.sites.specs.declared.Extent.{Extent}
 use Rattle.items.specs.Held.{Held, OwnAfter}
 
 -- 01, The line: the bytes x stand in the text from `base` on, and each place of the text is a word
@@ -90,12 +89,6 @@ pub record ShowsStmts (x : Bytes) (end d : ℕ) (ss : Stmts) : Type 0 where
 
 -- ---- 01, The site: a drive
 
--- 01, The value; Refused because of the state: r says whether a constant is outside INT, and where it is not, its value or that it has
--- none
-pub record ConstantIs (r : Constant) (v : Value) : Type 0 where
-  pub out : r.out ≡ is_outside v
-  pub within : r.out ≡ false → v ≡ value_of r.known r.value
-
 -- 01, The line: the E in any bytes behind the part that ends at `before`, at most d brackets deep
 abbrev pub expr_at : Bytes → (before d : ℕ) → Expr
 expr_at x before d = decode_expr d (piece x before (next_end x before))
@@ -112,19 +105,23 @@ index_at x end d =
 abbrev pub index_outside : Bytes → (end d : ℕ) → Names → Bool
 index_outside x end d names = any_outside names (index_constants (index_at x end d))
 
+-- 01, The site; Refused because of the state: what the code answers of an LV: its extent, or a constant is outside INT
+abbrev pub Extended : Type 0
+Extended = Result Extent Outside
+
 -- 01, Refused because of the state: 20 where an index of an LV is outside INT, else 0
-abbrev pub number_of : E.Extended → ℕ
-number_of (extended.Is e) = 0
-number_of extended.Outside = 20
+abbrev pub number_of : Extended → ℕ
+number_of (Ok e) = 0
+number_of (Err e) = 20
 
 -- 01, Refused because of the state: whether the code's answer is that a constant is outside INT
-abbrev pub says_outside : E.Extended → Bool
+abbrev pub says_outside : Extended → Bool
 says_outside r = ltb 0 (number_of r)
 
 -- 01, The site; Refused because of the state: the extent of an index, or one of its constants is outside INT
-abbrev pub ExtentIs : E.Extended → Bool → Names → Index → Type 0
-ExtentIs (extended.Is e) bound names i = (any_outside names (index_constants i) ≡ false) × (extent_of e ≡ lvalue_extent bound names i)
-ExtentIs extended.Outside bound names i = any_outside names (index_constants i) ≡ true
+abbrev pub ExtentIs : Extended → Bool → Names → Index → Type 0
+ExtentIs (Ok e) bound names i = (any_outside names (index_constants i) ≡ false) × (extent_of e ≡ lvalue_extent bound names i)
+ExtentIs (Err e) bound names i = any_outside names (index_constants i) ≡ true
 
 -- ---- 01, The block; The site: statements
 

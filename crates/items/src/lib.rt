@@ -5,16 +5,16 @@ ghost use Rattle.std.specs.Prelude.{◌≡◌, true, length};
 ghost use Rattle.spec.specs.Bytes.{Bytes};
 ghost use Rattle.spec.specs.Decode.{decode_expr};
 ghost use Rattle.spec.specs.Value.{value};
-ghost use Rattle.consteval.specs.Worth.{names_of};
+ghost use Rattle.consteval.specs.Worth.{names_of, worth};
 ghost use Rattle.lines.specs.Parts.{piece};
 ghost use Rattle.sites.specs.Own.{places};
 ghost use Rattle.walk.specs.Walk.{no_own};
 ghost use Rattle.items.specs.Held.{Held};
 ghost use Rattle.edges.specs.Total.{parts_behind};
 ghost use Rattle.items.specs.Added.{OwnLeaves, port_added, reg_added, mem_added, output_driven, drive_added, set_added, default_added, stmt_added, all_added, on_added, line_added};
-ghost use Rattle.items.specs.Lines.{emptied, number_at, named_at, ConstantIs, index_at, ExtentIs, says_outside, index_outside, SetAfter, DefaultAfter, StmtAfter, StmtsAfter, PortLine, RegLine, MemLine, DriveOutput, DriveLine, OnLine, OwnLine, drive_outside};
+ghost use Rattle.items.specs.Lines.{emptied, number_at, named_at, index_at, ExtentIs, says_outside, index_outside, SetAfter, DefaultAfter, StmtAfter, StmtsAfter, PortLine, RegLine, MemLine, DriveOutput, DriveLine, OnLine, OwnLine, drive_outside};
 
-use consteval::Value;
+use consteval::{Outside, Value};
 use lines::{numbers, parts};
 use sites::{Extent, Full, Misuse, Site};
 
@@ -81,48 +81,11 @@ fn named_at(x: &[u8], before: usize) -> Named
     }
 }
 
-// A constant: outside INT, known, or missing.
-#[derive(Clone, Copy)]
-struct Constant {
-    out: bool,
-    known: bool,
-    value: u32,
-}
-
 // The constant behind the byte at `before`, up to `end`.
-fn constant_at(
-    x: &[u8],
-    before: usize,
-    end: usize,
-    depth: u32,
-    names: &[u32],
-    used: usize,
-) -> Constant
-    ensures { ConstantIs result (value (names_of names.now used) (decode_expr depth (piece x.now before end))) }
+fn constant_at(x: &[u8], before: usize, end: usize, depth: u32, names: &[u32], used: usize) -> Value
+    ensures { worth result ≡ value (names_of names.now used) (decode_expr depth (piece x.now before end)) }
 {
-    match consteval::eval(parts::between(x, before, end), depth, names, used) {
-        Value::Known(v) => Constant {
-            out: false,
-            known: true,
-            value: v,
-        },
-        Value::Missing => Constant {
-            out: false,
-            known: false,
-            value: 0,
-        },
-        Value::Outside => Constant {
-            out: true,
-            known: false,
-            value: 0,
-        },
-    }
-}
-
-#[derive(Clone, Copy)]
-enum Extended {
-    Is(Extent),
-    Outside,
+    consteval::eval(parts::between(x, before, end), depth, names, used)
 }
 
 // An output's line; its width stands in the text, in which the line begins at `base`. A `port in` line adds nothing.
@@ -180,29 +143,29 @@ fn lvalue_extent(
     depth: u32,
     names: &[u32],
     used: usize,
-) -> Extended
+) -> Result<Extent, Outside>
     ensures extent_is { ExtentIs result bound (names_of names.now used) (index_at lv.now end depth) }
     ensures result_value { says_outside result ≡ index_outside lv.now end depth (names_of names.now used) }
 {
     if !parts::more(lv, end) {
-        return Extended::Is(Extent::Whole);
+        return Ok(Extent::Whole);
     }
     let a = parts::part_end(lv, end + 1);
-    let h = constant_at(lv, end, a, depth, names, used);
-    if h.out {
-        return Extended::Outside;
-    }
+    let h = constant_at(lv, end, a, depth, names, used)?;
     if !parts::more(lv, a) {
-        let e = sites::bit_extent(bound, h.known, h.value);
-        return Extended::Is(e);
+        let e = sites::bit_extent(bound, h.is_some(), h.unwrap_or(0));
+        return Ok(e);
     }
     let b = parts::part_end(lv, a + 1);
-    let l = constant_at(lv, a, b, depth, names, used);
-    if l.out {
-        return Extended::Outside;
-    }
-    let e = sites::range_extent(bound, h.known, h.value, l.known, l.value);
-    Extended::Is(e)
+    let l = constant_at(lv, a, b, depth, names, used)?;
+    let e = sites::range_extent(
+        bound,
+        h.is_some(),
+        h.unwrap_or(0),
+        l.is_some(),
+        l.unwrap_or(0),
+    );
+    Ok(e)
 }
 
 // A driven output: a site, unless an index is outside INT or there are too many.
@@ -221,7 +184,7 @@ fn drive_output(
 {
     let end = l.end;
     match lvalue_extent(lv, end, bound, depth, names, used) {
-        Extended::Is(e) => match sites::add_site(
+        Ok(e) => match sites::add_site(
             own,
             Site {
                 name: l.name,
@@ -235,7 +198,7 @@ fn drive_output(
                 false
             }
         },
-        Extended::Outside => {
+        Err(_) => {
             sites::clear(own);
             false
         }
@@ -436,8 +399,5 @@ pub fn drive_outside(x: &[u8], depth: u32, kinds: &[u8], names: &[u32], used: us
         return false;
     }
     let end = l.end;
-    match lvalue_extent(lv, end, true, depth, names, used) {
-        Extended::Is(_) => false,
-        Extended::Outside => true,
-    }
+    lvalue_extent(lv, end, true, depth, names, used).is_err()
 }

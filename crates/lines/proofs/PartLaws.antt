@@ -10,18 +10,13 @@ use lib.ListN.{length, take, drop, get_or, length-drop, drop_of_length-le, get_o
 use lib.Seq.{take_all, drop-length, take-nil, drop-cons, drop-drop}
 use lib.Dec.{eqb, ltb}
 use borrow.Author.Tests.{ne_eqb, eqb-true, ltb-true, ltb-false}
+use Rattle.std.specs.Prelude.{Option, Some, None}
 use Rattle.spec.specs.Bytes.{Bytes, onto, parts_from, parts}
 use Rattle.spec.specs.Decode.{with_one, with_two, with_three}
 use Rattle.spec.proofs.Numbers.{if_case}
 use Rattle.lines.specs.Parts.{scan, part_end, piece, follows, next_end, four_or_more, three_or_more, two_or_more, one_or_more, operands_of, to_single, to_pair, to_triple, single_of, pair_of, triple_of}
 use Rattle.lines.specs.declared.parts.Operands.{Operands}
 use Rattle.lines.specs.declared.parts.Operands.TheVariants.{Zero, One, Two, Three, Four, More}
-use Rattle.lines.specs.declared.parts.Single.{Single}
-use Rattle.lines.specs.declared.parts.Single.TheVariants.{Is, Not as not_one}
-use Rattle.lines.specs.declared.parts.Pair.{Pair}
-use Rattle.lines.specs.declared.parts.Pair.TheVariants.{Are as two, Not as not_two}
-use Rattle.lines.specs.declared.parts.Triple.{Triple}
-use Rattle.lines.specs.declared.parts.Triple.TheVariants.{Are as three, Not as not_three}
 
 -- ---- bytes and suffixes
 pub past_end : (s : Bytes) (i : ℕ) → length s ≤ i → 0 ≡ get_or s i 0
@@ -296,11 +291,11 @@ said s e =
 
 -- The specification's `with_one` to `with_three`, by what was found.
 module _ {A : Type 0} (z : A) (s : Bytes) (e : ℕ) where
-  pub one_is : (f : Bytes → A) {r : Single} {a : ℕ} → r ≡ single_of s e → r ≡ Is a → with_one z f (others s e) ≡ f (piece s e a)
+  pub one_is : (f : Bytes → A) {r : Option ℕ} {a : ℕ} → r ≡ single_of s e → r ≡ Some a → with_one z f (others s e) ≡ f (piece s e a)
   unfolding single_of
   one_is f {r} {a} q p = go (operands_of s e) (others s e) (said s e) (sym q ∙ p)
     where
-      go : (o : Operands) (ps : List Bytes) → Said s e o ps → to_single o ≡ Is a → with_one z f ps ≡ f (piece s e a)
+      go : (o : Operands) (ps : List Bytes) → Said s e o ps → to_single o ≡ Some a → with_one z f ps ≡ f (piece s e a)
       go Zero ps y x = absurd (let t : ◌≡◌ {A = ℕ} 0 1 = cc in omega arith)
       go (One k) ps y x = let aa : k ≡ a = cc in rw (y, aa)
       go (Two k l) ps y x = absurd (let t : ◌≡◌ {A = ℕ} 0 1 = cc in omega arith)
@@ -308,11 +303,11 @@ module _ {A : Type 0} (z : A) (s : Bytes) (e : ℕ) where
       go (Four k l m n) ps y x = absurd (let t : ◌≡◌ {A = ℕ} 0 1 = cc in omega arith)
       go More ps y x = absurd (let t : ◌≡◌ {A = ℕ} 0 1 = cc in omega arith)
 
-  pub one_not : (f : Bytes → A) {r : Single} → r ≡ single_of s e → r ≡ not_one → with_one z f (others s e) ≡ z
+  pub one_not : (f : Bytes → A) {r : Option ℕ} → r ≡ single_of s e → r ≡ None → with_one z f (others s e) ≡ z
   unfolding single_of
   one_not f {r} q p = go (operands_of s e) (others s e) (said s e) (sym q ∙ p)
     where
-      go : (o : Operands) (ps : List Bytes) → Said s e o ps → to_single o ≡ not_one → with_one z f ps ≡ z
+      go : (o : Operands) (ps : List Bytes) → Said s e o ps → to_single o ≡ None → with_one z f ps ≡ z
       go Zero ps y x = rw (y)
       go (One a) ps y x = absurd (let t : ◌≡◌ {A = ℕ} 0 1 = cc in omega arith)
       go (Two a b) ps y x = rw (y)
@@ -320,23 +315,23 @@ module _ {A : Type 0} (z : A) (s : Bytes) (e : ℕ) where
       go (Four a b c d) ps y x = rw (y)
       go More ps y x = rw y.6
 
-  pub two_is : (f : Bytes → Bytes → A) {r : Pair} {a b : ℕ} → r ≡ pair_of s e → r ≡ two a b → with_two z f (others s e) ≡ f (piece s e a) (piece s a b)
+  pub two_is : (f : Bytes → Bytes → A) {r : Option (ℕ × ℕ)} {a b : ℕ} → r ≡ pair_of s e → r ≡ Some (a, b) → with_two z f (others s e) ≡ f (piece s e a) (piece s a b)
   unfolding pair_of
   two_is f {r} {a} {b} q p = go (operands_of s e) (others s e) (said s e) (sym q ∙ p)
     where
-      go : (o : Operands) (ps : List Bytes) → Said s e o ps → to_pair o ≡ two a b → with_two z f ps ≡ f (piece s e a) (piece s a b)
+      go : (o : Operands) (ps : List Bytes) → Said s e o ps → to_pair o ≡ Some (a, b) → with_two z f ps ≡ f (piece s e a) (piece s a b)
       go Zero ps y x = absurd (let t : ◌≡◌ {A = ℕ} 0 1 = cc in omega arith)
       go (One k) ps y x = absurd (let t : ◌≡◌ {A = ℕ} 0 1 = cc in omega arith)
-      go (Two k l) ps y x = let aa : k ≡ a = cc in let bb : l ≡ b = cc in rw (y, aa, bb)
+      go (Two k l) ps y x = let e : ◌≡◌ {A = ℕ × ℕ} (k, l) (a, b) = cc in rw (y, ap (λ z. z.0) e, ap (λ z. z.1) e)
       go (Three k l m) ps y x = absurd (let t : ◌≡◌ {A = ℕ} 0 1 = cc in omega arith)
       go (Four k l m n) ps y x = absurd (let t : ◌≡◌ {A = ℕ} 0 1 = cc in omega arith)
       go More ps y x = absurd (let t : ◌≡◌ {A = ℕ} 0 1 = cc in omega arith)
 
-  pub two_not : (f : Bytes → Bytes → A) {r : Pair} → r ≡ pair_of s e → r ≡ not_two → with_two z f (others s e) ≡ z
+  pub two_not : (f : Bytes → Bytes → A) {r : Option (ℕ × ℕ)} → r ≡ pair_of s e → r ≡ None → with_two z f (others s e) ≡ z
   unfolding pair_of
   two_not f {r} q p = go (operands_of s e) (others s e) (said s e) (sym q ∙ p)
     where
-      go : (o : Operands) (ps : List Bytes) → Said s e o ps → to_pair o ≡ not_two → with_two z f ps ≡ z
+      go : (o : Operands) (ps : List Bytes) → Said s e o ps → to_pair o ≡ None → with_two z f ps ≡ z
       go Zero ps y x = rw (y)
       go (One a) ps y x = rw (y)
       go (Two a b) ps y x = absurd (let t : ◌≡◌ {A = ℕ} 0 1 = cc in omega arith)
@@ -344,26 +339,51 @@ module _ {A : Type 0} (z : A) (s : Bytes) (e : ℕ) where
       go (Four a b c d) ps y x = rw (y)
       go More ps y x = rw y.6
 
-  pub three_is : (f : Bytes → Bytes → Bytes → A) {r : Triple} {a b c : ℕ} → r ≡ triple_of s e → r ≡ three a b c → with_three z f (others s e) ≡ f (piece s e a) (piece s a b) (piece s b c)
+  pub three_is : (f : Bytes → Bytes → Bytes → A) {r : Option (ℕ × ℕ × ℕ)} {a b c : ℕ} → r ≡ triple_of s e → r ≡ Some (a, b, c) → with_three z f (others s e) ≡ f (piece s e a) (piece s a b) (piece s b c)
   unfolding triple_of
   three_is f {r} {a} {b} {c} q p = go (operands_of s e) (others s e) (said s e) (sym q ∙ p)
     where
-      go : (o : Operands) (ps : List Bytes) → Said s e o ps → to_triple o ≡ three a b c → with_three z f ps ≡ f (piece s e a) (piece s a b) (piece s b c)
+      go : (o : Operands) (ps : List Bytes) → Said s e o ps → to_triple o ≡ Some (a, b, c) → with_three z f ps ≡ f (piece s e a) (piece s a b) (piece s b c)
       go Zero ps y x = absurd (let t : ◌≡◌ {A = ℕ} 0 1 = cc in omega arith)
       go (One k) ps y x = absurd (let t : ◌≡◌ {A = ℕ} 0 1 = cc in omega arith)
       go (Two k l) ps y x = absurd (let t : ◌≡◌ {A = ℕ} 0 1 = cc in omega arith)
-      go (Three k l m) ps y x = let aa : k ≡ a = cc in let bb : l ≡ b = cc in let cc : m ≡ c = cc in rw (y, aa, bb, cc)
+      go (Three k l m) ps y x = let e : ◌≡◌ {A = ℕ × ℕ × ℕ} (k, l, m) (a, b, c) = cc in rw (y, ap (λ z. z.0) e, ap (λ z. z.1) e, ap (λ z. z.2) e)
       go (Four k l m n) ps y x = absurd (let t : ◌≡◌ {A = ℕ} 0 1 = cc in omega arith)
       go More ps y x = absurd (let t : ◌≡◌ {A = ℕ} 0 1 = cc in omega arith)
 
-  pub three_not : (f : Bytes → Bytes → Bytes → A) {r : Triple} → r ≡ triple_of s e → r ≡ not_three → with_three z f (others s e) ≡ z
+  pub three_not : (f : Bytes → Bytes → Bytes → A) {r : Option (ℕ × ℕ × ℕ)} → r ≡ triple_of s e → r ≡ None → with_three z f (others s e) ≡ z
   unfolding triple_of
   three_not f {r} q p = go (operands_of s e) (others s e) (said s e) (sym q ∙ p)
     where
-      go : (o : Operands) (ps : List Bytes) → Said s e o ps → to_triple o ≡ not_three → with_three z f ps ≡ z
+      go : (o : Operands) (ps : List Bytes) → Said s e o ps → to_triple o ≡ None → with_three z f ps ≡ z
       go Zero ps y x = rw (y)
       go (One a) ps y x = rw (y)
       go (Two a b) ps y x = rw (y)
       go (Three a b c) ps y x = absurd (let t : ◌≡◌ {A = ℕ} 0 1 = cc in omega arith)
       go (Four a b c d) ps y x = rw (y)
       go More ps y x = rw y.6
+
+-- another number of parts than is asked for
+pub other_single : (o : Operands) → ((a : ℕ) → o ≡ One a → ⊥) → None ≡ to_single o
+other_single Zero f = refl
+other_single (One a) f = absurd (f a refl)
+other_single (Two a b) f = refl
+other_single (Three a b c) f = refl
+other_single (Four a b c d) f = refl
+other_single More f = refl
+
+pub other_pair : (o : Operands) → ((a b : ℕ) → o ≡ Two a b → ⊥) → None ≡ to_pair o
+other_pair Zero f = refl
+other_pair (One a) f = refl
+other_pair (Two a b) f = absurd (f a b refl)
+other_pair (Three a b c) f = refl
+other_pair (Four a b c d) f = refl
+other_pair More f = refl
+
+pub other_triple : (o : Operands) → ((a b c : ℕ) → o ≡ Three a b c → ⊥) → None ≡ to_triple o
+other_triple Zero f = refl
+other_triple (One a) f = refl
+other_triple (Two a b) f = refl
+other_triple (Three a b c) f = absurd (f a b c refl)
+other_triple (Four a b c d) f = refl
+other_triple More f = refl

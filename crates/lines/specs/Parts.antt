@@ -1,15 +1,9 @@
 -- Where the parts of a form begin and end in its bytes. 01: The line; Forms for specific places.
 -- To a reader: definitions that contracts of this and other crates cite; each such contract is proved; check_drivers' own promise cites none of them.
-use Rattle.std.specs.Prelude.{Bool, true, false, [], ◌∷◌, ℕ, zero, suc, ◌+◌, ◌-◌, take, drop, get_or, eqb}
+use Rattle.std.specs.Prelude.{Bool, true, false, [], ◌∷◌, ℕ, zero, suc, ◌+◌, ◌-◌, take, drop, get_or, eqb, Option, Some, None}
 use Rattle.spec.specs.Bytes.{Bytes}
 use Rattle.lines.specs.declared.parts.Operands.{Operands}
 use Rattle.lines.specs.declared.parts.Operands.TheVariants.{Zero, One, Two, Three, Four, More}
-use Rattle.lines.specs.declared.parts.Single.{Single}
-use Rattle.lines.specs.declared.parts.Single.TheVariants.{Is, Not as not_one}
-use Rattle.lines.specs.declared.parts.Pair.{Pair}
-use Rattle.lines.specs.declared.parts.Pair.TheVariants.{Are as two, Not as not_two}
-use Rattle.lines.specs.declared.parts.Triple.{Triple}
-use Rattle.lines.specs.declared.parts.Triple.TheVariants.{Are as three, Not as not_three}
 
 -- 01, The line: how many bytes there are to the end of the part that stands first, k brackets being open in it: to the space or bracket that ends it,
 -- or to the last byte
@@ -64,40 +58,40 @@ unfoldable pub operands_of : Bytes → ℕ → Operands
 operands_of s end = elim (follows s end) [ true ↦ one_or_more s (next_end s end) | false ↦ Zero ]
 
 -- 01, The line: the end of the one part, where there is just one
-abbrev pub to_single : Operands → Single
-to_single Zero = not_one
-to_single (One a) = Is a
-to_single (Two a b) = not_one
-to_single (Three a b c) = not_one
-to_single (Four a b c d) = not_one
-to_single More = not_one
+abbrev pub to_single : Operands → Option ℕ
+to_single Zero = None
+to_single (One a) = Some a
+to_single (Two a b) = None
+to_single (Three a b c) = None
+to_single (Four a b c d) = None
+to_single More = None
 
 -- 01, The line: the ends of the two parts, where there are just two
-abbrev pub to_pair : Operands → Pair
-to_pair Zero = not_two
-to_pair (One a) = not_two
-to_pair (Two a b) = two a b
-to_pair (Three a b c) = not_two
-to_pair (Four a b c d) = not_two
-to_pair More = not_two
+abbrev pub to_pair : Operands → Option (ℕ × ℕ)
+to_pair Zero = None
+to_pair (One a) = None
+to_pair (Two a b) = Some (a, b)
+to_pair (Three a b c) = None
+to_pair (Four a b c d) = None
+to_pair More = None
 
 -- 01, The line: the ends of the three parts, where there are just three
-abbrev pub to_triple : Operands → Triple
-to_triple Zero = not_three
-to_triple (One a) = not_three
-to_triple (Two a b) = not_three
-to_triple (Three a b c) = three a b c
-to_triple (Four a b c d) = not_three
-to_triple More = not_three
+abbrev pub to_triple : Operands → Option (ℕ × ℕ × ℕ)
+to_triple Zero = None
+to_triple (One a) = None
+to_triple (Two a b) = None
+to_triple (Three a b c) = Some (a, b, c)
+to_triple (Four a b c d) = None
+to_triple More = None
 
 -- 01, The line: the end of the one part behind the one that ends at `end`, where there is just one
-unfoldable pub single_of : Bytes → ℕ → Single
+unfoldable pub single_of : Bytes → ℕ → Option ℕ
 single_of s end = to_single (operands_of s end)
 
 -- 01, The line: the ends of the two parts behind the one that ends at `end`, where there are just two
-unfoldable pub pair_of : Bytes → ℕ → Pair
+unfoldable pub pair_of : Bytes → ℕ → Option (ℕ × ℕ)
 pair_of s end = to_pair (operands_of s end)
 
 -- 01, The line: the ends of the three parts behind the one that ends at `end`, where there are just three
-unfoldable pub triple_of : Bytes → ℕ → Triple
+unfoldable pub triple_of : Bytes → ℕ → Option (ℕ × ℕ × ℕ)
 triple_of s end = to_triple (operands_of s end)

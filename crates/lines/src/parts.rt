@@ -16,25 +16,6 @@ enum Operands {
     More,
 }
 
-// The same, where just so many are asked for.
-#[derive(Clone, Copy)]
-pub enum Single {
-    Is(usize),
-    Not,
-}
-
-#[derive(Clone, Copy)]
-pub enum Pair {
-    Are(usize, usize),
-    Not,
-}
-
-#[derive(Clone, Copy)]
-pub enum Triple {
-    Are(usize, usize, usize),
-    Not,
-}
-
 // The byte at i, and 0 past the end.
 pub fn byte(s: &[u8], i: usize) -> u8
     ensures { result ≡ get_or s.now i 0 }
@@ -53,37 +34,25 @@ pub fn rest(s: &[u8], k: usize) -> &[u8]
 pub fn part_end(s: &[u8], at: usize) -> usize
     ensures { result ≡ part_end s.now at }
 {
-    let mut i = at;
     let mut k: usize = 0;
-    while i < s.len() {
+    for i in at..s.len() {
         match class_of(s[i]) {
-            Class::Open => {
-                k += 1;
-                i += 1;
-                continue;
-            }
+            Class::Open => k += 1,
             Class::Close => {
                 if k == 0 {
                     return i;
                 }
                 k -= 1;
-                i += 1;
-                continue;
             }
             Class::Space => {
                 if k == 0 {
                     return i;
                 }
-                i += 1;
-                continue;
             }
-            _ => {
-                i += 1;
-                continue;
-            }
+            _ => {}
         }
     }
-    i
+    if at < s.len() { s.len() } else { at }
 }
 
 // The bytes behind the one at `before`, up to `end`.
@@ -136,44 +105,32 @@ fn behind(s: &[u8], end: usize) -> Operands
     Operands::More
 }
 
-// The one part behind the one that ends here.
-pub fn as_one(s: &[u8], end: usize) -> Single
+// The one part behind the one that ends here, where there is just one.
+pub fn as_one(s: &[u8], end: usize) -> Option<usize>
     ensures { result ≡ single_of s.now end }
 {
     match behind(s, end) {
-        Operands::Zero => Single::Not,
-        Operands::One(a) => Single::Is(a),
-        Operands::Two(_, _) => Single::Not,
-        Operands::Three(_, _, _) => Single::Not,
-        Operands::Four(_, _, _, _) => Single::Not,
-        Operands::More => Single::Not,
+        Operands::One(a) => Some(a),
+        _ => None,
     }
 }
 
-// The two parts behind the one that ends here.
-pub fn as_two(s: &[u8], end: usize) -> Pair
+// The two parts behind the one that ends here, where there are just two.
+pub fn as_two(s: &[u8], end: usize) -> Option<(usize, usize)>
     ensures { result ≡ pair_of s.now end }
 {
     match behind(s, end) {
-        Operands::Zero => Pair::Not,
-        Operands::One(_) => Pair::Not,
-        Operands::Two(a, b) => Pair::Are(a, b),
-        Operands::Three(_, _, _) => Pair::Not,
-        Operands::Four(_, _, _, _) => Pair::Not,
-        Operands::More => Pair::Not,
+        Operands::Two(a, b) => Some((a, b)),
+        _ => None,
     }
 }
 
-// The three parts behind the one that ends here.
-pub fn as_three(s: &[u8], end: usize) -> Triple
+// The three parts behind the one that ends here, where there are just three.
+pub fn as_three(s: &[u8], end: usize) -> Option<(usize, usize, usize)>
     ensures { result ≡ triple_of s.now end }
 {
     match behind(s, end) {
-        Operands::Zero => Triple::Not,
-        Operands::One(_) => Triple::Not,
-        Operands::Two(_, _) => Triple::Not,
-        Operands::Three(a, b, c) => Triple::Are(a, b, c),
-        Operands::Four(_, _, _, _) => Triple::Not,
-        Operands::More => Triple::Not,
+        Operands::Three(a, b, c) => Some((a, b, c)),
+        _ => None,
     }
 }

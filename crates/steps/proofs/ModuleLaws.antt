@@ -19,13 +19,12 @@ use Rattle.spec.proofs.Nodes.{and_parts}
 use Rattle.spec.proofs.Numbers.{Digits, number_digits}
 use Rattle.spec.proofs.Shown.{AllIn, decode_show_line, show_line_set}
 use Rattle.consteval.specs.Worth.{pairs, names_of, refused_if}
-use Rattle.consteval.specs.Fill.{Filling, filling, fill_of, headers_of, items_of, module_of, all_in_range, Right}
-use Rattle.consteval.specs.declared.fill.Filled.{Filled}
-use Rattle.consteval.specs.declared.fill.Filled.TheVariants as filled
+use Rattle.std.specs.Prelude.{Ok, Err}
+use Rattle.consteval.specs.Fill.{Filled, Filling, filling, fill_of, headers_of, items_of, module_of, all_in_range, Right}
+use Rattle.consteval.specs.declared.fill.FillError.TheVariants.{Outside, Short, Bad}
 use Rattle.consteval.proofs.TableLaws.{fills}
 use Rattle.runs.specs.Text.{header_in_range, ModuleAt, items_run}
-use Rattle.steps.specs.Modules.{name_places, header_part, items_part, to_named, module_fill, named_by, table_by, NamesAre}
-use Rattle.steps.specs.declared.modules.Named.{Named}
+use Rattle.steps.specs.Modules.{Named, name_places, header_part, items_part, to_named, module_fill, named_by, table_by, NamesAre}
 
 -- ---- bytes of a line
 
@@ -187,14 +186,14 @@ names_of_long t used = pairs_long t (min used (length t / 2))
 
 -- of a table with few names and places enough
 right_named : (a : Filled) (t : List ℕ) (T : Table) → length T.names * 10 ≤ 32768 → name_places ≤ length t → Right a t T → NamesAre (to_named a) t T
-right_named (filled.Used n) t T few enough r =
+right_named (Ok n) t T few enough r =
     let l = names_of_long t n in
     let m = ap length r.0 in
     let b = r.2 in
     (sym (ap refused_if r.1), (r.0, omega arith))
-right_named filled.Outside t T few enough r = (sym (ap refused_if r), tt)
-right_named filled.Short t T few enough r = absurd (omega arith)
-right_named filled.Bad t T few enough r = absurd r
+right_named (Err Outside) t T few enough r = (sym (ap refused_if r), tt)
+right_named (Err Short) t T few enough r = absurd (omega arith)
+right_named (Err Bad) t T few enough r = absurd r
 
 module _ {text : Bytes} {mods : List ℕ} {m : ℕ} {k : Module} (at : ModuleAt text mods m k) where
   abbrev header : Bytes

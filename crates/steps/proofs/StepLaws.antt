@@ -5,10 +5,11 @@ use mathlib.Core.Path.{◌≡◌, refl, sym, ◌∙◌, ap, subst}
 use mathlib.Core.Bool.{Bool, true, false, ◌||◌}
 use Prim.Native.Nat.{ℕ, zero, suc, ◌+◌, ◌-◌, ◌≤◌, ◌<◌, min}
 use native.Mathlib.Omega.{arith}
-use lib.Dec.{eqb, ltb, leb}
+use lib.Dec.{eqb, ltb}
 use lib.IntN.{ℤ, pos, negsuc, neg_ℤ, ◌+ℤ◌, ◌-ℤ◌}
 use lib.ListN.{length}
 use borrow.Author.Tests.{lt-ltb, le-ltb, ltb-true, ltb-false, le-leb, lt-leb, eq-eqb, ne_eqb}
+use Rattle.std.specs.Prelude.{Option, Some, None, Ok, Err}
 use Rattle.spec.specs.Bytes.{Bytes, number}
 use Rattle.spec.specs.Syntax.{Expr, Items, repeat, const_if}
 use Rattle.spec.specs.Decode.{decode_expr}
@@ -17,18 +18,20 @@ use Rattle.spec.proofs.Numbers.{number_show}
 use Rattle.spec.proofs.Shown.{expr_shown}
 use Rattle.lines.specs.Parts.{part_end, piece, next_end}
 use Rattle.lines.proofs.PartLaws.{part_end_le, piece_over, piece_rest, piece_in}
-use Rattle.consteval.specs.Worth.{signed, worth, biased, refused_if}
-use Rattle.consteval.specs.declared.Value.{Value as Answer}
-use Rattle.consteval.specs.declared.Value.TheVariants.{Known, Missing, Outside}
+use Rattle.consteval.specs.Worth.{Answer, signed, worth, biased, refused_if}
+use Rattle.consteval.specs.declared.Outside.{Outside}
 use Rattle.consteval.proofs.ArithLaws.{signed_low, signed_high, zero_test}
 use Rattle.runs.specs.Run.{head_end, first_end, second_end, third_end, ShowsItem}
 use Rattle.runs.proofs.Inside.{in_repeat, in_const_if}
 use Rattle.walk.specs.Walk.{takes_then}
-use Rattle.steps.specs.Steps.{end_within, body_at, Way, never, once, rounds, way_by, way, times_way, times_by, times_number, value_between, low_value, high_value, bounds_number, times_of, RoundsFit, TimesAre, run_behind, chosen_by, condition_value, condition_number, branch_of, chosen_number, BranchIs, ChosenIs}
-use Rattle.steps.specs.declared.Times.{Times}
+use Rattle.steps.specs.Steps.{Times, Chosen, end_within, body_at, Way, never, once, rounds, way_by, way, times_way, times_by, times_number, value_between, low_value, high_value, bounds_number, times_of, RoundsFit, TimesAre, run_behind, chosen_by, condition_value, condition_number, branch_of, chosen_number, BranchIs, ChosenIs}
+use Rattle.steps.specs.declared.Times as T
 use Rattle.steps.specs.declared.Times.TheVariants as times
-use Rattle.steps.specs.declared.Chosen.{Chosen}
-use Rattle.steps.specs.declared.Chosen.TheVariants as chosen
+use Rattle.steps.specs.declared.Run.{Run}
+
+-- a run, by its parts
+abbrev pub run : ℕ → ℕ → Run
+run a b = record { before = a; end = b }
 
 -- ---- 20, or not
 
@@ -108,17 +111,16 @@ biased_signed l = go (ltb l 2147483648) refl
 -- the number of the answer: 20 where a bound is outside INT
 times_refused : (left n : ℕ) (low high : Value) → times_number (times_by left n low high) ≡ refused_if (is_outside low || is_outside high)
 unfolding times_by
-times_refused left n low high = go (is_outside low || is_outside high) (way left low high)
+times_refused left n low high = go (is_outside low || is_outside high)
   where
-    pick : (t : Bool) (v count : ℕ) → times_number (elim t as (λ _. Times) [ true ↦ times.Once | false ↦ times.Rounds n v count ]) ≡ 0
-    pick true v count = refl
-    pick false v count = refl
+    go : (o : Bool) → times_number (elim o as (λ _. Times) [ true ↦ Err (record {}) | false ↦ Ok (times_way n (way left low high)) ]) ≡ refused_if o
+    go true = refl
+    go false = refl
 
-    go : (o : Bool) (w : Way) → times_number (elim o as (λ _. Times) [ true ↦ times.Outside | false ↦ times_way n w ]) ≡ refused_if o
-    go true w = refl
-    go false never = refl
-    go false once = refl
-    go false (rounds z count) = pick (ltb 4294967295 n) (biased z) count
+-- what a constant is, where it is not outside INT
+pub inside : (v : Option ℕ) → is_outside (worth (Ok v)) ≡ false
+inside (Some x) = refl
+inside None = refl
 
 -- ---- one law for each way of `way_of`
 
@@ -130,17 +132,24 @@ module _ (n left : ℕ) (a b : Answer) where
   answers r p f = (p, (f, ap times_number p ∙ times_refused left n (worth a) (worth b)))
 
   -- neither bound is outside INT
-  by_way : is_outside (worth a) || is_outside (worth b) ≡ false → (w : Way) → way left (worth a) (worth b) ≡ w → times_way n w ≡ times_by left n (worth a) (worth b)
+  by_way : is_outside (worth a) || is_outside (worth b) ≡ false → (w : Way) → way left (worth a) (worth b) ≡ w → Ok (times_way n w) ≡ times_by left n (worth a) (worth b)
   unfolding times_by
   by_way o w q =
-      sym (ap (λ (t : Bool). elim t as (λ _. Times) [ true ↦ times.Outside | false ↦ times_way n (way left (worth a) (worth b)) ]) o ∙ ap (times_way n) q)
+      sym (ap (λ (t : Bool). elim t as (λ _. Times) [ true ↦ Err (record {}) | false ↦ Ok (times_way n (way left (worth a) (worth b))) ]) o ∙ ap (λ (v : Way). Ok (times_way n v)) q)
 
-  pub low_outside : a ≡ Outside → Answers times.Outside
+  by_low : {z : Outside} → a ≡ Err z → Err (record {}) ≡ times_by left n (worth a) (worth b)
   unfolding times_by
-  low_outside e = answers times.Outside (rw (e, times_by)) tt
+  by_low e = rw (e, times_by)
 
-  module _ {l : ℕ} (e : a ≡ Known l) where
-    module _ {h : ℕ} (f : b ≡ Known h) where
+  by_high : {z : Outside} → is_outside (worth a) ≡ false → b ≡ Err z → Err (record {}) ≡ times_by left n (worth a) (worth b)
+  unfolding times_by
+  by_high e f = rw (f, e, times_by)
+
+  pub low_outside : {z : Outside} {r : Times} → a ≡ Err z → r ≡ Err (record {}) → Answers r
+  low_outside e p = rw p (answers (Err (record {})) (by_low e) tt)
+
+  module _ {l : ℕ} (e : a ≡ Ok (Some l)) where
+    module _ {h : ℕ} (f : b ≡ Ok (Some h)) where
       by_difference : (w : Way) → way_by left (signed l) (signed h -ℤ signed l) ≡ w → way left (worth a) (worth b) ≡ w
       unfolding way
       by_difference w q = rw (e, f) q
@@ -151,8 +160,8 @@ module _ (n left : ℕ) (a b : Answer) where
           let m = ltb-false h l p in
           ap (way_by left (signed l)) (minus_high l h m ∙ ap pos (let z : h - l ≡ 0 = omega arith in z))
 
-      pub way_never : h ≤ l → Answers times.Never
-      way_never k = answers times.Never (by_way (rw (e, f)) never (by_difference never (not_above (ltb h l) refl k))) tt
+      pub way_never : h ≤ l → Answers (Ok times.Never)
+      way_never k = answers (Ok times.Never) (by_way (rw (e, f)) never (by_difference never (not_above (ltb h l) refl k))) tt
 
       above : (d : ℕ) → 0 < d → (c : Bool) → ltb left d ≡ c → way_by left (signed l) (pos d) ≡ elim c as (λ _. Way) [ true ↦ once | false ↦ rounds (signed l) d ]
       above zero k c q = absurd (omega arith)
@@ -161,39 +170,33 @@ module _ (n left : ℕ) (a b : Answer) where
       high_way : l < h → (c : Bool) → ltb left (h - l) ≡ c → way left (worth a) (worth b) ≡ elim c as (λ _. Way) [ true ↦ once | false ↦ rounds (signed l) (h - l) ]
       high_way k c q = by_difference _ (ap (way_by left (signed l)) (minus_high l h (omega arith)) ∙ above (h - l) (omega arith) c q)
 
-      pub way_once : l < h → left < h - l → Answers times.Once
-      way_once k m = answers times.Once (by_way (rw (e, f)) once (high_way k true (lt-ltb left (h - l) m))) tt
+      pub way_once : l < h → left < h - l → Answers (Ok times.Once)
+      way_once k m = answers (Ok times.Once) (by_way (rw (e, f)) once (high_way k true (lt-ltb left (h - l) m))) tt
 
       -- in rounds, if the variable is a word
       in_rounds : l < h → h - l ≤ left → (t : Bool) → ltb 4294967295 n ≡ t
-          → elim t as (λ _. Times) [ true ↦ times.Once | false ↦ times.Rounds n (biased (signed l)) (h - l) ] ≡ times_by left n (worth a) (worth b)
+          → Ok (elim t as (λ _. T.Times) [ true ↦ times.Once | false ↦ times.Rounds n (biased (signed l)) (h - l) ]) ≡ times_by left n (worth a) (worth b)
       in_rounds k m t q =
-          sym (ap (λ (s : Bool). elim s as (λ _. Times) [ true ↦ times.Once | false ↦ times.Rounds n (biased (signed l)) (h - l) ]) q)
+          sym (ap (λ (s : Bool). Ok (elim s as (λ _. T.Times) [ true ↦ times.Once | false ↦ times.Rounds n (biased (signed l)) (h - l) ])) q)
           ∙ by_way (rw (e, f)) (rounds (signed l) (h - l)) (high_way k false (le-ltb left (h - l) m))
 
-      pub way_nameless : l < h → h - l ≤ left → 4294967295 < n → Answers times.Once
-      way_nameless k m o = answers times.Once (in_rounds k m true (lt-ltb 4294967295 n o)) tt
+      pub way_nameless : l < h → h - l ≤ left → 4294967295 < n → Answers (Ok times.Once)
+      way_nameless k m o = answers (Ok times.Once) (in_rounds k m true (lt-ltb 4294967295 n o)) tt
 
-      pub way_rounds : l < h → h - l ≤ left → n ≤ 4294967295 → h < 4294967296 → Answers (times.Rounds n l (h - l))
+      pub way_rounds : l < h → h - l ≤ left → n ≤ 4294967295 → h < 4294967296 → Answers (Ok (times.Rounds n l (h - l)))
       way_rounds k m o p =
-          answers (times.Rounds n l (h - l)) (ap (λ (v : ℕ). times.Rounds n v (h - l)) (sym (biased_signed l)) ∙ in_rounds k m false (le-ltb 4294967295 n o)) (rw e, omega arith)
+          answers (Ok (times.Rounds n l (h - l))) (ap (λ (v : ℕ). Ok (times.Rounds n v (h - l))) (sym (biased_signed l)) ∙ in_rounds k m false (le-ltb 4294967295 n o)) (rw e, omega arith)
 
-    pub high_missing : b ≡ Missing → Answers times.Once
+    pub high_missing : b ≡ Ok None → Answers (Ok times.Once)
     unfolding way
-    high_missing f = answers times.Once (by_way (rw (e, f)) once (rw (e, f))) tt
+    high_missing f = answers (Ok times.Once) (by_way (rw (e, f)) once (rw (e, f))) tt
 
-    pub high_outside : b ≡ Outside → Answers times.Outside
-    unfolding times_by
-    high_outside f = answers times.Outside (rw (e, f, times_by)) tt
+  pub high_outside : {z : Outside} {r : Times} → is_outside (worth a) ≡ false → b ≡ Err z → r ≡ Err (record {}) → Answers r
+  high_outside e f p = rw p (answers (Err (record {})) (by_high e f) tt)
 
-  module _ (e : a ≡ Missing) where
-    pub low_missing : (is_outside (worth b) ≡ false) → Answers times.Once
-    unfolding way
-    low_missing f = answers times.Once (by_way (rw (e, f)) once (rw e)) tt
-
-    pub both_outside : b ≡ Outside → Answers times.Outside
-    unfolding times_by
-    both_outside f = answers times.Outside (rw (e, f, times_by)) tt
+  pub low_missing : a ≡ Ok None → is_outside (worth b) ≡ false → Answers (Ok times.Once)
+  unfolding way
+  low_missing e f = answers (Ok times.Once) (by_way (rw (e, f)) once (rw e)) tt
 
 -- ---- the parts of any bytes
 
@@ -237,16 +240,16 @@ module _ (x : Bytes) where
       go false t s r = let u = ltb-false e (length x) t in sym (piece_over x h a (omega arith)) ∙ piece_over x e f u
 
   -- ---- `branch_at`
-  pub run_short : (e : ℕ) {f : ℕ} → f ≡ end_within x e → f < e + 5 → chosen.Run f f ≡ run_behind x e
+  pub run_short : (e : ℕ) {f : ℕ} → f ≡ end_within x e → f < e + 5 → run f f ≡ run_behind x e
   run_short e q k =
-      ap (λ (n : ℕ). chosen.Run n n) q
-      ∙ sym (ap (λ (t : Bool). elim t as (λ _. Chosen) [ true ↦ chosen.Run (e + 5) (end_within x e) | false ↦ chosen.Run (end_within x e) (end_within x e) ])
+      ap (λ (n : ℕ). run n n) q
+      ∙ sym (ap (λ (t : Bool). elim t as (λ _. Run) [ true ↦ run (e + 5) (end_within x e) | false ↦ run (end_within x e) (end_within x e) ])
       (lt-leb (e + 5) (end_within x e) (omega arith)))
 
-  pub run_found : (e : ℕ) {f : ℕ} → f ≡ end_within x e → e + 5 ≤ f → chosen.Run (e + 5) f ≡ run_behind x e
+  pub run_found : (e : ℕ) {f : ℕ} → f ≡ end_within x e → e + 5 ≤ f → run (e + 5) f ≡ run_behind x e
   run_found e q k =
-      ap (λ (n : ℕ). chosen.Run (e + 5) n) q
-      ∙ sym (ap (λ (t : Bool). elim t as (λ _. Chosen) [ true ↦ chosen.Run (e + 5) (end_within x e) | false ↦ chosen.Run (end_within x e) (end_within x e) ])
+      ap (λ (n : ℕ). run (e + 5) n) q
+      ∙ sym (ap (λ (t : Bool). elim t as (λ _. Run) [ true ↦ run (e + 5) (end_within x e) | false ↦ run (end_within x e) (end_within x e) ])
       (le-leb (e + 5) (end_within x e) (omega arith)))
 
   run_same : (e : ℕ) {h : ℕ} → h ≡ min e (length x) → run_behind x h ≡ run_behind x e
@@ -264,26 +267,18 @@ value_is : (d : ℕ) (names : Names) {e : ℕ} {s t : Bytes} → e ≡ d - 1 →
 value_is d names {s = s} p q = ap (λ (n : ℕ). value names (decode_expr n s)) p ∙ ap (λ (y : Bytes). value names (decode_expr (d - 1) y)) q
 
 -- the number of the answer: 20 where the condition is outside INT
-run_number : (x : Bytes) (e : ℕ) → chosen_number (run_behind x e) ≡ 0
-run_number x e = go (leb (e + 5) (end_within x e))
+chosen_refused : (v : Value) (first second : Run) → chosen_number (chosen_by v first second) ≡ refused_if (is_outside v)
+chosen_refused v first second = go (is_outside v)
   where
-    go : (t : Bool) → chosen_number (elim t as (λ _. Chosen) [ true ↦ chosen.Run (e + 5) (end_within x e) | false ↦ chosen.Run (end_within x e) (end_within x e) ]) ≡ 0
+    go : (o : Bool) → chosen_number (elim o as (λ _. Chosen) [ true ↦ Err (record {}) | false ↦ Ok (elim (takes_then v) as (λ _. Run) [ true ↦ first | false ↦ second ]) ]) ≡ refused_if o
     go true = refl
     go false = refl
-
-chosen_refused : (v : Value) (first second : Chosen) → chosen_number first ≡ 0 → chosen_number second ≡ 0 → chosen_number (chosen_by v first second) ≡ refused_if (is_outside v)
-chosen_refused v first second p q = go (is_outside v) (takes_then v)
-  where
-    go : (o t : Bool) → chosen_number (elim o as (λ _. Chosen) [ true ↦ chosen.Outside | false ↦ elim t as (λ _. Chosen) [ true ↦ first | false ↦ second ] ]) ≡ refused_if o
-    go true t = refl
-    go false true = p
-    go false false = q
 
 -- a variable that is no word is as good as the first number above the words
 variable_same : (left n : ℕ) (low high : Value) → times_by left (min n 4294967296) low high ≡ times_by left n low high
 unfolding times_by
 variable_same left n low high =
-    ap (λ (t : Times). elim (is_outside low || is_outside high) as (λ _. Times) [ true ↦ times.Outside | false ↦ t ]) (go (way left low high))
+    ap (λ (t : T.Times). elim (is_outside low || is_outside high) as (λ _. Times) [ true ↦ Err (record {}) | false ↦ Ok t ]) (go (way left low high))
   where
     go : (w : Way) → times_way (min n 4294967296) w ≡ times_way n w
     go never = refl
@@ -345,29 +340,29 @@ module _ (x : Bytes) {h a b : ℕ} (qh : h ≡ end_within x 0) (qa : a ≡ end_w
         p
         ∙ ap (λ (y : Value). chosen_by y (run_behind x (first_end x)) (run_behind x (second_end x)))
         (qv ∙ value_is d names qe (qs ∙ piece_same x (head_end x) (first_end x) qh first_found)) in
-        (q, ap chosen_number q ∙ chosen_refused (condition_value x d names) _ _ (run_number x (first_end x)) (run_number x (second_end x)))
+        (q, ap chosen_number q ∙ chosen_refused (condition_value x d names) _ _)
 
     -- `then` is taken where the value is not 0
-    not_zero : {y : ℕ} {t : Bool} → v ≡ Known y → eqb y 2147483648 ≡ t → takes_then (worth v) ≡ elim t as (λ _. Bool) [ true ↦ false | false ↦ true ]
+    not_zero : {y : ℕ} {t : Bool} → v ≡ Ok (Some y) → eqb y 2147483648 ≡ t → takes_then (worth v) ≡ elim t as (λ _. Bool) [ true ↦ false | false ↦ true ]
     not_zero {y} f e = ap (λ (z : Answer). takes_then (worth z)) f ∙ ap (λ (z : Bool). elim z as (λ _. Bool) [ true ↦ false | false ↦ true ]) (zero_test y ∙ e)
 
-    then_taken : (r : Chosen) → r ≡ run_behind x a → is_outside (worth v) ≡ false → takes_then (worth v) ≡ true → Branched r
-    then_taken r q f g = by_value r (q ∙ run_same x (first_end x) first_found ∙ rw (f, g, chosen_by))
+    then_taken : (r : Run) → r ≡ run_behind x a → is_outside (worth v) ≡ false → takes_then (worth v) ≡ true → Branched (Ok r)
+    then_taken r q f g = by_value (Ok r) (ap (λ (y : Run). Ok y) (q ∙ run_same x (first_end x) first_found) ∙ rw (f, g, chosen_by))
 
-    else_taken : (r : Chosen) → r ≡ run_behind x b → is_outside (worth v) ≡ false → takes_then (worth v) ≡ false → Branched r
-    else_taken r q f g = by_value r (q ∙ run_same x (second_end x) second_found ∙ rw (f, g, chosen_by))
+    else_taken : (r : Run) → r ≡ run_behind x b → is_outside (worth v) ≡ false → takes_then (worth v) ≡ false → Branched (Ok r)
+    else_taken r q f g = by_value (Ok r) (ap (λ (y : Run). Ok y) (q ∙ run_same x (second_end x) second_found) ∙ rw (f, g, chosen_by))
 
-    pub zero_else : {y : ℕ} {r : Chosen} → v ≡ Known y → y ≡ 2147483648 → r ≡ run_behind x b → Branched r
+    pub zero_else : {y : ℕ} {r : Run} → v ≡ Ok (Some y) → y ≡ 2147483648 → r ≡ run_behind x b → Branched (Ok r)
     zero_else {y} {r} f z q = else_taken r q (rw f) (not_zero f (eq-eqb y 2147483648 z))
 
-    pub other_then : {y : ℕ} {r : Chosen} → v ≡ Known y → (y ≡ 2147483648 → ⊥) → r ≡ run_behind x a → Branched r
+    pub other_then : {y : ℕ} {r : Run} → v ≡ Ok (Some y) → (y ≡ 2147483648 → ⊥) → r ≡ run_behind x a → Branched (Ok r)
     other_then {y} {r} f z q = then_taken r q (rw f) (not_zero f (ne_eqb y 2147483648 z))
 
-    pub missing_else : {r : Chosen} → v ≡ Missing → r ≡ run_behind x b → Branched r
+    pub missing_else : {r : Run} → v ≡ Ok None → r ≡ run_behind x b → Branched (Ok r)
     missing_else {r} f q = else_taken r q (rw f) (rw f)
 
-    pub condition_outside : v ≡ Outside → Branched chosen.Outside
-    condition_outside f = by_value chosen.Outside (rw f)
+    pub condition_outside : {z : Outside} {r : Chosen} → v ≡ Err z → r ≡ Err (record {}) → Branched r
+    condition_outside f p = rw p (by_value (Err (record {})) (rw f))
 
 -- ---- what the answers mean: a `repeat`
 
@@ -392,14 +387,14 @@ unfolding times_by
 times_mean r left n low high small p f = go (is_outside low || is_outside high) refl (way left low high) refl p
   where
     go : (o : Bool) → is_outside low || is_outside high ≡ o → (w : Way) → way left low high ≡ w
-        → r ≡ elim o as (λ _. Times) [ true ↦ times.Outside | false ↦ times_way n w ] → TimesAre r left n low high
+        → r ≡ elim o as (λ _. Times) [ true ↦ Err (record {}) | false ↦ Ok (times_way n w) ] → TimesAre r left n low high
     go true e w q p = subst (λ (t : Times). TimesAre t left n low high) (sym p) (sym (ap refused_if e), tt)
     go false e never q p = subst (λ (t : Times). TimesAre t left n low high) (sym p) (sym (ap refused_if e), q)
     go false e once q p = subst (λ (t : Times). TimesAre t left n low high) (sym p) (sym (ap refused_if e), q)
     go false e (rounds z count) q p =
-        let d : r ≡ times.Rounds n (biased z) count =
-        p ∙ ap (λ (t : Bool). elim t as (λ _. Times) [ true ↦ times.Once | false ↦ times.Rounds n (biased z) count ]) (le-ltb 4294967295 n (omega arith)) in
-        let k : RoundsFit (times.Rounds n (biased z) count) low = subst (λ (t : Times). RoundsFit t low) d f in
+        let d : r ≡ Ok (times.Rounds n (biased z) count) =
+        p ∙ ap (λ (t : Bool). Ok (elim t as (λ _. T.Times) [ true ↦ times.Once | false ↦ times.Rounds n (biased z) count ])) (le-ltb 4294967295 n (omega arith)) in
+        let k : RoundsFit (Ok (times.Rounds n (biased z) count)) low = subst (λ (t : Times). RoundsFit t low) d f in
         let m = rounds_low left high (ap (λ (v : Value). way left v high) (sym k.0) ∙ q) in
         subst (λ (t : Times). TimesAre t left n low high) (sym d)
         (sym (ap refused_if e), (q ∙ ap (λ (y : ℤ). rounds y count) (sym m.0), refl, m.1, k.1))
@@ -427,21 +422,19 @@ body_is x d n low high is q = let i = (in_repeat x d n low high is q).ends.3 in 
 -- ---- what the answers mean: a `constif`
 
 module _ (x : Bytes) (d : ℕ) where
-  run_at : (e : ℕ) → next_end x e < length x → e + 5 ≤ next_end x e → run_behind x e ≡ chosen.Run (e + 5) (next_end x e)
+  run_at : (e : ℕ) → next_end x e < length x → e + 5 ≤ next_end x e → run_behind x e ≡ run (e + 5) (next_end x e)
   run_at e h k = sym (run_found x e (let z : next_end x e ≡ end_within x e = omega arith in z) k)
 
-  chosen_mean : (v : Value) (is js : Items) {a b m n : ℕ} → BranchIs (chosen.Run a b) x d is → BranchIs (chosen.Run m n) x d js
-      → ChosenIs (chosen_by v (chosen.Run a b) (chosen.Run m n)) x d v is js
+  chosen_mean : (v : Value) (is js : Items) {a b m n : ℕ} → BranchIs (Ok (run a b)) x d is → BranchIs (Ok (run m n)) x d js
+      → ChosenIs (chosen_by v (run a b) (run m n)) x d v is js
   chosen_mean v is js {a} {b} {m} {n} p q = go v
     where
-      pick : (t : Bool)
-          → (chosen_number (elim t as (λ _. Chosen) [ true ↦ chosen.Run a b | false ↦ chosen.Run m n ]) ≡ 0)
-          × BranchIs (elim t as (λ _. Chosen) [ true ↦ chosen.Run a b | false ↦ chosen.Run m n ]) x d (elim t as (λ _. Items) [ true ↦ is | false ↦ js ])
-      pick true = (refl, p)
-      pick false = (refl, q)
+      pick : (t : Bool) → BranchIs (Ok (elim t as (λ _. Run) [ true ↦ run a b | false ↦ run m n ])) x d (elim t as (λ _. Items) [ true ↦ is | false ↦ js ])
+      pick true = p
+      pick false = q
 
-      go : (v : Value) → ChosenIs (chosen_by v (chosen.Run a b) (chosen.Run m n)) x d v is js
-      go (known z) = pick (takes_then (known z))
+      go : (v : Value) → ChosenIs (chosen_by v (run a b) (run m n)) x d v is js
+      go (known z) = (refl, pick (takes_then (known z)))
       go missing = (refl, q)
       go outside = (refl, tt)
 
@@ -458,6 +451,6 @@ module _ (x : Bytes) (d : ℕ) where
       subst (λ (y : Chosen). ChosenIs y x d (value names c) is js)
       (sym
       (p ∙ ap (λ (y : Value). chosen_by y (run_behind x (first_end x)) (run_behind x (second_end x))) zv
-      ∙ ap (λ (y : Chosen). chosen_by (value names c) y (run_behind x (second_end x))) (run_at (first_end x) l i.then_inside)
-      ∙ ap (λ (y : Chosen). chosen_by (value names c) (chosen.Run (first_end x + 5) (second_end x)) y) (run_at (second_end x) m i.else_inside)))
+      ∙ ap (λ (y : Run). chosen_by (value names c) y (run_behind x (second_end x))) (run_at (first_end x) l i.then_inside)
+      ∙ ap (λ (y : Run). chosen_by (value names c) (run (first_end x + 5) (second_end x)) y) (run_at (second_end x) m i.else_inside)))
       (chosen_mean (value names c) is js (i.then_inside, omega arith, i.then_run) (i.else_inside, omega arith, i.else_run))

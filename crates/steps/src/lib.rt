@@ -6,7 +6,7 @@ ghost use Rattle.spec.specs.Value.{is_outside};
 ghost use Rattle.consteval.specs.Worth.{worth, refused_if, names_of};
 ghost use Rattle.steps.specs.Steps.{head_of, end_within, times_by, times_of, times_number, RoundsFit, low_value, bounds_number, body_at, run_behind, branch_of, chosen_number, condition_number};
 
-use consteval::Value;
+use consteval::{Outside, Value};
 use lines::{numbers, parts};
 
 pub mod modules;
@@ -63,50 +63,48 @@ fn inner(depth: u32) -> u32
     depth - 1
 }
 
-// How often the body of a `repeat` runs: a bound is outside INT; not at all; once, its variable as it stands; or so many rounds, with
-// its variable, its first value as v + 2147483648, and their number.
-#[derive(Clone, Copy)]
+// How often the body of a `repeat` runs: not at all; once, its variable as it stands; or so many rounds, with its variable, its first
+// value as v + 2147483648, and their number.
+#[derive(Clone, Copy, Debug, PartialEq, Eq)]
 pub enum Times {
-    Outside,
     Never,
     Once,
     Rounds(u32, u32, u32),
 }
 
 // The same by the values of both bounds.
-fn way_of(n: u64, low: Value, high: Value, left: u32) -> Times
+fn way_of(n: u64, low: Value, high: Value, left: u32) -> Result<Times, Outside>
     ensures value { result ≡ times_by left n (worth low) (worth high) }
     ensures rounds_fit { RoundsFit result (worth low) }
     ensures result_value { times_number result ≡ refused_if (is_outside (worth low) || is_outside (worth high)) }
 {
-    match low {
-        Value::Known(l) => match high {
-            Value::Known(h) => {
-                if h <= l {
-                    return Times::Never;
-                }
-                if left < h - l {
-                    return Times::Once;
-                }
-                if 4294967295 < n {
-                    return Times::Once;
-                }
-                Times::Rounds(n as u32, l, h - l)
-            }
-            Value::Missing => Times::Once,
-            Value::Outside => Times::Outside,
-        },
-        Value::Missing => match high {
-            Value::Known(_) => Times::Once,
-            Value::Missing => Times::Once,
-            Value::Outside => Times::Outside,
-        },
-        Value::Outside => Times::Outside,
+    let (low, high) = (low?, high?);
+    let Some(l) = low else {
+        return Ok(Times::Once);
+    };
+    let Some(h) = high else {
+        return Ok(Times::Once);
+    };
+    if h <= l {
+        return Ok(Times::Never);
     }
+    if left < h - l {
+        return Ok(Times::Once);
+    }
+    if 4294967295 < n {
+        return Ok(Times::Once);
+    }
+    Ok(Times::Rounds(n as u32, l, h - l))
 }
 
 // How the `repeat` x runs with `left` rounds left; both bounds are evaluated.
-pub fn times_of(x: &[u8], depth: u32, names: &[u32], used: usize, left: u32) -> Times
+pub fn times_of(
+    x: &[u8],
+    depth: u32,
+    names: &[u32],
+    used: usize,
+    left: u32,
+) -> Result<Times, Outside>
     ensures value { result ≡ times_of x.now depth (names_of names.now used) left }
     ensures rounds_fit { RoundsFit result (low_value x.now depth (names_of names.now used)) }
     ensures result_value { times_number result ≡ bounds_number x.now depth (names_of names.now used) }
@@ -132,30 +130,29 @@ pub fn body_at(x: &[u8]) -> usize
     next_end(x, b)
 }
 
-// The branch that a `constif` takes: its condition is outside INT, or the branch's run stands behind the byte at the first place and
-// ends before the second.
-#[derive(Clone, Copy)]
-pub enum Chosen {
-    Outside,
-    Run(usize, usize),
+// A run of items: it stands behind the byte at `before` and ends before `end`.
+#[derive(Clone, Copy, Debug, PartialEq, Eq)]
+pub struct Run {
+    pub before: usize,
+    pub end: usize,
 }
 
 // The run inside the `(then I...)` or `(else I...)` that stands behind the byte at e.
-fn branch_at(x: &[u8], e: usize) -> Chosen
+fn branch_at(x: &[u8], e: usize) -> Run
     ensures { result ≡ run_behind x.now e }
 {
-    let f = next_end(x, e);
-    if f < 5 {
-        return Chosen::Run(f, f);
+    let end = next_end(x, e);
+    if end < 5 {
+        return Run { before: end, end };
     }
-    if f - 5 < e {
-        return Chosen::Run(f, f);
+    if end - 5 < e {
+        return Run { before: end, end };
     }
-    Chosen::Run(e + 5, f)
+    Run { before: e + 5, end }
 }
 
 // Which branch the `constif` x takes: `else` where its condition has no value.
-pub fn branch_of(x: &[u8], depth: u32, names: &[u32], used: usize) -> Chosen
+pub fn branch_of(x: &[u8], depth: u32, names: &[u32], used: usize) -> Result<Run, Outside>
     ensures value { result ≡ branch_of x.now depth (names_of names.now used) }
     ensures result_value { chosen_number result ≡ condition_number x.now depth (names_of names.now used) }
 {
@@ -163,14 +160,11 @@ pub fn branch_of(x: &[u8], depth: u32, names: &[u32], used: usize) -> Chosen
     let a = next_end(x, h);
     let b = next_end(x, a);
     let v = consteval::eval(parts::between(x, h, a), inner(depth), names, used);
-    match v {
-        Value::Known(y) => {
-            if y == 2147483648 {
-                return branch_at(x, b);
-            }
-            branch_at(x, a)
-        }
-        Value::Missing => branch_at(x, b),
-        Value::Outside => Chosen::Outside,
+    let Some(y) = v? else {
+        return Ok(branch_at(x, b));
+    };
+    if y == 2147483648 {
+        return Ok(branch_at(x, b));
     }
+    Ok(branch_at(x, a))
 }

@@ -5,18 +5,10 @@ ghost use Rattle.spec.specs.Value.{own_vals, name_table};
 ghost use Rattle.runs.specs.Text.{ModuleAt, items_run};
 ghost use Rattle.steps.specs.Modules.{name_places, named_by, table_by, NamesAre};
 
-use consteval::fill;
-use consteval::fill::Filled;
+use consteval::{Outside, fill};
 
 // The places of a name table: two for each `val` and `const` line that a text has room for, and for each of 32 repeats, one in the other.
 pub const NAMES: usize = 6616;
-
-// The pairs of the table that are used, or a constant is outside INT.
-#[derive(Clone, Copy)]
-pub enum Named {
-    Used(usize),
-    Outside,
-}
 
 // Entry k of module m, 0 past the end.
 fn place(mods: &[u32], m: u32, k: u32) -> usize
@@ -54,8 +46,13 @@ pub fn items_of_module<'a>(text: &'a [u8], mods: &[u32], m: u32) -> &'a [u8]
     stretch(text, i - 1, e)
 }
 
-// The name table of module m: its `val` lines, then its top-level `const` lines.
-pub fn names_of_module(text: &[u8], mods: &[u32], m: u32, names: &mut [u32]) -> Named
+// The name table of module m: its `val` lines, then its top-level `const` lines. Its used pairs are counted, unless a constant is outside INT.
+pub fn names_of_module(
+    text: &[u8],
+    mods: &[u32],
+    m: u32,
+    names: &mut [u32],
+) -> Result<usize, Outside>
     ensures value { result ≡ named_by text.now mods.now m names.old }
     ensures names_after { names.new ≡ table_by text.now mods.now m names.old }
     ensures names_are { (k : Module) → ModuleAt text.now mods.now m k → name_places ≤ length names.old
@@ -65,9 +62,7 @@ pub fn names_of_module(text: &[u8], mods: &[u32], m: u32, names: &mut [u32]) -> 
     let i = place(mods, m, 2);
     let e = place(mods, m, 3);
     match fill::fill(stretch(text, h, i), stretch(text, i, e), names) {
-        Filled::Used(n) => Named::Used(n),
-        Filled::Outside => Named::Outside,
-        Filled::Short => Named::Outside,
-        Filled::Bad => Named::Outside,
+        Ok(used) => Ok(used),
+        Err(_) => Err(Outside),
     }
 }

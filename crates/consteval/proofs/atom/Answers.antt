@@ -1,4 +1,4 @@
-use Rattle.consteval.proofs.EvalLaws.{by_atom, atom_law}
+use Rattle.consteval.proofs.EvalLaws.{by_atom, atom_law, other_atom}
 use Rattle.consteval.specs.Worth.{shape}
 use Rattle.consteval.specs.declared.shape.Shape.{Shape}
 use Rattle.spec.specs.Bytes.{number}
@@ -12,17 +12,5 @@ returns-in-True c = c.truth.ensures ∙ ap (λ (x : Shape). by_atom x (number c.
 pub returns-in-False : goal.returns-in-False
 returns-in-False c = c.truth-in-False.ensures ∙ ap (λ (x : Shape). by_atom x (number c.args.e.now)) (sym (sym (c.shape_of.ensures ∙ ap shape c.word_of.ensures) ∙ c.in-False.is)) ∙ sym (atom_law [] c.args.e.now)
 
-pub returns-in-Name : goal.returns-in-Name
-returns-in-Name c = c.literal.ensures ∙ ap (λ (x : Shape). by_atom x (number c.args.e.now)) (sym (sym (c.shape_of.ensures ∙ ap shape c.word_of.ensures) ∙ c.in-Name.is)) ∙ sym (atom_law [] c.args.e.now)
-
-pub returns-in-If : goal.returns-in-If
-returns-in-If c = c.literal-in-If.ensures ∙ ap (λ (x : Shape). by_atom x (number c.args.e.now)) (sym (sym (c.shape_of.ensures ∙ ap shape c.word_of.ensures) ∙ c.in-If.is)) ∙ sym (atom_law [] c.args.e.now)
-
-pub returns-in-One : goal.returns-in-One
-returns-in-One c = c.literal-in-One.ensures ∙ ap (λ (x : Shape). by_atom x (number c.args.e.now)) (sym (sym (c.shape_of.ensures ∙ ap shape c.word_of.ensures) ∙ c.in-One.is)) ∙ sym (atom_law [] c.args.e.now)
-
-pub returns-in-Two : goal.returns-in-Two
-returns-in-Two c = c.literal-in-Two.ensures ∙ ap (λ (x : Shape). by_atom x (number c.args.e.now)) (sym (sym (c.shape_of.ensures ∙ ap shape c.word_of.ensures) ∙ c.in-Two.is)) ∙ sym (atom_law [] c.args.e.now)
-
-pub returns-in-None : goal.returns-in-None
-returns-in-None c = c.literal-in-None.ensures ∙ ap (λ (x : Shape). by_atom x (number c.args.e.now)) (sym (sym (c.shape_of.ensures ∙ ap shape c.word_of.ensures) ∙ c.in-None.is)) ∙ sym (atom_law [] c.args.e.now)
+pub returns-in_default : goal.returns-in_default
+returns-in_default c = c.literal.ensures ∙ other_atom _ _ c.in_default.not-True c.in_default.not-False ∙ ap (λ (x : Shape). by_atom x (number c.args.e.now)) (c.shape_of.ensures ∙ ap shape c.word_of.ensures) ∙ sym (atom_law [] c.args.e.now)

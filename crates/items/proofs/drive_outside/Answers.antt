@@ -1,8 +1,6 @@
-use mathlib.Core.Path.{sym, ◌∙◌, ap}
-use mathlib.Core.Bool.{true, false}
+use mathlib.Core.Path.{sym, ◌∙◌}
 use Rattle.consteval.specs.Worth.{names_of}
-use Rattle.items.specs.Lines.{says_outside}
-use Rattle.items.proofs.DriveLaws.{no_drive, other_kind, output_kind}
+use Rattle.items.proofs.DriveLaws.{no_drive, other_kind, output_kind, says_err}
 use Rattle.items.proofs.drive_outside.Goals as goal
 
 pub returns-then-byte-ne100 : goal.returns-then-byte-ne100
@@ -11,8 +9,5 @@ returns-then-byte-ne100 c = no_drive c.args.x.now c.args.depth c.args.kinds.now 
 pub returns-then-byte-ne2 : goal.returns-then-byte-ne2
 returns-then-byte-ne2 c = other_kind c.args.x.now c.args.depth c.args.kinds.now (names_of c.args.names.now c.args.used) (sym c.byte.ensures ∙ c.if-byte-ne100.false) c.part_end.ensures c.between-lv.ensures c.named_at-l.result c.named_at-l.ensures c.byte-2.ensures c.if-byte-ne2.true
 
-pub returns-in-Is : goal.returns-in-Is
-returns-in-Is c = output_kind c.args.x.now c.args.depth c.args.kinds.now (names_of c.args.names.now c.args.used) (sym c.byte.ensures ∙ c.if-byte-ne100.false) c.part_end.ensures c.between-lv.ensures c.named_at-l.result c.named_at-l.ensures c.byte-2.ensures c.if-byte-ne2.false c.lvalue_extent.result c.lvalue_extent.ensures.result_value false (ap says_outside c.in-Is.is)
-
-pub returns-in-Outside : goal.returns-in-Outside
-returns-in-Outside c = output_kind c.args.x.now c.args.depth c.args.kinds.now (names_of c.args.names.now c.args.used) (sym c.byte.ensures ∙ c.if-byte-ne100.false) c.part_end.ensures c.between-lv.ensures c.named_at-l.result c.named_at-l.ensures c.byte-2.ensures c.if-byte-ne2.false c.lvalue_extent.result c.lvalue_extent.ensures.result_value true (ap says_outside c.in-Outside.is)
+pub returns : goal.returns
+returns c = output_kind c.args.x.now c.args.depth c.args.kinds.now (names_of c.args.names.now c.args.used) (sym c.byte.ensures ∙ c.if-byte-ne100.false) c.part_end.ensures c.between-lv.ensures c.named_at-l.result c.named_at-l.ensures c.byte-2.ensures c.if-byte-ne2.false c.lvalue_extent.result c.lvalue_extent.ensures.result_value _ (says_err c.lvalue_extent.result ∙ sym c.is_err.ensures.value)

@@ -1,4 +1,4 @@
-use Rattle.consteval.proofs.FillLaws.{const_empty, const_is, const_not, const_val, const_other, held_capped}
+use Rattle.consteval.proofs.FillLaws.{const_empty, const_is, const_not, const_other, held_capped}
 use Rattle.consteval.proofs.TableLaws.{const_by}
 use Rattle.consteval.specs.Fill.{held}
 use Rattle.consteval.specs.Worth.{names_of}
@@ -13,18 +13,14 @@ pub returns-then-s-eq0 : goal.returns-then-s-eq0
 returns-then-s-eq0 c =
     let r = const_by (names_of c.args.names.now c.args.used) c.args.s.now _ (const_empty c.args.s.now (names_of c.args.names.now c.args.used) c.if-s-eq0.true) in record { value = r.0; result_value = r.1 }
 
-pub returns-in-Are : goal.returns-in-Are
-returns-in-Are c =
-    let r = const_by (names_of c.args.names.now c.args.used) c.args.s.now _ (c.to_hold.ensures.value ∙ ap₂ held c.value.ensures c.eval.ensures ∙ held_capped (number c.between-in-Are.result.now) (value (names_of c.args.names.now c.args.used) (decode_expr 31 c.between-in-Are-2.result.now)) ∙ ap₂ (λ (a b : Bytes). held (number a) (value (names_of c.args.names.now c.args.used) (decode_expr 31 b))) c.between-in-Are.ensures c.between-in-Are-2.ensures ∙ const_is c.args.s.now c.if-s-eq0.false c.part_end-h.ensures (c.word_of.ensures ∙ ap word_of c.between.ensures) c.role_of.ensures (names_of c.args.names.now c.args.used) c.in-Const.is c.as_two.ensures c.in-Are.is) in record { value = r.0; result_value = r.1 }
+pub returns-in_default : goal.returns-in_default
+returns-in_default c =
+    let r = const_by (names_of c.args.names.now c.args.used) c.args.s.now _ (const_other c.args.s.now c.if-s-eq0.false c.part_end-h.ensures (c.word_of.ensures ∙ ap word_of c.between.ensures) c.role_of.ensures (names_of c.args.names.now c.args.used) c.in_default.not-Const) in record { value = r.0; result_value = r.1 }
 
-pub returns-in-Not : goal.returns-in-Not
-returns-in-Not c =
-    let r = const_by (names_of c.args.names.now c.args.used) c.args.s.now _ (const_not c.args.s.now c.if-s-eq0.false c.part_end-h.ensures (c.word_of.ensures ∙ ap word_of c.between.ensures) c.role_of.ensures (names_of c.args.names.now c.args.used) c.in-Const.is c.as_two.ensures c.in-Not.is) in record { value = r.0; result_value = r.1 }
+pub returns-in_default-as_two : goal.returns-in_default-as_two
+returns-in_default-as_two c =
+    let r = const_by (names_of c.args.names.now c.args.used) c.args.s.now _ (const_not c.args.s.now c.if-s-eq0.false c.part_end-h.ensures (c.word_of.ensures ∙ ap word_of c.between.ensures) c.role_of.ensures (names_of c.args.names.now c.args.used) c.in-Const.is c.as_two.ensures c.in_default-as_two.is) in record { value = r.0; result_value = r.1 }
 
-pub returns-in-Val : goal.returns-in-Val
-returns-in-Val c =
-    let r = const_by (names_of c.args.names.now c.args.used) c.args.s.now _ (const_val c.args.s.now c.if-s-eq0.false c.part_end-h.ensures (c.word_of.ensures ∙ ap word_of c.between.ensures) c.role_of.ensures (names_of c.args.names.now c.args.used) c.in-Val.is) in record { value = r.0; result_value = r.1 }
-
-pub returns-in-Other : goal.returns-in-Other
-returns-in-Other c =
-    let r = const_by (names_of c.args.names.now c.args.used) c.args.s.now _ (const_other c.args.s.now c.if-s-eq0.false c.part_end-h.ensures (c.word_of.ensures ∙ ap word_of c.between.ensures) c.role_of.ensures (names_of c.args.names.now c.args.used) c.in-Other.is) in record { value = r.0; result_value = r.1 }
+pub returns : goal.returns
+returns c =
+    let r = const_by (names_of c.args.names.now c.args.used) c.args.s.now _ (c.to_hold.ensures.value ∙ ap₂ held c.value.ensures c.eval.ensures ∙ held_capped (number c.between-2.result.now) (value (names_of c.args.names.now c.args.used) (decode_expr 31 c.between-3.result.now)) ∙ ap₂ (λ (a b : Bytes). held (number a) (value (names_of c.args.names.now c.args.used) (decode_expr 31 b))) c.between-2.ensures c.between-3.ensures ∙ const_is c.args.s.now c.if-s-eq0.false c.part_end-h.ensures (c.word_of.ensures ∙ ap word_of c.between.ensures) c.role_of.ensures (names_of c.args.names.now c.args.used) c.in-Const.is c.as_two.ensures c.in-Some.is) in record { value = r.0; result_value = r.1 }

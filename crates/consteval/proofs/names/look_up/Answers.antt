@@ -10,9 +10,6 @@ counted-i-requires c = omega arith
 pub loop-i-init : goal.loop-i-init
 loop-i-init c = (omega (arith, c.counted-i.ensures), names_start c.args.names.now c.args.used c.args.n c.counted-i.ensures)
 
-pub overflow_sub-i : goal.overflow_sub-i
-overflow_sub-i c = omega arith
-
 pub overflow_add-i : goal.overflow_add-i
 overflow_add-i c = omega arith
 
@@ -36,9 +33,6 @@ bounds-names-i-then-names-i c = omega arith
 
 pub returns-then-names-i : goal.returns-then-names-i
 returns-then-names-i c = found_here c.args.names.now c.args.n c.loop-i.i (c.loop-i.i - 1) (omega arith) c.if-names-i.true ∙ sym c.loop-i.invariant.1
-
-pub loop-i-smaller : goal.loop-i-smaller
-loop-i-smaller c = omega arith
 
 pub loop-i-preserved : goal.loop-i-preserved
 loop-i-preserved c = (omega arith, c.loop-i.invariant.1 ∙ not_here c.args.names.now c.args.n c.loop-i.i (c.loop-i.i - 1) (omega arith) c.if-names-i.false)

@@ -7,6 +7,3 @@ use Rattle.consteval.proofs.names.look_up.Given as goal
 
 abbrev pub invariant-loop-i : goal.invariant-loop-i
 invariant-loop-i l = (l.i ≤ length l.names / 2) × (value_of_name (names_of l.names l.used) l.n ≡ value_of_name (pairs l.names l.i) l.n)
-
-abbrev pub decreases-loop-i : goal.decreases-loop-i
-decreases-loop-i l = l.i

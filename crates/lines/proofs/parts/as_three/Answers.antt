@@ -1,27 +1,12 @@
+use Rattle.lines.proofs.PartLaws.{other_triple}
 use Rattle.lines.specs.Parts.{to_triple, triple_of}
 use mathlib.Core.Path.{sym, ap, ◌∙◌}
 use Rattle.lines.proofs.parts.as_three.Goals as goal
-
-pub returns-in-Zero : goal.returns-in-Zero
-unfolding triple_of
-returns-in-Zero c = sym (ap to_triple (sym c.behind.ensures ∙ c.in-Zero.is))
-
-pub returns-in-One : goal.returns-in-One
-unfolding triple_of
-returns-in-One c = sym (ap to_triple (sym c.behind.ensures ∙ c.in-One.is))
-
-pub returns-in-Two : goal.returns-in-Two
-unfolding triple_of
-returns-in-Two c = sym (ap to_triple (sym c.behind.ensures ∙ c.in-Two.is))
 
 pub returns-in-Three : goal.returns-in-Three
 unfolding triple_of
 returns-in-Three c = sym (ap to_triple (sym c.behind.ensures ∙ c.in-Three.is))
 
-pub returns-in-Four : goal.returns-in-Four
+pub returns-in_default : goal.returns-in_default
 unfolding triple_of
-returns-in-Four c = sym (ap to_triple (sym c.behind.ensures ∙ c.in-Four.is))
-
-pub returns-in-More : goal.returns-in-More
-unfolding triple_of
-returns-in-More c = sym (ap to_triple (sym c.behind.ensures ∙ c.in-More.is))
+returns-in_default c = other_triple _ c.in_default.not-Three ∙ ap to_triple c.behind.ensures

@@ -1,27 +1,12 @@
+use Rattle.lines.proofs.PartLaws.{other_pair}
 use Rattle.lines.specs.Parts.{to_pair, pair_of}
 use mathlib.Core.Path.{sym, ap, ◌∙◌}
 use Rattle.lines.proofs.parts.as_two.Goals as goal
-
-pub returns-in-Zero : goal.returns-in-Zero
-unfolding pair_of
-returns-in-Zero c = sym (ap to_pair (sym c.behind.ensures ∙ c.in-Zero.is))
-
-pub returns-in-One : goal.returns-in-One
-unfolding pair_of
-returns-in-One c = sym (ap to_pair (sym c.behind.ensures ∙ c.in-One.is))
 
 pub returns-in-Two : goal.returns-in-Two
 unfolding pair_of
 returns-in-Two c = sym (ap to_pair (sym c.behind.ensures ∙ c.in-Two.is))
 
-pub returns-in-Three : goal.returns-in-Three
+pub returns-in_default : goal.returns-in_default
 unfolding pair_of
-returns-in-Three c = sym (ap to_pair (sym c.behind.ensures ∙ c.in-Three.is))
-
-pub returns-in-Four : goal.returns-in-Four
-unfolding pair_of
-returns-in-Four c = sym (ap to_pair (sym c.behind.ensures ∙ c.in-Four.is))
-
-pub returns-in-More : goal.returns-in-More
-unfolding pair_of
-returns-in-More c = sym (ap to_pair (sym c.behind.ensures ∙ c.in-More.is))
+returns-in_default c = other_pair _ c.in_default.not-Two ∙ ap to_pair c.behind.ensures
