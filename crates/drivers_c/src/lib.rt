@@ -7,6 +7,7 @@ ghost use Rattle.drivers.specs.Check.{slices};
 ghost use Rattle.drivers_c.specs.Code.{told, Called};
 
 use drivers::check;
+use drivers::check::Answer;
 
 // Stores a number at i, nothing past the end.
 fn put(numbers: &mut [u64], i: usize, v: u64)
@@ -18,14 +19,14 @@ fn put(numbers: &mut [u64], i: usize, v: u64)
 }
 
 // Stores the five numbers of an answer.
-fn tell(numbers: &mut [u64], number: u32, line: u32, bytes: usize, reports: usize, rounds: u32)
-    ensures { numbers.new ≡ told numbers.old number line bytes reports rounds }
+fn tell(numbers: &mut [u64], a: Answer)
+    ensures { numbers.new ≡ told numbers.old a.number a.line a.bytes a.reports a.rounds }
 {
-    put(numbers, 0, number as u64);
-    put(numbers, 1, line as u64);
-    put(numbers, 2, bytes as u64);
-    put(numbers, 3, reports as u64);
-    put(numbers, 4, rounds as u64);
+    put(numbers, 0, a.number as u64);
+    put(numbers, 1, a.line as u64);
+    put(numbers, 2, a.bytes as u64);
+    put(numbers, 3, a.reports as u64);
+    put(numbers, 4, a.rounds as u64);
 }
 
 // Checks a text: the number of the answer. `report` has the reports, as many bytes as the answer says, and keeps its other bytes.
@@ -53,6 +54,6 @@ pub extern "C" fn drivercheck_check(
         (kinds.new ∷ mods.new ∷ names.new ∷ own.new ∷ g.new ∷ w.new ∷ k.new ∷ []) }
 {
     let a = check::check_drivers(text, report, kinds, mods, names, own, g, w, k);
-    tell(numbers, a.number, a.line, a.bytes, a.reports, a.rounds);
+    tell(numbers, a);
     a.number
 }

@@ -6,9 +6,14 @@ ghost use Rattle.spec.specs.Cases.{Prints};
 ghost use Rattle.report.specs.Line.{refused_line};
 
 use drivers::check;
+use lines::tables;
+use steps::modules;
 
 // The program's report buffer.
 pub const REPORT: usize = 65536;
+
+// A graph, and hints.
+const HINTED: usize = graph::GRAPH + 1024;
 
 // A refusal at the front of the buffer: how many bytes it has; the others stay.
 fn put_refused(number: u32, line: u32, out: &mut [u8; REPORT]) -> usize
@@ -28,13 +33,13 @@ pub fn print_to(text: &[u8], out: &mut [u8; REPORT]) -> usize
     ensures prefix_len { (result ≤ length out.new) × (result ≡ length (take result out.new)) }
     ensures out_unchanged { drop result out.new ≡ drop result out.old }
 {
-    let mut kinds = [0u8; 8192];
-    let mut mods = [0u32; 128];
-    let mut names = [0u32; 6616];
-    let mut own = [0u32; 11016];
-    let mut g = [0u32; 16898];
-    let mut w = [0u32; 29190];
-    let mut k = [0u32; 2145];
+    let mut kinds = [0u8; tables::KINDS];
+    let mut mods = [0u32; tables::MODS];
+    let mut names = [0u32; modules::NAMES];
+    let mut own = [0u32; sites::OWN];
+    let mut g = [0u32; HINTED];
+    let mut w = [0u32; graph::WORK];
+    let mut k = [0u32; summary::KEPT];
     let answer = check::check_drivers(
         text, out, &mut kinds, &mut mods, &mut names, &mut own, &mut g, &mut w, &mut k,
     );

@@ -86,7 +86,7 @@ fn bits(high: u16, low: u16) -> Extent {
 }
 
 fn main(rt: HostRuntime) -> io::Result<()> {
-    let mut own = [0u32; 11016];
+    let mut own = [0u32; sites::OWN];
     begin(&rt, &mut own, b"P3\n")?;
     drive(&mut own, bits(3, 0), 20);
     drive(&mut own, bits(5, 3), 30);
