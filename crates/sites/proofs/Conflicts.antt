@@ -9,23 +9,12 @@ use native.Mathlib.Numerals.{add-one}
 use lib.Dec.{T, eqb, ltb, leb, leb→le, ltb→lt}
 use lib.ListN.{length, get_or, set, length-set}
 use lib.Seq.{sets, length-sets, get_or-set_same, get_or-set_other, ext_get_or}
-use borrow.Author.Tests.{eq-eqb, ne_eqb, eqb-true, eqb-false, lt-ltb, le-ltb, ltb-true, ltb-false}
+use borrow.Author.Tests.{eq-eqb, ne_eqb, eqb-true, eqb-false, ltb-true, ltb-false}
 use Rattle.spec.specs.Refusal.{has_name}
 use Rattle.spec.specs.Site.{Site, Conflict, Misused, conflict_before, insert_conflict, with_conflict, conflicts, conflict_names, misused_names, first_conflict, sites_of}
 use Rattle.sites.specs.Own.{Table, run, row, rows_in, items, own_of, row_names, with_conflicts, skip_at, conflict_table, conflict_from, site_table, pair_table, port_table, reg_table, mem_table, misuse_table, site_from, pair_from, port_from, storage_from, misused_from, poisoned_names, Front, Behind, conflict_rows, conflict_row, conflict_of, conflict_numbers, conflicts_stored, conflicts_found, stored_row, pushed, site_row, misuse_poison, conflict_step, entry_names, places}
 use Rattle.sites.proofs.Added.{conflict_shape}
 use Rattle.sites.proofs.Rows.{run_ext, run_snoc, run_step, run_end, row_end, rows_limit, same_own, names_items, has_here, has_later, row_sets_above, row_sets_before, row_sets_same, row_length, row_at, run_length, more_count, pushed_items, grown_room, push_room, get_or_sets_below}
-
--- which of two goes first
-module _ (c d : Conflict) where
-  pub earlier_start : c.start < d.start → conflict_before c d ≡ true
-  earlier_start h = rw (lt-ltb c.start d.start h)
-
-  pub earlier_name : ¬ (c.start < d.start) → c.start ≡ d.start → conflict_before c d ≡ ltb c.name d.name
-  earlier_name n e = let l : d.start ≤ c.start = omega arith in rw (le-ltb c.start d.start l, eq-eqb c.start d.start e)
-
-  pub earlier_not : ¬ (c.start < d.start) → ¬ (c.start ≡ d.start) → conflict_before c d ≡ false
-  earlier_not n e = let l : d.start ≤ c.start = omega (arith, n) in rw (le-ltb c.start d.start l, ne_eqb c.start d.start e)
 
 -- the place of a conflict among the first n
 module _ (c : Conflict) (g : ℕ → Conflict) (n : ℕ) where

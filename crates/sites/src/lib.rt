@@ -81,7 +81,7 @@ const CONFLICTS: Table = Table {
 // How many numbers hold all the tables.
 pub const OWN: usize = CONFLICTS.base + 2 * SITE_LIMIT;
 
-#[derive(Clone, Copy)]
+#[derive(Clone, Copy, Debug, PartialEq, Eq)]
 pub enum Extent {
     Whole,
     Range { low: u32, high: u32 },
@@ -89,14 +89,14 @@ pub enum Extent {
     Unknown,
 }
 
-#[derive(Clone, Copy)]
+#[derive(Clone, Copy, Debug, PartialEq, Eq)]
 pub struct Site {
     pub name: u32,
     pub extent: Extent,
     pub start: u32,
 }
 
-#[derive(Clone, Copy)]
+#[derive(Clone, Copy, Debug, PartialEq, Eq)]
 pub enum Misuse {
     Wire,
     Reg,
@@ -340,29 +340,16 @@ fn site_at(own: &[u32], i: usize) -> Site
 fn meets(a: Extent, b: Extent) -> bool
     ensures { result ≡ site.meets (extent_of a) (extent_of b) }
 {
-    match a {
-        Extent::Unknown => false,
-        Extent::Whole => match b {
-            Extent::Unknown => false,
-            Extent::Whole => true,
-            Extent::Dynamic => true,
-            Extent::Range { low: _, high: _ } => true,
-        },
-        Extent::Dynamic => match b {
-            Extent::Unknown => false,
-            Extent::Whole => true,
-            Extent::Dynamic => true,
-            Extent::Range { low: _, high: _ } => true,
-        },
-        Extent::Range { low, high } => match b {
-            Extent::Unknown => false,
-            Extent::Whole => true,
-            Extent::Dynamic => true,
+    match (a, b) {
+        (Extent::Unknown, _) | (_, Extent::Unknown) => false,
+        (
+            Extent::Range { low, high },
             Extent::Range {
                 low: from,
                 high: to,
-            } => ranges_meet(low, high, from, to),
-        },
+            },
+        ) => ranges_meet(low, high, from, to),
+        _ => true,
     }
 }
 
@@ -453,7 +440,7 @@ pub fn range_extent(bound: bool, h: bool, high: u32, l: bool, low: u32) -> Exten
     }
 }
 
-#[derive(Clone, Copy)]
+#[derive(Clone, Copy, Debug, PartialEq, Eq)]
 pub enum Blocks {
     None,
     One,
@@ -494,7 +481,7 @@ pub fn blocks_of(own: &[u32], name: u32) -> Blocks
 }
 
 // What decides an output's coverage.
-#[derive(Clone, Copy)]
+#[derive(Clone, Copy, Debug, PartialEq, Eq)]
 pub enum Cover {
     Never,
     Open,
@@ -504,12 +491,7 @@ pub enum Cover {
 fn is_range(e: Extent) -> bool
     ensures { result ≡ range_test (extent_of e) }
 {
-    match e {
-        Extent::Whole => false,
-        Extent::Range { low: _, high: _ } => true,
-        Extent::Dynamic => false,
-        Extent::Unknown => false,
-    }
+    matches!(e, Extent::Range { .. })
 }
 
 // Whether an output has no site, one that is no range, or ranges only.
@@ -553,18 +535,13 @@ fn mark_extent(marks: &mut [u8], limit: usize, e: Extent)
     ensures { Marked limit (site.covers (extent_of e)) marks.old marks.new }
 {
     match e {
-        Extent::Whole => {
-            mark(marks, 0, limit);
-            return;
-        }
+        Extent::Whole => mark(marks, 0, limit),
         Extent::Range { low, high } => {
             let end = (high as usize + 1).min(limit);
             let from = (low as usize).min(end);
             mark(marks, from, end);
-            return;
         }
-        Extent::Dynamic => return,
-        Extent::Unknown => return,
+        Extent::Dynamic | Extent::Unknown => {}
     }
 }
 
@@ -624,13 +601,7 @@ pub fn first_gap(own: &[u32], name: u32, width: u32) -> Option<u32>
 fn conflict_earlier(start: u32, name: u32, s: u32, n: u32) -> bool
     ensures { result ≡ site.conflict_before (conflict_of start name) (conflict_of s n) }
 {
-    if start < s {
-        return true;
-    }
-    if start == s {
-        return name < n;
-    }
-    false
+    (start, name) < (s, n)
 }
 
 // The place of a conflict among the first n.
@@ -766,14 +737,14 @@ pub fn find_conflicts(own: &mut [u32])
 }
 
 // A name and a START.
-#[derive(Clone, Copy)]
+#[derive(Clone, Copy, Debug, PartialEq, Eq)]
 pub struct Line {
     pub name: u32,
     pub start: u32,
 }
 
 // An output's first line; its width stands at from..to of the text.
-#[derive(Clone, Copy)]
+#[derive(Clone, Copy, Debug, PartialEq, Eq)]
 pub struct OutputLine {
     pub name: u32,
     pub start: u32,
@@ -781,7 +752,7 @@ pub struct OutputLine {
     pub to: u32,
 }
 
-#[derive(Clone, Copy)]
+#[derive(Clone, Copy, Debug, PartialEq, Eq)]
 pub struct MisusedLine {
     pub name: u32,
     pub start: u32,
