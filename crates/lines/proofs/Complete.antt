@@ -9,7 +9,7 @@ use lib.ListN.{length, drop, length-append, length-drop}
 use borrow.Author.Tests.{eq-eqb}
 use Rattle.spec.specs.Bytes.{Bytes, show_rest, show_form}
 use Rattle.lines.specs.Bytes.{class_of}
-use Rattle.std.specs.Prelude.{Option, Some, None}
+use Rattle.std.specs.Prelude.{Option}
 use Rattle.lines.specs.Parse.{good, key, shift, parts_at, scan}
 use Rattle.lines.specs.declared.parse.Cat.{Cat}
 use Rattle.lines.specs.declared.parse.Shape.{Shape}

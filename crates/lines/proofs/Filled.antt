@@ -4,14 +4,13 @@
 use mathlib.Core.Path.{◌≡◌}
 use mathlib.Core.Bool.{Bool, true, false}
 use mathlib.Core.List.{List}
-use Prim.Native.Nat.{ℕ, ◌+◌, ◌-◌, ◌≤◌}
+use Prim.Native.Nat.{ℕ, ◌+◌, ◌-◌}
 use lib.Dec.{eqb}
 use lib.ListN.{length, drop}
 use Rattle.spec.specs.Bytes.{Bytes}
 use Rattle.spec.specs.Syntax.{name_bound, Header}
-use Rattle.spec.specs.Refusal.{lines, decode_lines, gather, Gathered, decode, at_start, lines_fault}
+use Rattle.spec.specs.Refusal.{lines, decode_lines, gather, Gathered, decode}
 use Rattle.lines.specs.Tables.{put_header, put_kinds, marked, header_size, items_size, put_mods}
-use Rattle.lines.specs.Verdict.{refused_as, told, modules_in}
 use Rattle.lines.specs.declared.tables.Progress.{Progress}
 use Rattle.lines.proofs.Going.{Going}
 

@@ -22,7 +22,7 @@ use Rattle.lines.specs.declared.read.Step.{Step}
 use Rattle.lines.specs.declared.read.Step.TheVariants.{Module, Kind, Val, Item}
 use Rattle.lines.specs.declared.read.Fault.{Fault}
 use Rattle.lines.specs.declared.read.Refusal.{Refusal}
-use Rattle.std.specs.Prelude.{Result, Ok, Err, IsErrAnd}
+use Rattle.std.specs.Prelude.{Result, Ok, Err}
 use Rattle.lines.specs.declared.tables.Progress.{Progress}
 use Rattle.lines.proofs.Steps.{Right, line_right}
 use Rattle.lines.proofs.Turns.{pass_room, going_start, going_right, going_module, going_kind, going_val, going_item, going_fault, going_end}
@@ -46,11 +46,6 @@ one_step e = cc e
 
 one_fault : {f k : Fault} → ◌≡◌ {A = Result Progress Fault} (Err f) (Err k) → f ≡ k
 one_fault e = cc e
-
--- what `?` hands on
-pub err_is : (r : Result Progress Fault) (f : Fault) → IsErrAnd r (λ e. e ≡ f) → r ≡ Err f
-err_is (Ok q) f e = absurd e
-err_is (Err k) f e = ap Err e
 
 -- what an arm of `enter_line` leaves is what its step says
 pub behind_by : (t : Bytes) (at : ℕ) (p : Progress) (seen kinds mods : List ℕ) (x : Result Step Fault) → x ≡ step_at t at p seen → (q : Result Progress Fault) (ss ks ms : List ℕ)

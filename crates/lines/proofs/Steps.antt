@@ -30,7 +30,7 @@ use Rattle.lines.specs.declared.parse.Word.{Word}
 use Rattle.lines.specs.declared.read.Step.{Step}
 use Rattle.lines.specs.declared.read.Step.TheVariants.{Module, Kind, Val, Item as ItemStep}
 use Rattle.lines.specs.declared.read.Fault.{Fault}
-use Rattle.lines.specs.declared.read.Fault.TheVariants.{NotOneForm, BadlyWritten, OutOfRange, OutOfPlace, OneTooMany}
+use Rattle.lines.specs.declared.read.Fault.TheVariants.{NotOneForm, BadlyWritten, OutOfRange}
 use Rattle.lines.proofs.Laws.{if_case}
 use Rattle.lines.proofs.ReadLaws.{head_module, head_none, head_late, head_kind, head_val_late, head_val, head_item, after_some}
 use Rattle.lines.proofs.Spelled.{at_cons, cons_at, cons_next, span_next, all_wordly, word_fine, word_there, Caps, number_there}

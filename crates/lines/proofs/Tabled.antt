@@ -17,7 +17,7 @@ use Rattle.spec.specs.Syntax as Syntax
 use Rattle.spec.specs.Show.{show_kind, show_bound, show_header, show_line, show_lines, header_lines, item_lines}
 use Rattle.spec.specs.Refusal.{lines, Before, in_place, line_in_range, tree_fault, decode_lines, gather, Gathered, decode}
 use Rattle.lines.specs.Bytes.{class_of}
-use Rattle.std.specs.Prelude.{Option, Some, None}
+use Rattle.std.specs.Prelude.{Option, Some}
 use Rattle.lines.specs.Parse.{valued, key, code_after, word_at, kind_of, kind_numbers, lookup_key}
 use Rattle.lines.specs.Read.{number_after}
 use Rattle.lines.specs.Tables.{kind_number, flag, put_header, put_kinds, entries, marked, header_size, items_size, header_at, put_mods, second_behind, second_key, flag_of}

@@ -1,14 +1,14 @@
 -- One pass over the lines of a text: what a line does to where the reading stands and to the tables, and what the whole pass answers and leaves.
 -- 01: The line; Refused because of the text; Refused because of the state.
 -- To a reader: definitions that contracts of this crate cite; each such contract is proved; check_drivers' own promise cites none of them.
-use Rattle.std.specs.Prelude.{◌≡◌, Bool, true, false, Result, Ok, Err, List, ℕ, ◌+◌, ◌*◌, ◌-◌, ◌≤◌, ◌<◌, eqb, length, drop, set, replicate}
+use Rattle.std.specs.Prelude.{◌≡◌, Bool, true, false, Result, Ok, Err, List, ℕ, ◌+◌, ◌*◌, ◌-◌, ◌≤◌, ◌<◌, length, drop, set, replicate}
 use Rattle.spec.specs.Bytes.{Bytes}
 use Rattle.spec.specs.Syntax.{name_bound}
 use Rattle.spec.specs.Refusal.{well_formed, lines, ends_in_feed, at_start, lines_fault, decode}
 use Rattle.lines.specs.Parse.{kind_of}
 use Rattle.lines.specs.Read.{fault_code, line_step}
 use Rattle.lines.specs.Tables.{entries, marked, put_kinds, put_mods, second_key, flag_of}
-use Rattle.lines.specs.Verdict.{refused_as, told, Ended, modules_in}
+use Rattle.lines.specs.Verdict.{told, Ended, modules_in}
 use Rattle.lines.specs.declared.read.Step.{Step}
 use Rattle.lines.specs.declared.read.Step.TheVariants.{Module, Kind, Val, Item}
 use Rattle.lines.specs.declared.read.Fault.{Fault}

@@ -146,7 +146,14 @@ fn kind_step(n: Option<Number>, seen: &[u8], feed: usize) -> Result<Step, Fault>
 }
 
 // A line that is well written and in range, by its head.
-fn head_step(s: &[u8], at: usize, feed: usize, modules: u32, items: bool, seen: &[u8]) -> Result<Step, Fault>
+fn head_step(
+    s: &[u8],
+    at: usize,
+    feed: usize,
+    modules: u32,
+    items: bool,
+    seen: &[u8],
+) -> Result<Step, Fault>
     ensures { result ≡ head_step s.now at feed modules items seen.now }
 {
     let w = word_at(s, at);
@@ -173,7 +180,13 @@ fn head_step(s: &[u8], at: usize, feed: usize, modules: u32, items: bool, seen: 
 }
 
 // The line that starts at a position.
-pub(crate) fn line_step(s: &[u8], at: usize, modules: u32, items: bool, seen: &[u8]) -> Result<Step, Fault>
+pub(crate) fn line_step(
+    s: &[u8],
+    at: usize,
+    modules: u32,
+    items: bool,
+    seen: &[u8],
+) -> Result<Step, Fault>
     ensures { result ≡ line_step s.now at modules items seen.now }
 {
     if !is_open(byte(s, at)) {

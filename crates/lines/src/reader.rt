@@ -72,7 +72,10 @@ pub fn read_text(text: &[u8], kinds: &mut [u8], mods: &mut [u32]) -> Result<u32,
     }
     let bad = set_line(text);
     if bad != 0 {
-        return Err(ReadError::Refused(Refusal { number: 2, line: bad }));
+        return Err(ReadError::Refused(Refusal {
+            number: 2,
+            line: bad,
+        }));
     }
     let mut seen = [0u8; EACH_NAME];
     match fill(text, &mut seen, kinds, mods) {

@@ -115,7 +115,8 @@ fn behind_line(p: Progress, next: usize, items: bool, first: u32) -> Progress
     }
 }
 
-// The line at a position: what it adds is entered into the tables, which a fault leaves as they are. `seen` has the names with a kind in the last module.
+// The line at a position: what it adds is entered into the tables, which a fault leaves as they are. `seen` has the names with a
+// kind in the last module.
 pub(crate) fn enter_line(
     text: &[u8],
     at: usize,

@@ -1,3 +1,4 @@
+use Rattle.std.proofs.lemmas.Result.{err_from_is_err_and}
 use mathlib.Core.Path.{refl, sym, ap, ◌∙◌}
 use Prim.Native.Nat.{ℕ, ◌+◌, ◌*◌, ◌-◌}
 use native.Mathlib.Omega.{arith}
@@ -7,7 +8,7 @@ use Rattle.lines.specs.Parse.{kind_of}
 use Rattle.lines.specs.Tables.{entries, flag_of}
 use Rattle.lines.specs.declared.read.Step.TheVariants.{Module, Kind, Val, Item}
 use Rattle.std.specs.Prelude.{Ok, Err}
-use Rattle.lines.proofs.Filling.{err_is, row_fits, module_facts, kind_facts, val_facts, item_facts, behind_by}
+use Rattle.lines.proofs.Filling.{row_fits, module_facts, kind_facts, val_facts, item_facts, behind_by}
 use Rattle.lines.proofs.tables.enter_line.Goals as goal
 
 pub overflow_add-first : goal.overflow_add-first
@@ -92,7 +93,7 @@ pub behind_line-requires-in-Item : goal.behind_line-requires-in-Item
 behind_line-requires-in-Item c = let u = item_facts c.args.text.now c.args.at c.args.p c.args.seen.now c.args.kinds.now c.args.mods.now c.requires c.in-Item.feed (sym (c.in_ok-step.was ∙ ap Ok c.in-Item.is) ∙ c.line_step.ensures) in let w = row_fits c.args.text.now c.args.at c.args.p c.args.seen.now c.args.kinds.now c.args.mods.now c.requires in omega (arith, u.0, u.1, u.2, w.0, w.1)
 
 pub returns-in_err-step : goal.returns-in_err-step
-returns-in_err-step c = behind_by c.args.text.now c.args.at c.args.p c.args.seen.now c.args.kinds.now c.args.mods.now _ (sym c.in_err-step.was ∙ c.line_step.ensures) _ _ _ _ (err_is c.from_residual.result c.in_err-step.field-0.0 c.from_residual.ensures.1) refl refl refl
+returns-in_err-step c = let p = err_from_is_err_and c.from_residual.result c.from_residual.ensures.1 in behind_by c.args.text.now c.args.at c.args.p c.args.seen.now c.args.kinds.now c.args.mods.now _ (sym c.in_err-step.was ∙ c.line_step.ensures) _ _ _ _ (p.1 ∙ ap Err p.2) refl refl refl
 
 pub returns-in-Module : goal.returns-in-Module
 returns-in-Module c = behind_by c.args.text.now c.args.at c.args.p c.args.seen.now c.args.kinds.now c.args.mods.now (Ok (Module c.in-Module.feed)) (sym (c.in_ok-step.was ∙ ap Ok c.in-Module.is) ∙ c.line_step.ensures) _ _ _ _ (ap Ok c.behind_module.ensures) (c.fill.ensures.after (λ y e. e)) refl (c.enter.ensures ∙ ap (λ (f : ℕ). entries c.args.mods.now c.args.p.modules f (c.in-Module.feed + 1) (c.in-Module.feed + 1) (c.in-Module.feed + 1)) (c.flag_of-flag.ensures ∙ ap flag_of c.second_key.ensures))
