@@ -1,5 +1,5 @@
 // The whole check: each module in order, its reports counted first and then written; the answer; the lent working slices zero.
-ghost use Rattle.std.specs.Prelude.{◌≡◌, [], length, replicate};
+ghost use Rattle.std.specs.Prelude.{◌≡◌, [], length};
 ghost use Rattle.spec.specs.Bytes.{Bytes};
 ghost use Rattle.spec.specs.Syntax.{Module};
 ghost use Rattle.spec.specs.Refusal.{decode};
@@ -94,8 +94,7 @@ fn check_modules(
     }
     let mut q = Place { at: 0, reports: 0 };
     let mut rounds: u32 = 0;
-    let mut m: u32 = 0;
-    while m < count {
+    for m in 0..count {
         match check_module_drivers(
             text, kinds, mods, count, m, names, own, g, w, k, buf, q, write,
         ) {
@@ -103,8 +102,6 @@ fn check_modules(
             Checked::Done(next, taken) => {
                 q = next;
                 rounds += taken;
-                m += 1;
-                continue;
             }
         }
     }
@@ -253,17 +250,6 @@ fn check_text(
     }
 }
 
-// Makes every byte 0.
-fn clear_bytes(s: &mut [u8])
-    ensures { s.new ≡ replicate (length s.old) 0 }
-{
-    let mut i = 0;
-    while i < s.len() {
-        s[i] = 0;
-        i += 1;
-    }
-}
-
 // The check of a text: its answer and its reports, by way of seven working slices, which may hold anything and are zero afterwards.
 pub fn check_drivers(
     text: &[u8],
@@ -282,12 +268,12 @@ pub fn check_drivers(
         text.now report.old }
 {
     let answer = check_text(text, report, kinds, mods, names, own, g, w, k);
-    clear_bytes(kinds);
-    graph::clear(mods);
-    graph::clear(names);
-    graph::clear(own);
-    graph::clear(g);
-    graph::clear(w);
-    graph::clear(k);
+    kinds.fill(0);
+    mods.fill(0);
+    names.fill(0);
+    own.fill(0);
+    g.fill(0);
+    w.fill(0);
+    k.fill(0);
     answer
 }

@@ -78,13 +78,11 @@ fn report_misuses(own: &[u32], m: u32, buf: &mut [u8], p: Place, write: bool) ->
 {
     let n = sites::misuse_count(own);
     let mut q = p;
-    let mut i: usize = 0;
-    while i < n {
+    for i in 0..n {
         let x = sites::misuse_at(own, i);
         let kind = x.kind;
         let detail = misuse_detail(kind);
         q = say(buf, q, write, m, x.start, x.name, detail);
-        i += 1;
     }
     q
 }
@@ -96,11 +94,9 @@ fn report_conflicts(own: &[u32], m: u32, buf: &mut [u8], p: Place, write: bool) 
 {
     let n = sites::conflict_count(own);
     let mut q = p;
-    let mut i: usize = 0;
-    while i < n {
+    for i in 0..n {
         let x = sites::conflict_at(own, i);
         q = say(buf, q, write, m, x.start, x.name, Detail::Many);
-        i += 1;
     }
     q
 }
@@ -221,15 +217,10 @@ fn report_coverage(
 {
     let n = sites::output_count(own);
     let mut q = p;
-    let mut i: usize = 0;
-    while i < n {
+    for i in 0..n {
         let x = sites::output_at(own, i);
         match report_output(text, names, used, own, x, m, buf, q, write) {
-            Covered::Done(r) => {
-                q = r;
-                i += 1;
-                continue;
-            }
+            Covered::Done(r) => q = r,
             Covered::Outside => return Covered::Outside,
         }
     }
@@ -268,11 +259,9 @@ fn report_reg_blocks(own: &[u32], m: u32, buf: &mut [u8], p: Place, write: bool)
 {
     let n = sites::reg_count(own);
     let mut q = p;
-    let mut i: usize = 0;
-    while i < n {
+    for i in 0..n {
         let x = sites::reg_at(own, i);
         q = report_reg(own, m, x.start, x.name, buf, q, write);
-        i += 1;
     }
     q
 }
@@ -309,11 +298,9 @@ fn report_mem_blocks(own: &[u32], m: u32, buf: &mut [u8], p: Place, write: bool)
 {
     let n = sites::mem_count(own);
     let mut q = p;
-    let mut i: usize = 0;
-    while i < n {
+    for i in 0..n {
         let x = sites::mem_at(own, i);
         q = report_mem(own, m, x.start, x.name, buf, q, write);
-        i += 1;
     }
     q
 }

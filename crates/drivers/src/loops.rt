@@ -61,10 +61,8 @@ fn report_loop(
 {
     let first = graph::path_node(w, from);
     let mut q = emit::emit_walk_head(buf, p, write, m, graph::start_of(g, first));
-    let mut i = from;
-    while i < to {
+    for i in from..to {
         q = emit_node(g, graph::path_node(w, i), buf, q, write);
-        i += 1;
     }
     let r = emit_node(g, first, buf, q, write);
     emit::emit_walk_tail(buf, r, write)
@@ -84,14 +82,11 @@ pub(crate) fn report_loops(
 {
     graph::begin(g, w);
     let mut q = p;
-    let mut left = REPORTS;
-    while 0 < left {
-        left -= 1;
+    for turn in 0..REPORTS {
         match graph::next_cycle(g, w) {
             Cycle::Done => return q,
             Cycle::Found(from, to) => {
                 q = report_loop(g, w, m, from, to, buf, q, write);
-                continue;
             }
         }
     }

@@ -1,5 +1,4 @@
 use mathlib.Core.Path.{◌≡◌}
-use Prim.Native.Nat.{◌-◌}
 use lib.ListN.{length}
 use Rattle.spec.specs.Check.{mem_report}
 use Rattle.sites.specs.Own.{places, mem_table}
@@ -9,6 +8,3 @@ use Rattle.drivers.proofs.groups.report_mem_blocks.Given as goal
 
 abbrev pub invariant-loop-i : goal.invariant-loop-i
 invariant-loop-i l = (length l.own ≡ places → Emitting l.write l.initial.buf l.initial.q (storage_left (mem_report l.m) mem_table l.own l.n l.initial.i) (storage_left (mem_report l.m) mem_table l.own l.n l.i) l.buf l.q) × (length l.buf ≡ length l.initial.buf)
-
-abbrev pub decreases-loop-i : goal.decreases-loop-i
-decreases-loop-i l = l.n - l.i
