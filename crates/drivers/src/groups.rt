@@ -27,12 +27,9 @@ use lines::parts;
 use report::{Detail, Report};
 use sites::{Blocks, Cover, Found, Misuse, OutputLine};
 
-// Done with the next place; or a width that decides coverage is outside INT.
-#[derive(Clone, Copy)]
-pub(crate) enum Covered {
-    Done(Place),
-    Outside,
-}
+// A width that decides coverage is outside INT.
+#[derive(Clone, Copy, Debug, PartialEq, Eq)]
+pub(crate) struct Outside;
 
 // The detail of a report on a misuse.
 fn misuse_detail(k: Misuse) -> Detail
@@ -169,7 +166,7 @@ fn report_output(
     buf: &mut [u8],
     p: Place,
     write: bool,
-) -> Covered
+) -> Result<Place, Outside>
     ensures { length own.now ≡ places → (o : Output) → PortIs text.now (port_of x) o
         → Reported result write buf.old p
         (widths_out (names_of names.now used) (poisoned_names (own_of own.now)) (own_of own.now).sites (o ∷ []))
@@ -179,21 +176,15 @@ fn report_output(
     let name = x.name;
     let start = x.start;
     if sites::poisoned(own, name) {
-        return Covered::Done(p);
+        return Ok(p);
     }
     match sites::cover_of(own, name) {
-        Cover::Never => {
-            let q = say(buf, p, write, m, start, name, Detail::Never);
-            Covered::Done(q)
-        }
-        Cover::Open => Covered::Done(p),
+        Cover::Never => Ok(say(buf, p, write, m, start, name, Detail::Never)),
+        Cover::Open => Ok(p),
         Cover::Ranges => match width_at(text, x.from as usize, x.to as usize, names, used) {
-            Value::Known(v) => {
-                let q = report_gap(own, v, m, start, name, buf, p, write);
-                Covered::Done(q)
-            }
-            Value::Missing => Covered::Done(p),
-            Value::Outside => Covered::Outside,
+            Value::Known(v) => Ok(report_gap(own, v, m, start, name, buf, p, write)),
+            Value::Missing => Ok(p),
+            Value::Outside => Err(Outside),
         },
     }
 }
@@ -208,7 +199,7 @@ fn report_coverage(
     buf: &mut [u8],
     p: Place,
     write: bool,
-) -> Covered
+) -> Result<Place, Outside>
     ensures { length own.now ≡ places → (os : List Output) → Ports text.now (own_of own.now).outputs os
         → Reported result write buf.old p
         (widths_out (names_of names.now used) (poisoned_names (own_of own.now)) (own_of own.now).sites os)
@@ -219,12 +210,9 @@ fn report_coverage(
     let mut q = p;
     for i in 0..n {
         let x = sites::output_at(own, i);
-        match report_output(text, names, used, own, x, m, buf, q, write) {
-            Covered::Done(r) => q = r,
-            Covered::Outside => return Covered::Outside,
-        }
+        q = report_output(text, names, used, own, x, m, buf, q, write)?;
     }
-    Covered::Done(q)
+    Ok(q)
 }
 
 // What is said of a register: one that is not poisoned has one block.
@@ -317,7 +305,7 @@ pub(crate) fn report_module(
     buf: &mut [u8],
     p: Place,
     write: bool,
-) -> Covered
+) -> Result<Place, Outside>
     ensures reported { (o : Own) (hs : List Head) → Held text.now own.old o → Stands g.now hs → Roomy w.old
         → Reported result write buf.old p (widths_out (names_of names.now used) (poison o) o.sites o.outputs)
         (own_reports m (names_of names.now used) o hs) buf.new }
@@ -326,13 +314,8 @@ pub(crate) fn report_module(
     sites::find_conflicts(own);
     let a = report_misuses(own, m, buf, p, write);
     let b = report_conflicts(own, m, buf, a, write);
-    match report_coverage(text, names, used, own, m, buf, b, write) {
-        Covered::Done(c) => {
-            let d = report_reg_blocks(own, m, buf, c, write);
-            let e = report_mem_blocks(own, m, buf, d, write);
-            let q = loops::report_loops(g, w, m, buf, e, write);
-            Covered::Done(q)
-        }
-        Covered::Outside => Covered::Outside,
-    }
+    let c = report_coverage(text, names, used, own, m, buf, b, write)?;
+    let d = report_reg_blocks(own, m, buf, c, write);
+    let e = report_mem_blocks(own, m, buf, d, write);
+    Ok(loops::report_loops(g, w, m, buf, e, write))
 }

@@ -10,4 +10,4 @@ zeros : {s : List ℕ} {m n : ℕ} → (((y : ℕ) → y ≡ 0 → y ≡ 0) → 
 zeros after e = after (λ y f. f) ∙ ap (λ (l : ℕ). replicate l 0) e
 
 pub returns : goal.returns
-returns c = exit_is c.args.kinds.now c.args.mods.now c.args.names.now c.args.own.now c.args.g.now c.args.w.now c.args.k.now c.args.text.now c.args.report.now c.check_text-answer.ensures (zeros c.fill.ensures.after c.check_text-answer.auto.kinds) (zeros c.fill-2.ensures.after c.check_text-answer.auto.mods) (zeros c.fill-3.ensures.after c.check_text-answer.auto.names) (zeros c.fill-4.ensures.after c.check_text-answer.auto.own) (zeros c.fill-5.ensures.after c.check_text-answer.auto.g) (zeros c.fill-6.ensures.after c.check_text-answer.auto.w) (zeros c.fill-7.ensures.after c.check_text-answer.auto.k)
+returns c = exit_is c.args.kinds.now c.args.mods.now c.args.names.now c.args.own.now c.args.g.now c.args.w.now c.args.k.now c.args.text.now c.args.report.now (c.as_answer.ensures c.check_text-checked.new.report ∙ c.check_text-checked.ensures) (zeros c.fill.ensures.after c.check_text-checked.auto.kinds) (zeros c.fill-2.ensures.after c.check_text-checked.auto.mods) (zeros c.fill-3.ensures.after c.check_text-checked.auto.names) (zeros c.fill-4.ensures.after c.check_text-checked.auto.own) (zeros c.fill-5.ensures.after c.check_text-checked.auto.g) (zeros c.fill-6.ensures.after c.check_text-checked.auto.w) (zeros c.fill-7.ensures.after c.check_text-checked.auto.k)

@@ -1,9 +1,9 @@
-use mathlib.Core.Path.{sym}
+use mathlib.Core.Path.{refl, sym}
 use Rattle.drivers.proofs.AnswerLaws.{text_short, own_fits, part_long, text_unread, text_refused, text_accepted}
 use Rattle.drivers.proofs.check.check_text.Goals as goal
 
 pub returns-then-is_short : goal.returns-then-is_short
-returns-then-is_short c = text_short c.args.text.now c.args.report.now c.args.kinds.now c.args.mods.now c.args.names.now c.args.own.now c.args.g.now c.args.w.now c.args.k.now c.is_short.ensures c.if-is_short.true (c.refuse.ensures c.args.report.now)
+returns-then-is_short c = text_short c.args.text.now c.args.report.now c.args.kinds.now c.args.mods.now c.args.names.now c.args.own.now c.args.g.now c.args.w.now c.args.k.now c.is_short.ensures c.if-is_short.true refl
 
 pub slice_bounds-check_accepted-end : goal.slice_bounds-check_accepted-end
 slice_bounds-check_accepted-end c = own_fits c.args.text.now c.args.report.now c.args.kinds.now c.args.mods.now c.args.names.now c.args.own.now c.args.g.now c.args.w.now c.args.k.now c.is_short.ensures c.if-is_short.false
@@ -15,7 +15,7 @@ pub returns-in-Short : goal.returns-in-Short
 returns-in-Short c = text_unread c.args.text.now c.args.report.now c.args.kinds.now c.args.mods.now c.args.names.now c.args.own.now c.args.g.now c.args.w.now c.args.k.now c.is_short.ensures c.if-is_short.false c.read_text.ensures.value c.in-Short.is
 
 pub returns-in-Refused : goal.returns-in-Refused
-returns-in-Refused c = text_refused c.args.text.now c.args.report.now c.args.kinds.now c.args.mods.now c.args.names.now c.args.own.now c.args.g.now c.args.w.now c.args.k.now c.is_short.ensures c.if-is_short.false c.read_text.ensures.value c.in-Refused.is (c.refuse-in-Refused.ensures c.args.report.now)
+returns-in-Refused c = text_refused c.args.text.now c.args.report.now c.args.kinds.now c.args.mods.now c.args.names.now c.args.own.now c.args.g.now c.args.w.now c.args.k.now c.is_short.ensures c.if-is_short.false c.read_text.ensures.value c.in-Refused.is refl
 
 pub returns-in-Accepted : goal.returns-in-Accepted
 returns-in-Accepted c = text_accepted c.args.text.now c.args.report.now c.args.kinds.now c.args.mods.now c.args.names.now c.args.own.now c.args.g.now c.args.w.now c.args.k.now c.is_short.ensures c.if-is_short.false c.read_text.ensures.value c.in-Accepted.is c.read_text.new.kinds c.read_text.new.mods c.read_text.ensures.kinds_after c.read_text.ensures.mods_after c.read_text.auto.kinds c.read_text.auto.mods c.check_accepted.ensures
