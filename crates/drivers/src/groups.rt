@@ -1,5 +1,5 @@
 // The reports of a module's own tables, table by table: misuses, conflicts, outputs, registers, memories, loops.
-ghost use Rattle.std.specs.Prelude.{◌≡◌, List, [], ◌∷◌, ◌-◌, ◌≤◌, length, take, drop};
+ghost use Rattle.std.specs.Prelude.{◌≡◌, List, [], ◌∷◌, ◌-◌, ◌<◌, ◌≤◌, length, take, drop};
 ghost use Rattle.spec.specs.Syntax.{Width};
 ghost use Rattle.spec.specs.Show.{show_width};
 ghost use Rattle.spec.specs.Decode.{depth_limit};
@@ -8,28 +8,35 @@ ghost use Rattle.spec.specs.Value.{known};
 ghost use Rattle.spec.specs.Site.{Output, sites_of, width_value, width_coverage};
 ghost use Rattle.spec.specs.Edge.{Head};
 ghost use Rattle.spec.specs.Report.{report, misused};
-ghost use Rattle.spec.specs.Check.{misuse_reports, conflict_reports, coverage_report, output_reports, widths_out, reg_report, mem_report, storage_reports};
+ghost use Rattle.spec.specs.Check.{misuse_reports, conflict_reports, coverage_report, output_reports, widths_out, storage_reports};
 ghost use Rattle.report.specs.Line.{detail_of};
 ghost use Rattle.consteval.specs.Worth.{signed, worth, names_of};
 ghost use Rattle.graph.specs.Stands.{Stands};
 ghost use Rattle.graph.specs.Cycles.{Roomy};
-ghost use Rattle.sites.specs.Own.{places, own_of, misuse_of, poisoned_names, port_of};
+ghost use Rattle.sites.specs.Own.{places, own_of, misuse_of, poisoned_names, port_of, rows_in, row, names, storage_of, storage_from};
 ghost use Rattle.walk.specs.Walk.{Own, poison, own_reports};
 ghost use Rattle.items.specs.Held.{PortIs, Ports, Held};
 ghost use Rattle.drivers.specs.Emits.{Emits};
-ghost use Rattle.drivers.specs.Groups.{Reported};
+ghost use Rattle.drivers.specs.Groups.{Reported, said_by, report_by, table_by, stored_by};
 
-use crate::emit::Place;
+use crate::emit::{Piece, Place};
 use crate::{emit, loops};
 use consteval::{Value, arith};
 use lines::bytes::is_open;
 use lines::parts;
 use report::{Detail, Report};
-use sites::{Blocks, Cover, Found, Misuse, OutputLine};
+use sites::{Blocks, Cover, Found, Line, Misuse, OutputLine};
 
 // A width that decides coverage is outside INT.
 #[derive(Clone, Copy, Debug, PartialEq, Eq)]
 pub(crate) struct Outside;
+
+// What a module stores.
+#[derive(Clone, Copy, Debug, PartialEq, Eq)]
+enum Storage {
+    Reg,
+    Mem,
+}
 
 // The detail of a report on a misuse.
 fn misuse_detail(k: Misuse) -> Detail
@@ -55,17 +62,13 @@ fn say(
 ) -> Place
     ensures { Emits write buf.old p (report m start name (detail_of detail) ∷ []) buf.new result }
 {
-    emit::emit(
-        buf,
-        p,
-        write,
-        Report {
-            number: m,
-            start,
-            name,
-            detail,
-        },
-    )
+    let x = Report {
+        number: m,
+        start,
+        name,
+        detail,
+    };
+    emit::emit(buf, p, write, Piece::Line(x))
 }
 
 // The misuses, in the order in which they were collected.
@@ -215,80 +218,78 @@ fn report_coverage(
     Ok(q)
 }
 
-// What is said of a register: one that is not poisoned has one block.
-fn report_reg(
+// What is said of a register or a memory with these blocks: a register has one, a memory at most one.
+fn blocks_detail(kind: Storage, b: Blocks) -> Option<Detail>
+    ensures { result ≡ said_by kind b }
+{
+    match b {
+        Blocks::None => match kind {
+            Storage::Reg => Some(Detail::NoBlock),
+            Storage::Mem => None,
+        },
+        Blocks::One => None,
+        Blocks::Several => match kind {
+            Storage::Reg => Some(Detail::Blocks),
+            Storage::Mem => Some(Detail::MemBlocks),
+        },
+    }
+}
+
+// What is said of a register or a memory, if it is not poisoned.
+fn report_storage(
+    kind: Storage,
     own: &[u32],
     m: u32,
-    start: u32,
-    name: u32,
+    x: Line,
     buf: &mut [u8],
     p: Place,
     write: bool,
 ) -> Place
     ensures { length own.now ≡ places
-        → Emits write buf.old p (storage_reports (reg_report m) (poisoned_names (own_of own.now)) (own_of own.now).pairs
-        (record { name = name; start = start } ∷ [])) buf.new result }
+        → Emits write buf.old p (storage_reports (report_by kind m) (poisoned_names (own_of own.now)) (own_of own.now).pairs
+        (storage_of x ∷ [])) buf.new result }
 {
-    if sites::poisoned(own, name) {
+    if sites::poisoned(own, x.name) {
         return p;
     }
-    match sites::blocks_of(own, name) {
-        Blocks::None => say(buf, p, write, m, start, name, Detail::NoBlock),
-        Blocks::One => p,
-        Blocks::Several => say(buf, p, write, m, start, name, Detail::Blocks),
+    match blocks_detail(kind, sites::blocks_of(own, x.name)) {
+        Some(detail) => say(buf, p, write, m, x.start, x.name, detail),
+        None => p,
     }
 }
 
-// The registers, in the order of their first lines.
-fn report_reg_blocks(own: &[u32], m: u32, buf: &mut [u8], p: Place, write: bool) -> Place
-    ensures { length own.now ≡ places
-        → Emits write buf.old p (storage_reports (reg_report m) (poisoned_names (own_of own.now)) (own_of own.now).pairs
-        (own_of own.now).regs) buf.new result }
+// How many registers or memories there are.
+fn storage_count(kind: Storage, own: &[u32]) -> usize
+    ensures value { length own.now ≡ places → result ≡ rows_in (table_by kind) own.now }
+    ensures upper_bound { result ≤ names }
 {
-    let n = sites::reg_count(own);
+    match kind {
+        Storage::Reg => sites::reg_count(own),
+        Storage::Mem => sites::mem_count(own),
+    }
+}
+
+// The register or the memory in row i.
+fn storage_at(kind: Storage, own: &[u32], i: usize) -> Line
+    ensures { length own.now ≡ places → i < names → storage_of result ≡ storage_from (row (table_by kind) own.now i) }
+{
+    match kind {
+        Storage::Reg => sites::reg_at(own, i),
+        Storage::Mem => sites::mem_at(own, i),
+    }
+}
+
+// The registers or the memories, in the order of their first lines.
+fn report_blocks(kind: Storage, own: &[u32], m: u32, buf: &mut [u8], p: Place, write: bool) -> Place
+    ensures { length own.now ≡ places
+        → Emits write buf.old p (storage_reports (report_by kind m) (poisoned_names (own_of own.now)) (own_of own.now).pairs
+        (stored_by kind (own_of own.now))) buf.new result }
+{
+    let n = storage_count(kind, own);
     let mut q = p;
     for i in 0..n {
-        let x = sites::reg_at(own, i);
-        q = report_reg(own, m, x.start, x.name, buf, q, write);
-    }
-    q
-}
-
-// What is said of a memory: one that is not poisoned has at most one block.
-fn report_mem(
-    own: &[u32],
-    m: u32,
-    start: u32,
-    name: u32,
-    buf: &mut [u8],
-    p: Place,
-    write: bool,
-) -> Place
-    ensures { length own.now ≡ places
-        → Emits write buf.old p (storage_reports (mem_report m) (poisoned_names (own_of own.now)) (own_of own.now).pairs
-        (record { name = name; start = start } ∷ [])) buf.new result }
-{
-    if sites::poisoned(own, name) {
-        return p;
-    }
-    match sites::blocks_of(own, name) {
-        Blocks::None => p,
-        Blocks::One => p,
-        Blocks::Several => say(buf, p, write, m, start, name, Detail::MemBlocks),
-    }
-}
-
-// The memories, in the order of their first lines.
-fn report_mem_blocks(own: &[u32], m: u32, buf: &mut [u8], p: Place, write: bool) -> Place
-    ensures { length own.now ≡ places
-        → Emits write buf.old p (storage_reports (mem_report m) (poisoned_names (own_of own.now)) (own_of own.now).pairs
-        (own_of own.now).mems) buf.new result }
-{
-    let n = sites::mem_count(own);
-    let mut q = p;
-    for i in 0..n {
-        let x = sites::mem_at(own, i);
-        q = report_mem(own, m, x.start, x.name, buf, q, write);
+        let x = storage_at(kind, own, i);
+        q = report_storage(kind, own, m, x, buf, q, write);
     }
     q
 }
@@ -315,7 +316,7 @@ pub(crate) fn report_module(
     let a = report_misuses(own, m, buf, p, write);
     let b = report_conflicts(own, m, buf, a, write);
     let c = report_coverage(text, names, used, own, m, buf, b, write)?;
-    let d = report_reg_blocks(own, m, buf, c, write);
-    let e = report_mem_blocks(own, m, buf, d, write);
+    let d = report_blocks(Storage::Reg, own, m, buf, c, write);
+    let e = report_blocks(Storage::Mem, own, m, buf, d, write);
     Ok(loops::report_loops(g, w, m, buf, e, write))
 }
