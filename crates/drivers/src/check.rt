@@ -19,6 +19,15 @@ use lines::tables::Read;
 use lines::{reader, tables};
 use steps::modules;
 
+// An accepted text: its bytes, the kinds of its names, where its modules lie, and how many there are.
+#[derive(Clone, Copy)]
+struct Source<'a> {
+    text: &'a [u8],
+    kinds: &'a [u8],
+    mods: &'a [u32],
+    count: u32,
+}
+
 // What the check of a module, or of several, gives: the next place and the rounds taken.
 #[derive(Clone, Copy)]
 struct Checked {
@@ -76,10 +85,7 @@ pub struct Answer {
 
 // The own check of module m: what its lines collect, then its reports behind the place p.
 fn check_module_drivers(
-    text: &[u8],
-    kinds: &[u8],
-    mods: &[u32],
-    count: u32,
+    source: &Source,
     m: u32,
     names: &mut [u32],
     own: &mut [u32],
@@ -90,15 +96,25 @@ fn check_module_drivers(
     p: Place,
     write: bool,
 ) -> Result<Checked, Stop>
-    ensures tallied { (x : Module) (kept : Kept) → Checking text.now kinds.now mods.now count m
+    ensures tallied { (x : Module) (kept : Kept) → Checking source.now.text.now source.now.kinds.now source.now.mods.now source.now.count m
         names.old own.old g.old w.old k.old x kept
-        → Tallied result write buf.old p buf.new k.new (check_one (decode text.now) kept m x) }
+        → Tallied result write buf.old p buf.new k.new (check_one (decode source.now.text.now) kept m x) }
     ensures few_rounds { FewRounds result }
 {
-    match collect::collect_module(text, kinds, mods, count, m, names, own, g, k) {
+    match collect::collect_module(
+        source.text,
+        source.kinds,
+        source.mods,
+        source.count,
+        m,
+        names,
+        own,
+        g,
+        k,
+    ) {
         Collected::Full => Err(Stop),
         Collected::Left(used, left) => {
-            let next = groups::report_module(text, names, used, own, g, w, m, buf, p, write)?;
+            let next = groups::report_module(source.text, names, used, own, g, w, m, buf, p, write)?;
             Ok(Checked {
                 next,
                 rounds: 4096 - left,
@@ -109,10 +125,7 @@ fn check_module_drivers(
 
 // Every module of an accepted text in order, to the first that is full, from the summaries that are kept already.
 fn check_modules(
-    text: &[u8],
-    kinds: &[u8],
-    mods: &[u32],
-    count: u32,
+    source: &Source,
     names: &mut [u32],
     own: &mut [u32],
     g: &mut [u32],
@@ -121,21 +134,21 @@ fn check_modules(
     buf: &mut [u8],
     write: bool,
 ) -> Result<Checked, Stop>
-    ensures { (kept : Kept) → Tabled text.now kinds.now mods.now count
+    ensures { (kept : Kept) → Tabled source.now.text.now source.now.kinds.now source.now.mods.now source.now.count
         → Enough names.old own.old g.old w.old k.old
         → Keeps k.old kept []
         → Tallied result write buf.old first_place buf.new k.new
-        (check_all (decode text.now) kept 0 (decode text.now)) }
+        (check_all (decode source.now.text.now) kept 0 (decode source.now.text.now)) }
 {
     // No accepted text has more: this only bounds the sum of the rounds.
-    if 32 < count {
+    if 32 < source.count {
         return Err(Stop);
     }
     let mut q = Place { at: 0, reports: 0 };
     let mut rounds: u32 = 0;
-    for m in 0..count {
+    for m in 0..source.count {
         let one = check_module_drivers(
-            text, kinds, mods, count, m, names, own, g, w, k, buf, q, write,
+            source, m, names, own, g, w, k, buf, q, write,
         )?;
         q = one.next;
         rounds += one.rounds;
@@ -167,10 +180,7 @@ fn as_answer(r: Result<Accepted, Refusal>) -> Answer
 
 // An accepted text: 20, 21, or its reports, written once it is known that they fit, with the summaries that were made to count them.
 fn check_accepted(
-    text: &[u8],
-    kinds: &[u8],
-    mods: &[u32],
-    count: u32,
+    source: &Source,
     names: &mut [u32],
     own: &mut [u32],
     g: &mut [u32],
@@ -178,12 +188,12 @@ fn check_accepted(
     k: &mut [u32],
     report: &mut [u8],
 ) -> Result<Accepted, Refusal>
-    ensures { Tabled text.now kinds.now mods.now count
+    ensures { Tabled source.now.text.now source.now.kinds.now source.now.mods.now source.now.count
         → Enough names.old own.old g.old w.old k.old
-        → answer_for result report.new ≡ answer_checked (check_design (decode text.now)) report.old }
+        → answer_for result report.new ≡ answer_checked (check_design (decode source.now.text.now)) report.old }
 {
     summary::reset(k);
-    let counted = check_modules(text, kinds, mods, count, names, own, g, w, k, report, false)?;
+    let counted = check_modules(source, names, own, g, w, k, report, false)?;
     let bytes = counted.next.at;
     let reports = counted.next.reports;
     let rounds = counted.rounds;
@@ -200,7 +210,7 @@ fn check_accepted(
             rounds,
         });
     }
-    check_modules(text, kinds, mods, count, names, own, g, w, k, report, true)?;
+    check_modules(source, names, own, g, w, k, report, true)?;
     Ok(Accepted {
         bytes,
         reports,
@@ -279,11 +289,14 @@ fn check_text(
         }),
         Read::Refused(number, line) => Err(Refusal { number, line }),
         Read::Accepted(count) => {
-            check_accepted(
+            let source = Source {
                 text,
                 kinds,
                 mods,
                 count,
+            };
+            check_accepted(
+                &source,
                 names,
                 &mut own[..sites::OWN],
                 g,

@@ -31,6 +31,16 @@ use sites::{Blocks, Cover, Found, Line, Misuse, OutputLine};
 #[derive(Clone, Copy, Debug, PartialEq, Eq)]
 pub(crate) struct Outside;
 
+// What is reported of a module, number m: the text, the names and values of its widths, and its own tables.
+#[derive(Clone, Copy)]
+struct Tables<'a> {
+    text: &'a [u8],
+    names: &'a [u32],
+    used: usize,
+    own: &'a [u32],
+    m: u32,
+}
+
 // What a module stores.
 #[derive(Clone, Copy, Debug, PartialEq, Eq)]
 enum Storage {
@@ -72,31 +82,31 @@ fn say(
 }
 
 // The misuses, in the order in which they were collected.
-fn report_misuses(own: &[u32], m: u32, buf: &mut [u8], p: Place, write: bool) -> Place
-    ensures { length own.now ≡ places
-        → Emits write buf.old p (misuse_reports m (own_of own.now).misuses) buf.new result }
+fn report_misuses(t: &Tables, buf: &mut [u8], p: Place, write: bool) -> Place
+    ensures { length t.now.own.now ≡ places
+        → Emits write buf.old p (misuse_reports t.now.m (own_of t.now.own.now).misuses) buf.new result }
 {
-    let n = sites::misuse_count(own);
+    let n = sites::misuse_count(t.own);
     let mut q = p;
     for i in 0..n {
-        let x = sites::misuse_at(own, i);
+        let x = sites::misuse_at(t.own, i);
         let kind = x.kind;
         let detail = misuse_detail(kind);
-        q = say(buf, q, write, m, x.start, x.name, detail);
+        q = say(buf, q, write, t.m, x.start, x.name, detail);
     }
     q
 }
 
 // The conflicts that stand in their table, by START and then by name.
-fn report_conflicts(own: &[u32], m: u32, buf: &mut [u8], p: Place, write: bool) -> Place
-    ensures { length own.now ≡ places
-        → Emits write buf.old p (conflict_reports m (own_of own.now).conflicts) buf.new result }
+fn report_conflicts(t: &Tables, buf: &mut [u8], p: Place, write: bool) -> Place
+    ensures { length t.now.own.now ≡ places
+        → Emits write buf.old p (conflict_reports t.now.m (own_of t.now.own.now).conflicts) buf.new result }
 {
-    let n = sites::conflict_count(own);
+    let n = sites::conflict_count(t.own);
     let mut q = p;
     for i in 0..n {
-        let x = sites::conflict_at(own, i);
-        q = say(buf, q, write, m, x.start, x.name, Detail::Many);
+        let x = sites::conflict_at(t.own, i);
+        q = say(buf, q, write, t.m, x.start, x.name, Detail::Many);
     }
     q
 }
@@ -121,71 +131,66 @@ fn width_of(t: &[u8], names: &[u32], used: usize) -> Value
 }
 
 // The value of the width at from..to of the text.
-fn width_at(text: &[u8], from: usize, to: usize, names: &[u32], used: usize) -> Value
-    ensures { (x : Width) → from ≤ to → to ≤ length text.now → take (to - from) (drop from text.now) ≡ show_width x
-        → width_depth x ≤ depth_limit → worth result ≡ width_value (names_of names.now used) x }
+fn width_at(t: &Tables, from: usize, to: usize) -> Value
+    ensures { (x : Width) → from ≤ to → to ≤ length t.now.text.now → take (to - from) (drop from t.now.text.now) ≡ show_width x
+        → width_depth x ≤ depth_limit → worth result ≡ width_value (names_of t.now.names.now t.now.used) x }
 {
     if to < from {
         return Value::Missing;
     }
-    if text.len() < to {
+    if t.text.len() < to {
         return Value::Missing;
     }
-    width_of(&text[from..to], names, used)
+    width_of(&t.text[from..to], t.names, t.used)
 }
 
 // The first gap of an output whose width v is held as v + 2147483648.
 fn report_gap(
-    own: &[u32],
+    t: &Tables,
     v: u32,
-    m: u32,
     start: u32,
     name: u32,
     buf: &mut [u8],
     p: Place,
     write: bool,
 ) -> Place
-    ensures { length own.now ≡ places → (o : Output) → o.name ≡ name → o.start ≡ start
-        → Emits write buf.old p (coverage_report m o (width_coverage (sites_of name (own_of own.now).sites) (known (signed v))))
+    ensures { length t.now.own.now ≡ places → (o : Output) → o.name ≡ name → o.start ≡ start
+        → Emits write buf.old p (coverage_report t.now.m o (width_coverage (sites_of name (own_of t.now.own.now).sites) (known (signed v))))
         buf.new result }
 {
     if v < 2147483648 {
         return p;
     }
-    match sites::first_gap(own, name, v - 2147483648) {
-        Found::At(b) => say(buf, p, write, m, start, name, Detail::Gap(b)),
+    match sites::first_gap(t.own, name, v - 2147483648) {
+        Found::At(b) => say(buf, p, write, t.m, start, name, Detail::Gap(b)),
         Found::Nothing => p,
     }
 }
 
 // What is said of an output: one that is not poisoned has a site, and where all are ranges no gap.
 fn report_output(
-    text: &[u8],
-    names: &[u32],
-    used: usize,
-    own: &[u32],
+    t: &Tables,
     x: OutputLine,
-    m: u32,
     buf: &mut [u8],
     p: Place,
     write: bool,
 ) -> Result<Place, Outside>
-    ensures { length own.now ≡ places → (o : Output) → PortIs text.now (port_of x) o
+    ensures { length t.now.own.now ≡ places → (o : Output) → PortIs t.now.text.now (port_of x) o
         → Reported result write buf.old p
-        (widths_out (names_of names.now used) (poisoned_names (own_of own.now)) (own_of own.now).sites (o ∷ []))
-        (output_reports m (names_of names.now used) (poisoned_names (own_of own.now)) (own_of own.now).sites (o ∷ []))
+        (widths_out (names_of t.now.names.now t.now.used) (poisoned_names (own_of t.now.own.now)) (own_of t.now.own.now).sites (o ∷ []))
+        (output_reports t.now.m (names_of t.now.names.now t.now.used) (poisoned_names (own_of t.now.own.now)) (own_of t.now.own.now).sites (o ∷ []))
         buf.new }
 {
     let name = x.name;
     let start = x.start;
-    if sites::poisoned(own, name) {
+    if sites::poisoned(t.own, name) {
         return Ok(p);
     }
-    match sites::cover_of(own, name) {
-        Cover::Never => Ok(say(buf, p, write, m, start, name, Detail::Never)),
+    match sites::cover_of(t.own, name) {
+        Cover::Never => Ok(say(buf, p, write, t.m, start, name, Detail::Never)),
         Cover::Open => Ok(p),
-        Cover::Ranges => match width_at(text, x.from as usize, x.to as usize, names, used) {
-            Value::Known(v) => Ok(report_gap(own, v, m, start, name, buf, p, write)),
+        Cover::Ranges => match width_at(t, x.from as usize, x.to as usize) {
+            Value::Known(v) => Ok(report_gap(t, v, start, name, buf, p, write)),
             Value::Missing => Ok(p),
             Value::Outside => Err(Outside),
         },
@@ -194,26 +199,22 @@ fn report_output(
 
 // The outputs, in the order of their first lines; the conflicts stand in their table.
 fn report_coverage(
-    text: &[u8],
-    names: &[u32],
-    used: usize,
-    own: &[u32],
-    m: u32,
+    t: &Tables,
     buf: &mut [u8],
     p: Place,
     write: bool,
 ) -> Result<Place, Outside>
-    ensures { length own.now ≡ places → (os : List Output) → Ports text.now (own_of own.now).outputs os
+    ensures { length t.now.own.now ≡ places → (os : List Output) → Ports t.now.text.now (own_of t.now.own.now).outputs os
         → Reported result write buf.old p
-        (widths_out (names_of names.now used) (poisoned_names (own_of own.now)) (own_of own.now).sites os)
-        (output_reports m (names_of names.now used) (poisoned_names (own_of own.now)) (own_of own.now).sites os)
+        (widths_out (names_of t.now.names.now t.now.used) (poisoned_names (own_of t.now.own.now)) (own_of t.now.own.now).sites os)
+        (output_reports t.now.m (names_of t.now.names.now t.now.used) (poisoned_names (own_of t.now.own.now)) (own_of t.now.own.now).sites os)
         buf.new }
 {
-    let n = sites::output_count(own);
+    let n = sites::output_count(t.own);
     let mut q = p;
     for i in 0..n {
-        let x = sites::output_at(own, i);
-        q = report_output(text, names, used, own, x, m, buf, q, write)?;
+        let x = sites::output_at(t.own, i);
+        q = report_output(t, x, buf, q, write)?;
     }
     Ok(q)
 }
@@ -238,22 +239,21 @@ fn blocks_detail(kind: Storage, b: Blocks) -> Option<Detail>
 // What is said of a register or a memory, if it is not poisoned.
 fn report_storage(
     kind: Storage,
-    own: &[u32],
-    m: u32,
+    t: &Tables,
     x: Line,
     buf: &mut [u8],
     p: Place,
     write: bool,
 ) -> Place
-    ensures { length own.now ≡ places
-        → Emits write buf.old p (storage_reports (report_by kind m) (poisoned_names (own_of own.now)) (own_of own.now).pairs
+    ensures { length t.now.own.now ≡ places
+        → Emits write buf.old p (storage_reports (report_by kind t.now.m) (poisoned_names (own_of t.now.own.now)) (own_of t.now.own.now).pairs
         (storage_of x ∷ [])) buf.new result }
 {
-    if sites::poisoned(own, x.name) {
+    if sites::poisoned(t.own, x.name) {
         return p;
     }
-    match blocks_detail(kind, sites::blocks_of(own, x.name)) {
-        Some(detail) => say(buf, p, write, m, x.start, x.name, detail),
+    match blocks_detail(kind, sites::blocks_of(t.own, x.name)) {
+        Some(detail) => say(buf, p, write, t.m, x.start, x.name, detail),
         None => p,
     }
 }
@@ -280,16 +280,16 @@ fn storage_at(kind: Storage, own: &[u32], i: usize) -> Line
 }
 
 // The registers or the memories, in the order of their first lines.
-fn report_blocks(kind: Storage, own: &[u32], m: u32, buf: &mut [u8], p: Place, write: bool) -> Place
-    ensures { length own.now ≡ places
-        → Emits write buf.old p (storage_reports (report_by kind m) (poisoned_names (own_of own.now)) (own_of own.now).pairs
-        (stored_by kind (own_of own.now))) buf.new result }
+fn report_blocks(kind: Storage, t: &Tables, buf: &mut [u8], p: Place, write: bool) -> Place
+    ensures { length t.now.own.now ≡ places
+        → Emits write buf.old p (storage_reports (report_by kind t.now.m) (poisoned_names (own_of t.now.own.now)) (own_of t.now.own.now).pairs
+        (stored_by kind (own_of t.now.own.now))) buf.new result }
 {
-    let n = storage_count(kind, own);
+    let n = storage_count(kind, t.own);
     let mut q = p;
     for i in 0..n {
-        let x = storage_at(kind, own, i);
-        q = report_storage(kind, own, m, x, buf, q, write);
+        let x = storage_at(kind, t.own, i);
+        q = report_storage(kind, t, x, buf, q, write);
     }
     q
 }
@@ -313,10 +313,17 @@ pub(crate) fn report_module(
     ensures held { (o : Own) → Held text.now own.old o → Held text.now own.new o }
 {
     sites::find_conflicts(own);
-    let a = report_misuses(own, m, buf, p, write);
-    let b = report_conflicts(own, m, buf, a, write);
-    let c = report_coverage(text, names, used, own, m, buf, b, write)?;
-    let d = report_blocks(Storage::Reg, own, m, buf, c, write);
-    let e = report_blocks(Storage::Mem, own, m, buf, d, write);
+    let t = Tables {
+        text,
+        names,
+        used,
+        own,
+        m,
+    };
+    let a = report_misuses(&t, buf, p, write);
+    let b = report_conflicts(&t, buf, a, write);
+    let c = report_coverage(&t, buf, b, write)?;
+    let d = report_blocks(Storage::Reg, &t, buf, c, write);
+    let e = report_blocks(Storage::Mem, &t, buf, d, write);
     Ok(loops::report_loops(g, w, m, buf, e, write))
 }

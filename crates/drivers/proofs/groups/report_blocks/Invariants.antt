@@ -7,4 +7,4 @@ use Rattle.drivers.proofs.GroupLaws.{storage_left}
 use Rattle.drivers.proofs.groups.report_blocks.Given as goal
 
 abbrev pub invariant-loop-i : goal.invariant-loop-i
-invariant-loop-i l = (length l.own ≡ places → Emitting l.write l.initial.buf l.initial.q (storage_left (report_by l.kind l.m) (table_by l.kind) l.own l.n l.initial.i) (storage_left (report_by l.kind l.m) (table_by l.kind) l.own l.n l.i) l.buf l.q) × (length l.buf ≡ length l.initial.buf)
+invariant-loop-i l = (length l.t.own.now ≡ places → Emitting l.write l.initial.buf l.initial.q (storage_left (report_by l.kind l.t.m) (table_by l.kind) l.t.own.now l.n l.initial.i) (storage_left (report_by l.kind l.t.m) (table_by l.kind) l.t.own.now l.n l.i) l.buf l.q) × (length l.buf ≡ length l.initial.buf)
