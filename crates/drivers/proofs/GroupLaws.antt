@@ -9,7 +9,7 @@ use Rattle.spec.specs.Bytes.{Bytes}
 use Rattle.spec.specs.Refusal.{has_name}
 use Rattle.spec.specs.Block.{Pair, Storage, block_count}
 use Rattle.spec.specs.Report.{Report, report, misused, many}
-use Rattle.spec.specs.Check.{misuse_reports, conflict_reports, reg_report, mem_report, storage_reports}
+use Rattle.spec.specs.Check.{misuse_reports, conflict_reports, storage_reports}
 use Rattle.report.specs.declared.Detail.{Detail}
 use Rattle.report.specs.Line.{detail_of}
 use Rattle.sites.specs.declared.Blocks.{Blocks}
@@ -20,7 +20,7 @@ use Rattle.drivers.specs.declared.groups.Storage.TheVariants as stored
 use Rattle.drivers.specs.Groups.{report_by, table_by, stored_by, said_by}
 use Rattle.sites.specs.declared.Line.{Line}
 use Rattle.sites.specs.declared.MisusedLine.{MisusedLine}
-use Rattle.sites.specs.Own.{Table, places, names, run, row as row_at, rows_in, own_of, misuse_table, conflict_table, reg_table, mem_table, misused_of, misused_from, misuse_of, storage_of, storage_from, conflict_row, blocks_by, poisoned_names}
+use Rattle.sites.specs.Own.{Table, places, names, run, row as row_at, rows_in, own_of, misuse_table, conflict_table, misused_of, misused_from, misuse_of, storage_of, storage_from, conflict_row, blocks_by, poisoned_names}
 use Rattle.sites.proofs.Rows.{run_step, run_end, run_all}
 use Rattle.sites.proofs.Reports.{misuse_row, misuse_next, conflict_next, reg_said, mem_said, reg_by_blocks, mem_by_blocks, storage_poisoned, storage_next}
 use Rattle.drivers.specs.declared.emit.Place.{Place}

@@ -74,7 +74,7 @@ impl From<Stop> for Refusal {
 }
 
 // 01's answer: 0 or the number of a refusal, its line, the bytes written, the reports, the rounds.
-#[derive(Clone, Copy)]
+#[derive(Clone, Copy, Debug, PartialEq, Eq)]
 pub struct Answer {
     pub number: u32,
     pub line: u32,
@@ -114,7 +114,18 @@ fn check_module_drivers(
     ) {
         Collected::Full => Err(Stop),
         Collected::Left(used, left) => {
-            let next = groups::report_module(source.text, names, used, own, g, w, m, buf, p, write)?;
+            let next = groups::report_module(
+                source.text,
+                names,
+                used,
+                own,
+                g,
+                w,
+                m,
+                buf,
+                p,
+                write,
+            )?;
             Ok(Checked {
                 next,
                 rounds: 4096 - left,
@@ -147,9 +158,7 @@ fn check_modules(
     let mut q = Place { at: 0, reports: 0 };
     let mut rounds: u32 = 0;
     for m in 0..source.count {
-        let one = check_module_drivers(
-            source, m, names, own, g, w, k, buf, q, write,
-        )?;
+        let one = check_module_drivers(source, m, names, own, g, w, k, buf, q, write)?;
         q = one.next;
         rounds += one.rounds;
     }
@@ -295,15 +304,7 @@ fn check_text(
                 mods,
                 count,
             };
-            check_accepted(
-                &source,
-                names,
-                &mut own[..sites::OWN],
-                g,
-                w,
-                k,
-                report,
-            )
+            check_accepted(&source, names, &mut own[..sites::OWN], g, w, k, report)
         }
     }
 }

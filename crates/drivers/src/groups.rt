@@ -198,12 +198,7 @@ fn report_output(
 }
 
 // The outputs, in the order of their first lines; the conflicts stand in their table.
-fn report_coverage(
-    t: &Tables,
-    buf: &mut [u8],
-    p: Place,
-    write: bool,
-) -> Result<Place, Outside>
+fn report_coverage(t: &Tables, buf: &mut [u8], p: Place, write: bool) -> Result<Place, Outside>
     ensures { length t.now.own.now ≡ places → (os : List Output) → Ports t.now.text.now (own_of t.now.own.now).outputs os
         → Reported result write buf.old p
         (widths_out (names_of t.now.names.now t.now.used) (poisoned_names (own_of t.now.own.now)) (own_of t.now.own.now).sites os)
