@@ -30,10 +30,13 @@ use Rattle.collect.specs.Cycle.{Tabled}
 use Rattle.drivers.specs.Emits.{Within, Appended}
 use Rattle.graph.specs.Stands.{graph_places}
 use Rattle.graph.specs.Cycles.{work_places}
-use Rattle.drivers.specs.Check.{Enough, Tallied, first_place, answer_of, accepted, lent_places, slices, exit_of}
+use Rattle.drivers.specs.Check.{Enough, Tallied, first_place, answer_of, answer_for, accepted, lent_places, slices, exit_of}
 use Rattle.drivers.specs.declared.emit.Place.{Place}
 use Rattle.drivers.specs.declared.check.Checked.{Checked}
-use Rattle.drivers.specs.declared.check.Checked.TheVariants as checks
+use Rattle.drivers.specs.declared.check.Stop.{Stop}
+use Rattle.drivers.specs.declared.check.Accepted.{Accepted}
+use Rattle.drivers.specs.declared.check.Refusal.{Refusal}
+use Rattle.std.specs.Prelude.{Result, Ok, Err, IsErrAnd}
 use Rattle.drivers.specs.declared.check.Answer.{Answer}
 
 -- ---- of what the check of all modules gives
@@ -60,19 +63,25 @@ within_first : (old : Bytes) → Within old first_place
 within_first old = record { end = omega arith; reports = omega arith }
 
 -- the first run, which only counts, with no summary kept
-module _ (d : Design) (buf buf' : Bytes) (k : List ℕ) (r : Checked) (R : Tallied r false buf first_place buf' k (check_all d [] 0 d)) where
+module _ (d : Design) (buf buf' : Bytes) (k : List ℕ) (r : Result Checked Stop) (R : Tallied r false buf first_place buf' k (check_all d [] 0 d)) where
   first : Tallied r false buf first_place buf' k (check_fused d)
   unfolding check_fused
   first = R
 
-  pub answer_full : r ≡ checks.Full → {x : check.Answer} → x ≡ refuse 20 0 buf' → x ≡ answer_checked (check_design d) buf
+  pub answer_full : {s : Stop} → r ≡ Err s → {x : check.Answer} → x ≡ refuse 20 0 buf' → x ≡ answer_checked (check_design d) buf
   answer_full e f =
-      let t = subst (λ (c : Checked). Tallied c false buf first_place buf' k (check_fused d)) e first in
+      let t = subst (λ (c : Result Checked Stop). Tallied c false buf first_place buf' k (check_fused d)) e first in
       f ∙ ap (refuse 20 0) (t.1 (within_first buf) refl) ∙ sym (of_full (check_design d) buf ((fused.full_exactly d).0 t.0))
 
-  module _ {q : Place} {rounds : ℕ} (e : r ≡ checks.Done q rounds) where
-    done : Tallied (checks.Done q rounds) false buf first_place buf' k (check_fused d)
-    done = subst (λ (c : Checked). Tallied c false buf first_place buf' k (check_fused d)) e first
+  module _ {one : Checked} (e : r ≡ Ok one) where
+    abbrev q : Place
+    q = one.next
+
+    abbrev rounds : ℕ
+    rounds = one.rounds
+
+    done : Tallied (Ok one) false buf first_place buf' k (check_fused d)
+    done = subst (λ (c : Result Checked Stop). Tallied c false buf first_place buf' k (check_fused d)) e first
 
     abbrev c : check.Checked
     c = check_design d
@@ -121,13 +130,14 @@ module _ (d : Design) (buf buf' : Bytes) (k : List ℕ) (r : Checked) (R : Talli
           e' ∙ y ∙ sym (of_fitting c buf known.0 room)
 
       -- the second run, which writes, from the words that the first left
-      module _ (buf'' : Bytes) (k' : List ℕ) (r' : Checked) (R' : (kept : Kept) → Keeps k kept [] → Tallied r' true buf' first_place buf'' k' (check_all d kept 0 d)) where
+      module _ (buf'' : Bytes) (k' : List ℕ) (r' : Result Checked Stop) (R' : (kept : Kept) → Keeps k kept [] → Tallied r' true buf' first_place buf'' k' (check_all d kept 0 d)) where
         second : Tallied r' true buf' first_place buf'' k' (check_fused d)
         second = subst (λ (x : Got Tally). Tallied r' true buf' first_place buf'' k' x) (fused.again d done.0 done.1 ∙ sym done.1) (R' done.0.kept done.4)
 
-        rewritten : {q' : Place} {rounds' : ℕ} → r' ≡ checks.Done q' rounds' → accepted q.at q.reports rounds buf'' ≡ answer_checked c buf
-        rewritten {q'} {rounds'} e' =
-            let t = subst (λ (x : Checked). Tallied x true buf' first_place buf'' k' (check_fused d)) e' second in
+        rewritten : {again : Checked} → r' ≡ Ok again → accepted q.at q.reports rounds buf'' ≡ answer_checked c buf
+        rewritten {again} e' =
+            let q' = again.next in
+            let t = subst (λ (x : Result Checked Stop). Tallied x true buf' first_place buf'' k' (check_fused d)) e' second in
             let u : t.0 ≡ tally_of c = (unless_going c.full (tally_of c) t.0 (sym (fused.whole d) ∙ t.1)).1 in
             let w = subst (λ (l : List Report). Appended true buf' first_place (show_reports l) (length l) buf'' q') (ap (λ (y : Tally). y.reports) u) (t.2 (within_first buf')) in
             let l = ap length same in
@@ -145,14 +155,25 @@ module _ (d : Design) (buf buf' : Bytes) (k : List ℕ) (r : Checked) (R : Talli
               buffer = f j;
             }) ∙ sym (of_fitting c buf known.0 room)
 
-        by_run : (x : Checked) → r' ≡ x → accepted q.at q.reports rounds buf'' ≡ answer_checked c buf
-        by_run checks.Full e' =
-            let t = subst (λ (x : Checked). Tallied x true buf' first_place buf'' k' (check_fused d)) e' second in
+        by_run : (x : Result Checked Stop) → r' ≡ x → accepted q.at q.reports rounds buf'' ≡ answer_checked c buf
+        by_run (Err x) e' =
+            let t = subst (λ (x : Result Checked Stop). Tallied x true buf' first_place buf'' k' (check_fused d)) e' second in
             absurd (true≢false (sym ((fused.full_exactly d).0 t.0) ∙ known.0))
-        by_run (checks.Done q' rounds') e' = rewritten e'
+        by_run (Ok again) e' = rewritten e'
 
         pub answer_written : {x : check.Answer} → x ≡ accepted q.at q.reports rounds buf'' → x ≡ answer_checked c buf
         answer_written e' = e' ∙ by_run r' refl
+
+        -- the second run passes no limit, because the first passed none
+        pub not_again : {x : Stop} → r' ≡ Err x → ⊥
+        not_again e' =
+            let t = subst (λ (x : Result Checked Stop). Tallied x true buf' first_place buf'' k' (check_fused d)) e' second in
+            true≢false (sym ((fused.full_exactly d).0 t.0) ∙ known.0)
+
+-- the refusal where a limit is passed or a constant is outside INT
+pub stopped : (r : Result Accepted Refusal) → IsErrAnd r (λ e. e ≡ record { number = 20; line = 0 }) → (buf : Bytes) → answer_for r buf ≡ refuse 20 0 buf
+stopped (Ok a) h buf = absurd h
+stopped (Err e) h buf = ap (λ (x : Refusal). refuse x.number x.line buf) h
 
 -- ---- of the slices' lengths and the text
 

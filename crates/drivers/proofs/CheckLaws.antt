@@ -22,9 +22,11 @@ use Rattle.collect.specs.declared.Collected.TheVariants as collected
 use Rattle.drivers.specs.Groups.{Reported}
 use Rattle.drivers.specs.Check.{Checking, Tallied}
 use Rattle.drivers.specs.declared.emit.Place.{Place}
-use Rattle.drivers.specs.declared.groups.Covered.{Covered}
-use Rattle.drivers.specs.declared.groups.Covered.TheVariants as covered
-use Rattle.drivers.specs.declared.check.Checked.TheVariants as checks
+use Rattle.drivers.specs.declared.groups.Outside.{Outside}
+use Rattle.drivers.specs.declared.check.Stop.{Stop}
+use Rattle.drivers.specs.declared.check.Checked.{Checked}
+use Rattle.std.specs.Prelude.{Result, Ok, Err, IsErr}
+use Rattle.drivers.proofs.Handed.{handed_on}
 
 -- the rounds left
 pub few_left : (a : Collected) {used left : ℕ} → left_of a ≤ 4096 → a ≡ collected.Left used left → left ≤ 4096
@@ -53,13 +55,13 @@ module _ {text kinds mods : List ℕ} {count m : ℕ} {names own g w k : List �
   -- what the collection leaves
   module _ (names' own' g' k' : List ℕ) (a : Collected) (collects : (j : Module) (kept' : Kept) → ModuleGiven text kinds mods count m names own g k j kept'
       → Collects a text names' own' g' k' j (own_walk (decode text) j kept')) where
-    pub one_full : a ≡ collected.Full → (write : Bool) (buf : Bytes) (p : Place) → Tallied checks.Full write buf p buf k' (check_one (decode text) kept m x)
+    pub one_full : a ≡ collected.Full → (write : Bool) (buf : Bytes) (p : Place) {e : Stop} → Tallied (Err e) write buf p buf k' (check_one (decode text) kept m x)
     one_full q write buf p =
         let o : own_walk (decode text) x kept ≡ full =
         subst (λ (b : Collected). Collects b text names' own' g' k' x (own_walk (decode text) x kept)) q (collects x kept given) in
         (one_is ∙ ap after o, λ _ _. refl)
 
-    module _ {used left : ℕ} (q : a ≡ collected.Left used left) (b : Covered) (write : Bool) (buf : Bytes) (p : Place) (buf' : Bytes)
+    module _ {used left : ℕ} (q : a ≡ collected.Left used left) (b : Result Place Outside) (write : Bool) (buf : Bytes) (p : Place) (buf' : Bytes)
         (reported : (o : Own) (hs : List Head) → Held text own' o → Stands g' hs → Roomy w
         → Reported b write buf p (widths_out (names_of names' used) (poison o) o.sites o.outputs) (own_reports m (names_of names' used) o hs) buf') where
       ends : Collects (collected.Left used left) text names' own' g' k' x (own_walk (decode text) x kept)
@@ -76,12 +78,12 @@ module _ {text kinds mods : List ℕ} {count m : ℕ} {names own g w k : List �
           subst (λ (n : Names). Reported b write buf p (widths_out n (poison st.own) st.own.sites st.own.outputs) (own_reports m n st.own st.heads) buf')
           ends.3 (reported st.own st.heads ends.2.owned.0 ends.2.stands C.enough.roomy)
 
-      pub one_wide : b ≡ covered.Outside → Tallied checks.Full write buf p buf' k' (check_one (decode text) kept m x)
+      pub one_wide : {e : Outside} → b ≡ Err e → (r : Result Checked Stop) → IsErr r → Tallied r write buf p buf' k' (check_one (decode text) kept m x)
       one_wide z =
-          let t = subst (λ (y : Covered). Reported y write buf p (wide st) (tally left st).reports buf') z told in
-          (one_going ∙ ap (λ (y : Bool). unless y (tally left st)) t.0, t.1)
+          let t = subst (λ (y : Result Place Outside). Reported y write buf p (wide st) (tally left st).reports buf') z told in
+          handed_on (λ r. Tallied r write buf p buf' k' (check_one (decode text) kept m x)) (λ _. (one_going ∙ ap (λ (y : Bool). unless y (tally left st)) t.0, t.1))
 
-      pub one_done : {next : Place} → b ≡ covered.Done next → Tallied (checks.Done next (4096 - left)) write buf p buf' k' (check_one (decode text) kept m x)
+      pub one_done : {next : Place} → b ≡ Ok next → Tallied (Ok (record { next = next; rounds = 4096 - left })) write buf p buf' k' (check_one (decode text) kept m x)
       one_done {next} z =
-          let t = subst (λ (y : Covered). Reported y write buf p (wide st) (tally left st).reports buf') z told in
+          let t = subst (λ (y : Result Place Outside). Reported y write buf p (wide st) (tally left st).reports buf') z told in
           (tally left st, one_going ∙ ap (λ (y : Bool). unless y (tally left st)) t.0, t.1, refl, ends.2.keeps)

@@ -33,12 +33,13 @@ use Rattle.sites.proofs.Reports.{output_poisoned, output_never, output_open, ran
 use Rattle.items.specs.Held.{PortIs, Ports}
 use Rattle.items.proofs.Places.{part_follows}
 use Rattle.drivers.specs.declared.emit.Place.{Place}
-use Rattle.drivers.specs.declared.groups.Covered.{Covered}
-use Rattle.drivers.specs.declared.groups.Covered.TheVariants as covered
+use Rattle.drivers.specs.declared.groups.Outside.{Outside}
 use Rattle.drivers.specs.Emits.{Emits}
 use Rattle.drivers.specs.Groups.{Reported}
 use Rattle.drivers.proofs.EmitLaws.{emitting_start, emitting_then, emitting_end, appended_within, Emitting}
 use Rattle.drivers.proofs.GroupLaws.{emits_same, emits_nothing}
+use Rattle.std.specs.Prelude.{Result, Ok, Err, IsErr}
+use Rattle.drivers.proofs.Handed.{handed_on}
 
 -- ---- a width from its bytes
 
@@ -127,7 +128,7 @@ module _ (own : List ℕ) (ns : Names) (m : ℕ) (o : Output) where
     poison_here : {c : Bool} → b ≡ c → has_name o.name (poisoned_names (own_of own)) ≡ c
     poison_here f = ap (λ (k : ℕ). has_name k (poisoned_names (own_of own))) (sym en) ∙ sym g ∙ f
 
-    pub output_kept : b ≡ true → {write : Bool} {old : Bytes} {p : Place} → Reported (covered.Done p) write old p width_out output_said old
+    pub output_kept : b ≡ true → {write : Bool} {old : Bytes} {p : Place} → Reported (Ok p) write old p width_out output_said old
     unfolding output_reports widths_out
     output_kept f =
         (width_poisoned ns (poisoned_names (own_of own)) (own_of own).sites o [] (poison_here f), emits_nothing (output_poisoned m ns (poisoned_names (own_of own)) (own_of own).sites o [] (poison_here f)))
@@ -137,7 +138,7 @@ module _ (own : List ℕ) (ns : Names) (m : ℕ) (o : Output) where
       cover_here e = ap (λ (j : ℕ). cover_by (sites_of j (own_of own).sites)) (sym en) ∙ sym k ∙ e
 
       pub output_undriven : x ≡ cover.Never → {write : Bool} {old new : Bytes} {p q : Place} → Emits write old p (report m s n never ∷ []) new q
-          → Reported (covered.Done q) write old p width_out output_said new
+          → Reported (Ok q) write old p width_out output_said new
       unfolding output_reports widths_out
       output_undriven e {write} {old} {new} {p} {q} a = (
         width_never ns (poisoned_names (own_of own)) (own_of own).sites o [] (poison_here f) (cover_here e),
@@ -145,7 +146,7 @@ module _ (own : List ℕ) (ns : Names) (m : ℕ) (o : Output) where
             ∙ sym (ap (λ (z : ℕ). report m z n never ∷ []) es ∙ ap (λ (z : ℕ). report m o.start z never ∷ []) en)) a,
       )
 
-      pub output_free : x ≡ cover.Open → {write : Bool} {old : Bytes} {p : Place} → Reported (covered.Done p) write old p width_out output_said old
+      pub output_free : x ≡ cover.Open → {write : Bool} {old : Bytes} {p : Place} → Reported (Ok p) write old p width_out output_said old
       unfolding output_reports widths_out
       output_free e = (
         width_open ns (poisoned_names (own_of own)) (own_of own).sites o [] (poison_here f) (cover_here e),
@@ -165,15 +166,15 @@ module _ (own : List ℕ) (ns : Names) (m : ℕ) (o : Output) where
             (append-nil (coverage_report m o (coverage ns sites_here o.width))
             ∙ ap (coverage_report m o) (ranges_coverage ns o.width sites_here (cover_here e) ∙ ap (width_coverage sites_here) (sym ev ∙ h)))
 
-        pub output_unknown : v ≡ missing → {write : Bool} {old : Bytes} {p : Place} → Reported (covered.Done p) write old p width_out output_said old
+        pub output_unknown : v ≡ missing → {write : Bool} {old : Bytes} {p : Place} → Reported (Ok p) write old p width_out output_said old
         output_unknown h = (out_by h, emits_nothing (said_by h))
 
-        pub output_outside : v ≡ outside → {write : Bool} {old : Bytes} {p : Place} → Reported covered.Outside write old p width_out output_said old
+        pub output_outside : v ≡ outside → {e : Outside} {write : Bool} {old : Bytes} {p : Place} → Reported (Err e) write old p width_out output_said old
         output_outside h = (out_by h, λ _ _. refl)
 
         pub output_known : (y : ℕ) → v ≡ known (signed y) → {write : Bool} {old new : Bytes} {p q : Place}
             → Emits write old p (coverage_report m o (width_coverage (sites_of n (own_of own).sites) (known (signed y)))) new q
-            → Reported (covered.Done q) write old p width_out output_said new
+            → Reported (Ok q) write old p width_out output_said new
         output_known y h a = (
           out_by h,
           emits_same (said_by h ∙ ap (λ (j : ℕ). coverage_report m o (width_coverage (sites_of j (own_of own).sites) (known (signed y)))) (sym en)) a,
@@ -249,7 +250,7 @@ module _ (text : Bytes) (own : List ℕ) (ns : Names) (m n : ℕ) where
     next_row h C = next_of text own n i C.rest (subst (λ (l : List Port). Ports text l C.rest) (run_step (port_row own) i n h) C.ports)
 
     -- what is said of the output of row i
-    module _ {mid : Bytes} {q : Place} (r : Covered) (new : Bytes) (x : OutputLine) (h : i < n) (k : n ≤ names)
+    module _ {mid : Bytes} {q : Place} (r : Result Place Outside) (new : Bytes) (x : OutputLine) (h : i < n) (k : n ≤ names)
         (ex : length own ≡ places → i < names → port_of x ≡ port_from (row port_table own i))
         (a : length own ≡ places → (o : Output) → PortIs text (port_of x) o → Reported r write mid q (width_out own ns m o) (output_said own ns m o) new)
         (l : length own ≡ places) (C : Covering os i write old p mid q) where
@@ -265,10 +266,10 @@ module _ (text : Bytes) (own : List ℕ) (ns : Names) (m n : ℕ) where
       left_out : some_out os ≡ (width_out own ns m next.first || some_out next.later)
       left_out = C.widths ∙ ap some_out next.split ∙ width_cons ns (poisoned_names (own_of own)) (own_of own).sites next.first next.later
 
-      pub cover_then : (q' : Place) → r ≡ covered.Done q' → Covering os (i + 1) write old p new q'
+      pub cover_then : (q' : Place) → r ≡ Ok q' → Covering os (i + 1) write old p new q'
       cover_then q' e =
-          let b : Reported (covered.Done q') write mid q (width_out own ns m next.first) (output_said own ns m next.first) new
-          = subst (λ (z : Covered). Reported z write mid q (width_out own ns m next.first) (output_said own ns m next.first) new) e row_said in
+          let b : Reported (Ok q') write mid q (width_out own ns m next.first) (output_said own ns m next.first) new
+          = subst (λ (z : Result Place Outside). Reported z write mid q (width_out own ns m next.first) (output_said own ns m next.first) new) e row_said in
           record {
             rest = next.later;
             ports = next.others;
@@ -277,17 +278,18 @@ module _ (text : Bytes) (own : List ℕ) (ns : Names) (m n : ℕ) where
             widths = left_out ∙ ap (λ (z : Bool). z || some_out next.later) b.0;
           }
 
-      pub cover_outside : r ≡ covered.Outside → Reported covered.Outside write old p (some_out os) (outputs_said os) new
-      cover_outside e =
-          let b : Reported covered.Outside write mid q (width_out own ns m next.first) (output_said own ns m next.first) new
-          = subst (λ (z : Covered). Reported z write mid q (width_out own ns m next.first) (output_said own ns m next.first) new) e row_said in
-          (left_out ∙ ap (λ (z : Bool). z || some_out next.later) b.0, λ w f. let d = C.emitting.emitted w in b.1 (appended_within d) f ∙ d.kept f)
+      pub cover_outside : {x : Outside} → r ≡ Err x → (r' : Result Place Outside) → IsErr r' → Reported r' write old p (some_out os) (outputs_said os) new
+      cover_outside {x} e =
+          let b : Reported (Err x) write mid q (width_out own ns m next.first) (output_said own ns m next.first) new
+          = subst (λ (z : Result Place Outside). Reported z write mid q (width_out own ns m next.first) (output_said own ns m next.first) new) e row_said in
+          handed_on (λ z. Reported z write old p (some_out os) (outputs_said os) new)
+          (λ _. (left_out ∙ ap (λ (z : Bool). z || some_out next.later) b.0, λ w f. let d = C.emitting.emitted w in b.1 (appended_within d) f ∙ d.kept f))
 
-    pub cover_end : {new : Bytes} {q : Place} → n ≤ i → Covering os i write old p new q → Reported (covered.Done q) write old p (some_out os) (outputs_said os) new
+    pub cover_end : {new : Bytes} {q : Place} → n ≤ i → Covering os i write old p new q → Reported (Ok q) write old p (some_out os) (outputs_said os) new
     unfolding output_reports widths_out
     cover_end {new} {q} h C = go C.rest C.emitting C.widths (subst (λ (l : List Port). Ports text l C.rest) (run_end (port_row own) i n h) C.ports)
       where
         go : (rest : List Output) → Emitting write old p (outputs_said os) (outputs_said rest) new q → some_out os ≡ some_out rest → Ports text [] rest
-            → Reported (covered.Done q) write old p (some_out os) (outputs_said os) new
+            → Reported (Ok q) write old p (some_out os) (outputs_said os) new
         go [] e w t = (w, emitting_end e)
         go (o ∷ rest) e w t = absurd t

@@ -2,19 +2,21 @@
 use mathlib.Core.Path.{◌≡◌, refl, sym, ap, ◌∙◌, subst}
 use mathlib.Core.Bool.{Bool, true, false, true≢false}
 use mathlib.Core.List.{List, [], ◌∷◌, ◌++◌, append_assoc, append-nil}
-use Prim.Native.Nat.{ℕ, ◌+◌, ◌≤◌, ◌<◌, min}
+use Prim.Native.Nat.{ℕ, ◌+◌, ◌≤◌, min}
 use native.Mathlib.Omega.{arith}
 use lib.ListN.{length, take, drop, length-append, take-append-drop}
 use lib.Seq.{sets, sets-eq}
 use borrow.Author.Tests.{le-leb}
 use Rattle.spec.specs.Bytes.{Bytes}
 use Rattle.spec.specs.Report.{Report, show_reports, show_report}
-use Rattle.report.specs.Line.{line, report_of, Written, put_by, placed}
+use Rattle.report.specs.Line.{line, report_of, put_by, placed}
 use Rattle.report.specs.declared.Report as report
 use Rattle.std.specs.Prelude.{Some}
 use Rattle.report.proofs.Laws.{sets_append, line_length}
 use Rattle.drivers.specs.declared.emit.Place.{Place}
-use Rattle.drivers.specs.Emits.{Within, Appended, Appends, Emits}
+use Rattle.drivers.specs.declared.emit.Piece.{Piece}
+use Rattle.drivers.specs.declared.emit.Piece.TheVariants as pieces
+use Rattle.drivers.specs.Emits.{bytes_of, lines_in, Within, Appended, Appends, Emits}
 
 -- 01, The report; Refused because of the state: of the reports `all`, which begin at the place p, those before `rest` are appended
 pub record Emitting (write : Bool) (old : Bytes) (p : Place) (all rest : List Report) (new : Bytes) (q : Place) : Type 0 where
@@ -26,53 +28,41 @@ placed_fits : (l s : Bytes) (at : ℕ) → at + length s ≤ length l → placed
 unfolding placed
 placed_fits l s at h = rw (le-leb (at + length s) (length l) h, placed)
 
+-- a piece has at least as many bytes as reports count with it
+some_bytes : (x : Piece) → lines_in x ≤ length (bytes_of x)
+some_bytes (pieces.Line x) = omega (arith, line_length x)
+some_bytes (pieces.WalkHead m start) = omega arith
+some_bytes (pieces.WalkNode n) = omega arith
+some_bytes pieces.WalkTail = omega arith
+
 -- one piece
-module _ {write : Bool} {old : Bytes} {p : Place} {s : Bytes} {k n : ℕ} {q : Place} (e : n ≡ length s) (at : q.at ≡ min (p.at + n) (length old + 1))
-    (count : Within old p → q.at ≤ length old → q.reports ≡ p.reports + k) (few : Within old p → q.reports ≤ q.at) where
-  pub counted : write ≡ false → Appends write old p s k old q
+module _ {write : Bool} {old : Bytes} {p : Place} (x : Piece) {n k : ℕ} {q : Place} (e : n ≡ length (bytes_of x)) (f : k ≡ lines_in x) (at : q.at ≡ min (p.at + n) (length old + 1))
+    (count : p.reports + k ≤ q.at → q.reports ≡ p.reports + k) (few : p.reports ≤ q.at → q.reports ≤ q.at) where
+  pub counted : write ≡ false → Appends write old p (bytes_of x) (lines_in x) old q
   counted w i =
       record {
         at = omega arith;
-        count = count i;
-        few = few i;
+        count = λ h. count (omega (arith, i.end, i.reports, some_bytes x)) ∙ ap (λ (j : ℕ). p.reports + j) f;
+        few = few (omega (arith, i.end, i.reports));
         size = refl;
         kept = λ _. refl;
         written = λ t. absurd (true≢false (sym t ∙ w));
       }
 
-  pub wrote : {a b : ℕ} {new : Bytes} → write ≡ true → length new ≡ length old → ◌≡◌ {A = Written} (record { number = a; end = b; buffer = new }) (placed old p.at s) → Appends write old p s k new q
-  wrote {a} {b} {new} w size f i =
+  pub wrote : {new : Bytes} → write ≡ true → length new ≡ length old → new ≡ (placed old p.at (bytes_of x)).buffer → Appends write old p (bytes_of x) (lines_in x) new q
+  wrote {new} w size g i =
       record {
         at = omega arith;
-        count = count i;
-        few = few i;
+        count = λ h. count (omega (arith, i.end, i.reports, some_bytes x)) ∙ ap (λ (j : ℕ). p.reports + j) f;
+        few = few (omega (arith, i.end, i.reports));
         size = size;
         kept = λ t. absurd (true≢false (sym w ∙ t));
         written = λ _ h.
-            let g : q.at ≡ p.at + length s = omega arith in
-            ap (λ x. x.buffer) (f ∙ placed_fits old s p.at (omega arith)) ∙ ap (λ (x : ℕ). take p.at old ++ s ++ drop x old) (sym g);
+            let y : q.at ≡ p.at + length (bytes_of x) = omega arith in
+            g ∙ ap (λ z. z.buffer) (placed_fits old (bytes_of x) p.at (omega arith)) ∙ ap (λ (z : ℕ). take p.at old ++ bytes_of x ++ drop z old) (sym y);
       }
 
--- a piece that is no whole line, and one with which a report counts
-module _ {write : Bool} {old : Bytes} {p : Place} {s : Bytes} {n : ℕ} {q : Place} (e : n ≡ length s) (at : q.at ≡ min (p.at + n) (length old + 1)) where
-  module _ (same : q.reports ≡ p.reports) where
-    pub piece_counted : write ≡ false → Appends write old p s 0 old q
-    piece_counted = counted e at (λ i h. omega arith) (λ i. omega (arith, i.end, i.reports))
-
-    pub piece_wrote : {a b : ℕ} {new : Bytes} → write ≡ true → length new ≡ length old → ◌≡◌ {A = Written} (record { number = a; end = b; buffer = new }) (placed old p.at s) → Appends write old p s 0 new q
-    piece_wrote = wrote e at (λ i h. omega arith) (λ i. omega (arith, i.end, i.reports))
-
-  module _ (some : 0 < length s) (one : p.reports < q.at → q.reports ≡ p.reports + 1) (few : p.reports ≤ q.at → q.reports ≤ q.at) where
-    pub line_counted : write ≡ false → Appends write old p s 1 old q
-    line_counted = counted e at (λ i h. one (omega (arith, i.end, i.reports))) (λ i. few (omega (arith, i.end, i.reports)))
-
-    pub line_wrote : {a b : ℕ} {new : Bytes} → write ≡ true → length new ≡ length old → ◌≡◌ {A = Written} (record { number = a; end = b; buffer = new }) (placed old p.at s) → Appends write old p s 1 new q
-    line_wrote = wrote e at (λ i h. one (omega (arith, i.end, i.reports))) (λ i. few (omega (arith, i.end, i.reports)))
-
 -- a report's line is that of the one report
-pub line_some : (x : report.Report) → 0 < length (line x)
-line_some x = omega (arith, line_length x)
-
 pub emits_line : (x : report.Report) {write : Bool} {old new : Bytes} {p q : Place} → Appends write old p (line x) 1 new q → Emits write old p (report_of x ∷ []) new q
 unfolding show_reports line
 emits_line x a = a

@@ -9,15 +9,20 @@ use Rattle.spec.specs.Bytes.{Bytes}
 use Rattle.spec.specs.Refusal.{has_name}
 use Rattle.spec.specs.Block.{Pair, Storage, block_count}
 use Rattle.spec.specs.Report.{Report, report, misused, many}
-use Rattle.spec.specs.Check.{misuse_reports, conflict_reports, reg_report, mem_report, storage_reports}
+use Rattle.spec.specs.Check.{misuse_reports, conflict_reports, storage_reports}
 use Rattle.report.specs.declared.Detail.{Detail}
 use Rattle.report.specs.Line.{detail_of}
 use Rattle.sites.specs.declared.Blocks.{Blocks}
+use Rattle.sites.specs.declared.Blocks.TheVariants as blocks
+use Rattle.std.specs.Prelude.{Option, Some, None}
+use Rattle.drivers.specs.declared.groups.Storage.{Storage as Stored}
+use Rattle.drivers.specs.declared.groups.Storage.TheVariants as stored
+use Rattle.drivers.specs.Groups.{report_by, table_by, stored_by, said_by}
 use Rattle.sites.specs.declared.Line.{Line}
 use Rattle.sites.specs.declared.MisusedLine.{MisusedLine}
-use Rattle.sites.specs.Own.{Table, places, names, run, row as row_at, rows_in, own_of, misuse_table, conflict_table, reg_table, mem_table, misused_of, misused_from, misuse_of, storage_of, storage_from, conflict_row, blocks_by, poisoned_names}
+use Rattle.sites.specs.Own.{Table, places, names, run, row as row_at, rows_in, own_of, misuse_table, conflict_table, misused_of, misused_from, misuse_of, storage_of, storage_from, conflict_row, blocks_by, poisoned_names}
 use Rattle.sites.proofs.Rows.{run_step, run_end, run_all}
-use Rattle.sites.proofs.Reports.{misuse_row, misuse_next, conflict_next, reg_said, mem_said, reg_next, mem_next, storage_poisoned}
+use Rattle.sites.proofs.Reports.{misuse_row, misuse_next, conflict_next, reg_said, mem_said, reg_by_blocks, mem_by_blocks, storage_poisoned, storage_next}
 use Rattle.drivers.specs.declared.emit.Place.{Place}
 use Rattle.drivers.specs.Emits.{Emits}
 use Rattle.drivers.proofs.EmitLaws.{emit_none, emitting_then, emitting_end, Emitting}
@@ -129,18 +134,16 @@ module _ (f : Storage → ℕ → List Report) (t : Table) (own : List ℕ) (n :
       emits_same (ap (λ (k : ℕ). storage_said f own (run (storage_row t own) 0 k)) (sym (e l)) ∙ ap (storage_said f own) (sym (run_all (storage_row t own) n)))
       (rows_end (storage_left f t own n) (ap (storage_said f own) (run_end (storage_row t own) i n h)) (a l))
 
-module _ (own : List ℕ) (m n : ℕ) {write : Bool} {old : Bytes} {p : Place} {i : ℕ} {new : Bytes} {q : Place} (h : n ≤ i) where
-  pub regs_end : (length own ≡ places → n ≡ rows_in reg_table own)
-      → (length own ≡ places → Emitting write old p (storage_left (reg_report m) reg_table own n 0) (storage_left (reg_report m) reg_table own n i) new q)
-      → length own ≡ places → Emits write old p (storage_said (reg_report m) own (own_of own).regs) new q
-  unfolding own_of
-  regs_end e a l = storage_end (reg_report m) reg_table own n h e a l
+stored_run : (kind : Stored) (own : List ℕ) → run (storage_row (table_by kind) own) 0 (rows_in (table_by kind) own) ≡ stored_by kind (own_of own)
+unfolding own_of
+stored_run stored.Reg own = refl
+stored_run stored.Mem own = refl
 
-  pub mems_end : (length own ≡ places → n ≡ rows_in mem_table own)
-      → (length own ≡ places → Emitting write old p (storage_left (mem_report m) mem_table own n 0) (storage_left (mem_report m) mem_table own n i) new q)
-      → length own ≡ places → Emits write old p (storage_said (mem_report m) own (own_of own).mems) new q
-  unfolding own_of
-  mems_end e a l = storage_end (mem_report m) mem_table own n h e a l
+module _ (kind : Stored) (own : List ℕ) (m n : ℕ) {write : Bool} {old : Bytes} {p : Place} {i : ℕ} {new : Bytes} {q : Place} (h : n ≤ i) where
+  pub stored_end : (length own ≡ places → n ≡ rows_in (table_by kind) own)
+      → (length own ≡ places → Emitting write old p (storage_left (report_by kind m) (table_by kind) own n 0) (storage_left (report_by kind m) (table_by kind) own n i) new q)
+      → length own ≡ places → Emits write old p (storage_said (report_by kind m) own (stored_by kind (own_of own))) new q
+  stored_end e a l = emits_same (ap (storage_said (report_by kind m) own) (sym (stored_run kind own))) (storage_end (report_by kind m) (table_by kind) own n h e a l)
 
 -- one register or memory
 module _ (own : List ℕ) (m : ℕ) (r : Storage) {b : Bool} (g : length own ≡ places → b ≡ has_name r.name (poisoned_names (own_of own))) where
@@ -149,14 +152,30 @@ module _ (own : List ℕ) (m : ℕ) (r : Storage) {b : Bool} (g : length own ≡
   unfolding storage_reports
   storage_kept f e l = emits_nothing (storage_poisoned f (poisoned_names (own_of own)) (own_of own).pairs r [] (sym (g l) ∙ e))
 
-  module _ (e : b ≡ false) {write : Bool} {old new : Bytes} {p q : Place} (x : Blocks) {y : Blocks} (k : y ≡ x)
-      (s : length own ≡ places → y ≡ blocks_by (block_count r.name (own_of own).pairs)) where
-    pub reg_emits : Emits write old p (reg_said m r x) new q → length own ≡ places → Emits write old p (storage_said (reg_report m) own (r ∷ [])) new q
-    unfolding storage_reports
-    reg_emits a l =
-        emits_same (reg_next m (poisoned_names (own_of own)) (own_of own).pairs r [] x (sym k ∙ s l) (sym (g l) ∙ e) ∙ append-nil (reg_said m r x)) a
+  -- the report with a detail, where there is one
+  abbrev details_said : Option Detail → List Report
+  details_said (Some d) = report m r.start r.name (detail_of d) ∷ []
+  details_said None = []
 
-    pub mem_emits : Emits write old p (mem_said m r x) new q → length own ≡ places → Emits write old p (storage_said (mem_report m) own (r ∷ [])) new q
+  said_is : (kind : Stored) (k : ℕ) → report_by kind m r k ≡ details_said (said_by kind (blocks_by k))
+  said_is stored.Reg k = reg_by_blocks m r k ∙ reg_details (blocks_by k)
+    where
+      reg_details : (x : Blocks) → reg_said m r x ≡ details_said (said_by stored.Reg x)
+      reg_details blocks.None = refl
+      reg_details blocks.One = refl
+      reg_details blocks.Several = refl
+  said_is stored.Mem k = mem_by_blocks m r k ∙ mem_details (blocks_by k)
+    where
+      mem_details : (x : Blocks) → mem_said m r x ≡ details_said (said_by stored.Mem x)
+      mem_details blocks.None = refl
+      mem_details blocks.One = refl
+      mem_details blocks.Several = refl
+
+  module _ (kind : Stored) (e : b ≡ false) {write : Bool} {old new : Bytes} {p q : Place} {y : Blocks} (s : length own ≡ places → y ≡ blocks_by (block_count r.name (own_of own).pairs))
+      {d : Option Detail} (f : d ≡ said_by kind y) where
+    pub storage_emits : {x : Option Detail} → d ≡ x → Emits write old p (details_said x) new q → length own ≡ places → Emits write old p (storage_said (report_by kind m) own (r ∷ [])) new q
     unfolding storage_reports
-    mem_emits a l =
-        emits_same (mem_next m (poisoned_names (own_of own)) (own_of own).pairs r [] x (sym k ∙ s l) (sym (g l) ∙ e) ∙ append-nil (mem_said m r x)) a
+    storage_emits {x} z a l =
+        emits_same
+        (storage_next (report_by kind m) (poisoned_names (own_of own)) (own_of own).pairs r [] (sym (g l) ∙ e) ∙ append-nil (report_by kind m r (block_count r.name (own_of own).pairs))
+        ∙ said_is kind (block_count r.name (own_of own).pairs) ∙ ap (λ (j : Blocks). details_said (said_by kind j)) (sym (s l)) ∙ ap details_said (sym f ∙ z)) a

@@ -1,3 +1,4 @@
+pub mod Handed
 pub mod EmitLaws
 pub mod Bound
 pub mod LoopLaws

@@ -120,34 +120,34 @@ none_left : {A : Type 0} (l : List A) → length l ≤ 0 → l ≡ []
 none_left [] h = refl
 none_left (a ∷ l) h = absurd (omega arith)
 
--- the reports still to come
-pub record Looping (g w : List ℕ) (hs : List Head) (m left : ℕ) (write : Bool) (old : Bytes) (p : Place) (new : Bytes) (q : Place) : Type 0 where
+-- the reports still to come at a turn of the search
+pub record Looping (g w : List ℕ) (hs : List Head) (m turn : ℕ) (write : Bool) (old : Bytes) (p : Place) (new : Bytes) (q : Place) : Type 0 where
   pub rest : List (List Node)
   pub awaits : Awaits g w rest
-  pub few : length rest ≤ left
+  pub few : length rest + turn ≤ 263168
   pub emitting : Emitting write old p (loop_reports m hs (find_cycles hs)) (loop_reports m hs rest) new q
 
 module _ {g : List ℕ} (hs : List Head) (H : Stands g hs) {m : ℕ} {write : Bool} {old : Bytes} {p : Place} where
-  pub loops_start : {w : List ℕ} → Awaits g w (find_cycles hs) → Looping g w hs m 263168 write old p old p
-  loops_start a = record { rest = find_cycles hs; awaits = a; few = few_cycles hs H; emitting = emitting_start (loop_reports m hs (find_cycles hs)) }
+  pub loops_start : {w : List ℕ} → Awaits g w (find_cycles hs) → Looping g w hs m 0 write old p old p
+  loops_start a = record { rest = find_cycles hs; awaits = a; few = omega (arith, few_cycles hs H); emitting = emitting_start (loop_reports m hs (find_cycles hs)) }
 
-  module _ {w : List ℕ} {left : ℕ} {mid : Bytes} {q : Place} (L : Looping g w hs m left write old p mid q) where
+  module _ {w : List ℕ} {turn : ℕ} {mid : Bytes} {q : Place} (L : Looping g w hs m turn write old p mid q) where
     loops_none : L.rest ≡ [] → Emits write old p (loop_reports m hs (find_cycles hs)) mid q
     unfolding loop_reports
     loops_none e = emitting_end (subst (λ (l : List (List Node)). Emitting write old p (loop_reports m hs (find_cycles hs)) (loop_reports m hs l) mid q) e L.emitting)
 
-    pub loops_out : left ≤ 0 → Emits write old p (loop_reports m hs (find_cycles hs)) mid q
+    pub loops_out : 263168 ≤ turn → Emits write old p (loop_reports m hs (find_cycles hs)) mid q
     loops_out z = loops_none (none_left L.rest (omega (arith, L.few)))
 
     module _ (w' : List ℕ) (c : Option Cycle) (next : (rs : List (List Node)) → Awaits g w rs → Next c g w' rs) where
       pub loops_done : c ≡ None → Emits write old p (loop_reports m hs (find_cycles hs)) mid q
       loops_done e = loops_none (rw e at (next L.rest L.awaits))
 
-      pub loops_found : {s : Cycle} → c ≡ Some s → 0 < left → {new : Bytes} {r : Place} → Emits write mid q (path_report m g w' s.from s.to ∷ []) new r
-          → Looping g w' hs m (left - 1) write old p new r
-      loops_found {s} e z {new} {r} a = found (rw e at (next L.rest L.awaits))
+      pub loops_found : {s : Cycle} → c ≡ Some s → {new : Bytes} {r : Place} → Emits write mid q (path_report m g w' s.from s.to ∷ []) new r
+          → Looping g w' hs m (turn + 1) write old p new r
+      loops_found {s} e {new} {r} a = found (rw e at (next L.rest L.awaits))
         where
-          found : Next (Some s) g w' L.rest → Looping g w' hs m (left - 1) write old p new r
+          found : Next (Some s) g w' L.rest → Looping g w' hs m (turn + 1) write old p new r
           found (qs, A, l, d, f) =
               record {
                 rest = qs;

@@ -18,8 +18,9 @@ use Rattle.sites.proofs.Reports.{conflicts_after}
 use Rattle.walk.specs.Walk.{Own, poison, own_reports}
 use Rattle.items.specs.Held.{Ports, Held}
 use Rattle.drivers.specs.declared.emit.Place.{Place}
-use Rattle.drivers.specs.declared.groups.Covered.{Covered}
-use Rattle.drivers.specs.declared.groups.Covered.TheVariants as covered
+use Rattle.drivers.specs.declared.groups.Outside.{Outside}
+use Rattle.std.specs.Prelude.{Result, Ok, Err, IsErr}
+use Rattle.drivers.proofs.Handed.{handed_on}
 use Rattle.drivers.specs.Emits.{Emits}
 use Rattle.drivers.specs.Groups.{Reported}
 use Rattle.drivers.proofs.EmitLaws.{emit_then, appended_within}
@@ -80,7 +81,7 @@ some_out ns o = widths_out ns (poison o) o.sites o.outputs
 module _ {text : Bytes} {own : List ℕ} (o : Own) (H : Held text own o) (K : (own_of own).conflicts ≡ conflicts (misused_names o.misuses) o.sites o.sites)
     (P : poisoned_names (own_of own) ≡ poison o) (m : ℕ) (ns : Names) (hs : List Head) {write : Bool} where
   -- before the outputs
-  module _ {old b₁ b₂ : Bytes} {p p₁ p₂ : Place} (r : Covered) (b₃ : Bytes) (a₁ : length own ≡ places → Emits write old p (misuse_reports m (own_of own).misuses) b₁ p₁)
+  module _ {old b₁ b₂ : Bytes} {p p₁ p₂ : Place} (r : Result Place Outside) (b₃ : Bytes) (a₁ : length own ≡ places → Emits write old p (misuse_reports m (own_of own).misuses) b₁ p₁)
       (a₂ : length own ≡ places → Emits write b₁ p₁ (conflict_reports m (own_of own).conflicts) b₂ p₂)
       (a₃ : length own ≡ places → (os : List Output) → Ports text (own_of own).outputs os
       → Reported r write b₂ p₂ (widths_out ns (poisoned_names (own_of own)) (own_of own).sites os) (output_reports m ns (poisoned_names (own_of own)) (own_of own).sites os) b₃) where
@@ -95,19 +96,19 @@ module _ {text : Bytes} {own : List ℕ} (o : Own) (H : Held text own o) (K : (o
         (subst (λ (l : List Site). Reported r write b₂ p₂ (widths_out ns (poisoned_names (own_of own)) l o.outputs) (output_reports m ns (poisoned_names (own_of own)) l o.outputs) b₃)
         H.sites (a₃ H.sized o.outputs H.outputs))
 
-    pub module_outside : r ≡ covered.Outside → Reported covered.Outside write old p (some_out ns o) (own_reports m ns o hs) b₃
-    module_outside e =
-        let b : Reported covered.Outside write b₂ p₂ (some_out ns o) (outputs_said m ns o) b₃ = subst (λ (z : Covered). Reported z write b₂ p₂ (some_out ns o) (outputs_said m ns o) b₃) e outputs_here in
-        (b.0, λ w f. let d = front w in b.1 (appended_within d) f ∙ d.kept f)
+    pub module_outside : {x : Outside} → r ≡ Err x → (r' : Result Place Outside) → IsErr r' → Reported r' write old p (some_out ns o) (own_reports m ns o hs) b₃
+    module_outside {x} e =
+        let b : Reported (Err x) write b₂ p₂ (some_out ns o) (outputs_said m ns o) b₃ = subst (λ (z : Result Place Outside). Reported z write b₂ p₂ (some_out ns o) (outputs_said m ns o) b₃) e outputs_here in
+        handed_on (λ z. Reported z write old p (some_out ns o) (own_reports m ns o hs) b₃) (λ _. (b.0, λ w f. let d = front w in b.1 (appended_within d) f ∙ d.kept f))
 
-    pub module_done : {b₄ b₅ b₆ : Bytes} {p₃ p₄ p₅ p₆ : Place} → r ≡ covered.Done p₃
+    pub module_done : {b₄ b₅ b₆ : Bytes} {p₃ p₄ p₅ p₆ : Place} → r ≡ Ok p₃
         → (length own ≡ places → Emits write b₃ p₃ (storage_reports (reg_report m) (poisoned_names (own_of own)) (own_of own).pairs (own_of own).regs) b₄ p₄)
         → (length own ≡ places → Emits write b₄ p₄ (storage_reports (mem_report m) (poisoned_names (own_of own)) (own_of own).pairs (own_of own).mems) b₅ p₅)
         → Emits write b₅ p₅ (loop_reports m hs (find_cycles hs)) b₆ p₆
-        → Reported (covered.Done p₆) write old p (some_out ns o) (own_reports m ns o hs) b₆
+        → Reported (Ok p₆) write old p (some_out ns o) (own_reports m ns o hs) b₆
     unfolding own_reports
     module_done {b₄} {b₅} {b₆} {p₃} {p₄} {p₅} {p₆} e a₄ a₅ a₆ =
-        let b : Reported (covered.Done p₃) write b₂ p₂ (some_out ns o) (outputs_said m ns o) b₃ = subst (λ (z : Covered). Reported z write b₂ p₂ (some_out ns o) (outputs_said m ns o) b₃) e outputs_here in
+        let b : Reported (Ok p₃) write b₂ p₂ (some_out ns o) (outputs_said m ns o) b₃ = subst (λ (z : Result Place Outside). Reported z write b₂ p₂ (some_out ns o) (outputs_said m ns o) b₃) e outputs_here in
         let c₄ : Emits write b₃ p₃ (regs_said m o) b₄ p₄ = emits_same (storage_here (reg_report m) H.regs) (a₄ H.sized) in
         let c₅ : Emits write b₄ p₄ (mems_said m o) b₅ p₅ = emits_same (storage_here (mem_report m) H.mems) (a₅ H.sized) in
         (b.0, emit_then _ _ (emit_then _ _ (emit_then _ _ (emit_then _ _ front b.1) c₄) c₅) a₆)

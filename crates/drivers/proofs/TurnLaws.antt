@@ -20,7 +20,9 @@ use Rattle.drivers.specs.Emits.{Emits}
 use Rattle.drivers.specs.Check.{Enough, Checking, Tallied, FewRounds, first_place}
 use Rattle.drivers.specs.declared.emit.Place.{Place}
 use Rattle.drivers.specs.declared.check.Checked.{Checked}
-use Rattle.drivers.specs.declared.check.Checked.TheVariants as checks
+use Rattle.drivers.specs.declared.check.Stop.{Stop}
+use Rattle.std.specs.Prelude.{Result, Ok, Err, IsErr}
+use Rattle.drivers.proofs.Handed.{handed_on}
 use Rattle.drivers.proofs.EmitLaws.{appended_within, emit_none, emit_then}
 
 -- an accepted text has at most 32 modules
@@ -45,7 +47,7 @@ pub enough_kept : {names own g w k : List ℕ} → Enough names own g w k → (k
 enough_kept {names} {own} {g} {w} E k' e = enough_same E names own g w k' refl refl refl refl e
 
 -- the rounds of a module
-pub few_taken : (r : Checked) {next : Place} {taken : ℕ} → FewRounds r → r ≡ checks.Done next taken → taken ≤ 4096
+pub few_taken : (r : Result Checked Stop) {one : Checked} → FewRounds r → r ≡ Ok one → one.rounds ≤ 4096
 few_taken r f e = subst FewRounds e f
 
 -- ---- what comes behind some reports and rounds
@@ -104,7 +106,7 @@ turn_start text write old {k} {start} keeps =
 
 module _ {text kinds mods : List ℕ} {count : ℕ} (T : Tabled text kinds mods count) {start : Kept} {write : Bool} {old : Bytes} {m rounds : ℕ} {mid : Bytes} {q : Place} {k : List ℕ}
     (G : Turning text start write old m rounds mid q k) where
-  pub turn_end : count ≤ m → Tallied (checks.Done q rounds) write old first_place mid k (all_from text start)
+  pub turn_end : count ≤ m → Tallied (Ok (record { next = q; rounds = rounds })) write old first_place mid k (all_from text start)
   turn_end h =
       let e : drop m (decode text) ≡ [] = drop_of_length-le (decode text) {i = m} (omega (arith, T.modules)) in
       let z : rounds + 0 ≡ rounds = omega arith in (
@@ -117,7 +119,7 @@ module _ {text kinds mods : List ℕ} {count : ℕ} (T : Tabled text kinds mods 
         G.keeps,
       )
 
-  module _ (h : m < count) {names own g w : List ℕ} (E : Enough names own g w k) (r : Checked) (new k' : List ℕ)
+  module _ (h : m < count) {names own g w : List ℕ} (E : Enough names own g w k) (r : Result Checked Stop) (new k' : List ℕ)
       (one : (x : Module) (kept : Kept) → Checking text kinds mods count m names own g w k x kept → Tallied r write mid q new k' (check_one (decode text) kept m x)) where
     abbrev found : (x : Module) × (get_elem? (decode text) m ≡ some x) × (drop m (decode text) ≡ x ∷ drop (suc m) (decode text))
     found = next_module (decode text) m (omega (arith, T.modules))
@@ -128,16 +130,17 @@ module _ {text kinds mods : List ℕ} {count : ℕ} (T : Tabled text kinds mods 
     whole_here : all_from text start ≡ behind G.reports rounds (check_all (decode text) G.kept m (found.0 ∷ drop (suc m) (decode text)))
     whole_here = G.whole ∙ ap (λ (l : List Module). behind G.reports rounds (check_all (decode text) G.kept m l)) found.2
 
-    pub turn_full : r ≡ checks.Full → Tallied checks.Full write old first_place new k' (all_from text start)
+    pub turn_full : {x : Stop} → r ≡ Err x → (r' : Result Checked Stop) → IsErr r' → Tallied r' write old first_place new k' (all_from text start)
     turn_full e =
-        let t = subst (λ (c : Checked). Tallied c write mid q new k' (check_one (decode text) G.kept m found.0)) e (one found.0 G.kept checking) in (
+        let t = subst (λ (c : Result Checked Stop). Tallied c write mid q new k' (check_one (decode text) G.kept m found.0)) e (one found.0 G.kept checking) in
+        handed_on (λ z. Tallied z write old first_place new k' (all_from text start)) (λ _. (
           whole_here ∙ ap (behind G.reports rounds) (all_full (decode text) G.kept m found.0 (drop (suc m) (decode text)) t.0),
           λ i f. t.1 (appended_within (G.emitted i)) f ∙ (G.emitted i).kept f,
-        )
+        ))
 
-    pub turn_on : {next : Place} {taken : ℕ} → r ≡ checks.Done next taken → Turning text start write old (m + 1) (rounds + taken) new next k'
-    turn_on {next} {taken} e =
-        let t = subst (λ (c : Checked). Tallied c write mid q new k' (check_one (decode text) G.kept m found.0)) e (one found.0 G.kept checking) in
+    pub turn_on : {c : Checked} → r ≡ Ok c → Turning text start write old (m + 1) (rounds + c.rounds) new c.next k'
+    turn_on e =
+        let t = subst (λ (c : Result Checked Stop). Tallied c write mid q new k' (check_one (decode text) G.kept m found.0)) e (one found.0 G.kept checking) in
         let a = t.0 in
         let n : m + 1 ≡ suc m = add-one m in
         record {

@@ -1,14 +1,13 @@
 -- The whole check over the lent slices: what a module's check needs of them, what it leaves, and the answer.
 -- 01: The collected item; Refused because of the state; The report.
 -- To a reader: definitions to believe (exit_of and slices, in check_drivers' promise; they only gather), and definitions that other contracts of this crate cite.
-use Rattle.std.specs.Prelude.{◌≡◌, Bool, false, List, [], ◌∷◌, ℕ, ◌*◌, ◌≤◌, length}
+use Rattle.std.specs.Prelude.{◌≡◌, Bool, false, List, [], ◌∷◌, ℕ, ◌*◌, ◌≤◌, length, Result, Ok, Err}
 use Rattle.std.proofs.Math.Option.{some}
 use Rattle.std.proofs.Math.ListN.{get_elem?}
 use Rattle.spec.specs.Bytes.{Bytes}
 use Rattle.spec.specs.Syntax.{name_bound, Module}
 use Rattle.spec.specs.Refusal.{decode}
 use Rattle.spec.specs.Summary.{Kept}
-use Rattle.spec.specs.Cleared.{ByNumber}
 use Rattle.spec.specs.Check.{Lent, Slice, Exit}
 use Rattle.spec.specs.Check as check
 use Rattle.graph.specs.Stands.{graph_places}
@@ -21,7 +20,9 @@ use Rattle.collect.specs.Cycle.{Tabled}
 use Rattle.drivers.specs.Emits.{Within, Emits}
 use Rattle.drivers.specs.declared.emit.Place.{Place}
 use Rattle.drivers.specs.declared.check.Checked.{Checked}
-use Rattle.drivers.specs.declared.check.Checked.TheVariants as checks
+use Rattle.drivers.specs.declared.check.Stop.{Stop}
+use Rattle.drivers.specs.declared.check.Accepted.{Accepted}
+use Rattle.drivers.specs.declared.check.Refusal.{Refusal}
 use Rattle.drivers.specs.declared.check.Answer.{Answer}
 
 -- 01, Refused because of the state: what a module's check works on: `own` has just the places of its tables, the others theirs or more
@@ -44,34 +45,18 @@ pub record Checking (text kinds mods : List ℕ) (count m : ℕ) (names own g w 
 abbrev pub first_place : Place
 first_place = record { at = 0; reports = 0 }
 
--- 01, Refused because of the state: 20 where a limit is passed or a constant is outside INT; 0 where every module was checked
-abbrev pub number_of : Checked → ℕ
-number_of (checks.Done q rounds) = 0
-number_of checks.Full = 20
-
--- 01, The report: the place behind the last report; the beginning of the buffer where the number is 20
-abbrev pub place_of : Checked → Place
-place_of (checks.Done q rounds) = q
-place_of checks.Full = first_place
-
--- 01, The collected item: the rounds taken; 0 where the number is 20
-abbrev pub rounds_of : Checked → ℕ
-rounds_of (checks.Done q rounds) = rounds
-rounds_of checks.Full = 0
-
 -- 01, Refused because of the state; The report: what the check of a module, or of several, leaves: its reports behind the place p, its rounds, and
 -- the summaries kept; or a limit is passed or a constant is outside INT, and then, where p is a place of the buffer, one that is only counted for
 -- is as it was, and one that is written is free, and so are the words k. The other tables are free in both cases: the whole call sets them to 0.
-abbrev pub Tallied : Checked → Bool → Bytes → Place → Bytes → List ℕ → Got Tally → Type 0
-Tallied r write old p new k x =
-    ByNumber (number_of r)
-    ((t : Tally) × (x ≡ going t) × Emits write old p t.reports new (place_of r) × (rounds_of r ≡ t.rounds) × Keeps k t.kept [])
-    ((x ≡ full) × (Within old p → write ≡ false → new ≡ old))
+abbrev pub Tallied : Result Checked Stop → Bool → Bytes → Place → Bytes → List ℕ → Got Tally → Type 0
+Tallied (Ok c) write old p new k x =
+    (t : Tally) × (x ≡ going t) × Emits write old p t.reports new c.next × (c.rounds ≡ t.rounds) × Keeps k t.kept []
+Tallied (Err e) write old p new k x = (x ≡ full) × (Within old p → write ≡ false → new ≡ old)
 
 -- 01, The collected item: each module has 4,096 rounds: its check takes no more
-abbrev pub FewRounds : Checked → Type 0
-FewRounds (checks.Done q rounds) = rounds ≤ 4096
-FewRounds checks.Full = Unit {0}
+abbrev pub FewRounds : Result Checked Stop → Type 0
+FewRounds (Ok c) = c.rounds ≤ 4096
+FewRounds (Err e) = Unit {0}
 
 -- 01, Refused because of the state: the answer, with the report buffer at exit
 abbrev pub answer_of : Answer → Bytes → check.Answer
@@ -80,6 +65,11 @@ answer_of a buffer = record { number = a.number; line = a.line; bytes_written = 
 -- 01, Refused because of the state: acceptance returns 0, bytes written, reports, and rounds
 abbrev pub accepted : ℕ → ℕ → ℕ → Bytes → check.Answer
 accepted written reports rounds buffer = record { number = 0; line = 0; bytes_written = written; reports = reports; rounds = rounds; buffer = buffer }
+
+-- 01, Refused because of the state: what is answered of an accepted text, and a refusal with its number and its line
+abbrev pub answer_for : Result Accepted Refusal → Bytes → check.Answer
+answer_for (Ok a) buffer = accepted a.bytes a.reports a.rounds buffer
+answer_for (Err e) buffer = check.refuse e.number e.line buffer
 
 -- 01, Refused because of the state: the seven working slices, each with the places that its limits ask for: a byte for each of 256 names of 32
 -- modules; four words for each module; and what `steps`, `sites`, `graph` and `summary` say of theirs

@@ -3,7 +3,24 @@
 use Rattle.std.specs.Prelude.{◌≡◌, Bool, true, false, List, ◌++◌, ℕ, ◌+◌, ◌≤◌, min, length, take, drop}
 use Rattle.spec.specs.Bytes.{Bytes}
 use Rattle.spec.specs.Report.{Report, show_reports}
+use Rattle.report.specs.Line.{line, walk_head, walk_node, walk_tail}
 use Rattle.drivers.specs.declared.emit.Place.{Place}
+use Rattle.drivers.specs.declared.emit.Piece.{Piece}
+use Rattle.drivers.specs.declared.emit.Piece.TheVariants as pieces
+
+-- 01, The report: the bytes of a piece
+abbrev pub bytes_of : Piece → Bytes
+bytes_of (pieces.Line x) = line x
+bytes_of (pieces.WalkHead m start) = walk_head m start
+bytes_of (pieces.WalkNode n) = walk_node n
+bytes_of pieces.WalkTail = walk_tail
+
+-- 01, The report: how many reports count with it: one with its line, or with the end of a loop report's line
+abbrev pub lines_in : Piece → ℕ
+lines_in (pieces.Line x) = 1
+lines_in (pieces.WalkHead m start) = 0
+lines_in (pieces.WalkNode n) = 0
+lines_in pieces.WalkTail = 1
 
 -- 01, The report: a place that lines are appended at: at most one past the buffer's end, and no more reports than bytes
 pub record Within (buf : Bytes) (p : Place) : Type 0 where

@@ -1,5 +1,5 @@
 // The whole check: each module in order, its reports counted first and then written; the answer; the lent working slices zero.
-ghost use Rattle.std.specs.Prelude.{◌≡◌, [], length, replicate};
+ghost use Rattle.std.specs.Prelude.{◌≡◌, [], length};
 ghost use Rattle.spec.specs.Bytes.{Bytes};
 ghost use Rattle.spec.specs.Syntax.{Module};
 ghost use Rattle.spec.specs.Refusal.{decode};
@@ -9,25 +9,72 @@ ghost use Rattle.spec.specs.Check as check;
 ghost use Rattle.walk.specs.Walk.{check_one, check_all};
 ghost use Rattle.summary.specs.Keeps.{Keeps};
 ghost use Rattle.collect.specs.Cycle.{Tabled};
-ghost use Rattle.drivers.specs.Check.{Enough, Checking, Tallied, FewRounds, first_place, answer_of, accepted, lent_places, exit_of, slices};
+ghost use Rattle.drivers.specs.Check.{Enough, Checking, Tallied, FewRounds, first_place, answer_of, answer_for, lent_places, exit_of, slices};
 
 use crate::emit::Place;
 use crate::groups;
-use crate::groups::Covered;
+use crate::groups::Outside;
 use collect::Collected;
 use lines::tables::ReadError;
 use lines::{reader, tables};
 use steps::modules;
 
-// What the check of a module, or of several, gives: the next place and the rounds taken; or a limit is passed or a constant outside INT.
+// An accepted text: its bytes, the kinds of its names, where its modules lie, and how many there are.
 #[derive(Clone, Copy)]
-enum Checked {
-    Full,
-    Done(Place, u32),
+struct Source<'a> {
+    text: &'a [u8],
+    kinds: &'a [u8],
+    mods: &'a [u32],
+    count: u32,
+}
+
+// What the check of a module, or of several, gives: the next place and the rounds taken.
+#[derive(Clone, Copy)]
+struct Checked {
+    next: Place,
+    rounds: u32,
+}
+
+// A limit is passed or a constant is outside INT: the answer is 20.
+#[derive(Clone, Copy, Debug, PartialEq, Eq)]
+struct Stop;
+
+impl From<Outside> for Stop {
+    ghost from_gives = { λ _ e. e ≡ record {} };
+
+    fn from(_: Outside) -> Stop {
+        Stop
+    }
+}
+
+// What is answered of an accepted text: the bytes written, the reports, the rounds.
+#[derive(Clone, Copy)]
+struct Accepted {
+    bytes: usize,
+    reports: usize,
+    rounds: u32,
+}
+
+// A refusal: its number and its line.
+#[derive(Clone, Copy, Debug, PartialEq, Eq)]
+struct Refusal {
+    number: u32,
+    line: u32,
+}
+
+impl From<Stop> for Refusal {
+    ghost from_gives = { λ _ e. e ≡ record { number = 20; line = 0 } };
+
+    fn from(_: Stop) -> Refusal {
+        Refusal {
+            number: 20,
+            line: 0,
+        }
+    }
 }
 
 // 01's answer: 0 or the number of a refusal, its line, the bytes written, the reports, the rounds.
-#[derive(Clone, Copy)]
+#[derive(Clone, Copy, Debug, PartialEq, Eq)]
 pub struct Answer {
     pub number: u32,
     pub line: u32,
@@ -38,10 +85,7 @@ pub struct Answer {
 
 // The own check of module m: what its lines collect, then its reports behind the place p.
 fn check_module_drivers(
-    text: &[u8],
-    kinds: &[u8],
-    mods: &[u32],
-    count: u32,
+    source: &Source,
     m: u32,
     names: &mut [u32],
     own: &mut [u32],
@@ -51,29 +95,48 @@ fn check_module_drivers(
     buf: &mut [u8],
     p: Place,
     write: bool,
-) -> Checked
-    ensures tallied { (x : Module) (kept : Kept) → Checking text.now kinds.now mods.now count m
+) -> Result<Checked, Stop>
+    ensures tallied { (x : Module) (kept : Kept) → Checking source.now.text.now source.now.kinds.now source.now.mods.now source.now.count m
         names.old own.old g.old w.old k.old x kept
-        → Tallied result write buf.old p buf.new k.new (check_one (decode text.now) kept m x) }
+        → Tallied result write buf.old p buf.new k.new (check_one (decode source.now.text.now) kept m x) }
     ensures few_rounds { FewRounds result }
 {
-    match collect::collect_module(text, kinds, mods, count, m, names, own, g, k) {
-        Collected::Full => Checked::Full,
+    match collect::collect_module(
+        source.text,
+        source.kinds,
+        source.mods,
+        source.count,
+        m,
+        names,
+        own,
+        g,
+        k,
+    ) {
+        Collected::Full => Err(Stop),
         Collected::Left(used, left) => {
-            match groups::report_module(text, names, used, own, g, w, m, buf, p, write) {
-                Covered::Outside => Checked::Full,
-                Covered::Done(q) => Checked::Done(q, 4096 - left),
-            }
+            let next = groups::report_module(
+                source.text,
+                names,
+                used,
+                own,
+                g,
+                w,
+                m,
+                buf,
+                p,
+                write,
+            )?;
+            Ok(Checked {
+                next,
+                rounds: 4096 - left,
+            })
         }
     }
 }
 
 // Every module of an accepted text in order, to the first that is full, from the summaries that are kept already.
 fn check_modules(
-    text: &[u8],
-    kinds: &[u8],
-    mods: &[u32],
-    count: u32,
+    source: &Source,
     names: &mut [u32],
     own: &mut [u32],
     g: &mut [u32],
@@ -81,95 +144,87 @@ fn check_modules(
     k: &mut [u32],
     buf: &mut [u8],
     write: bool,
-) -> Checked
-    ensures { (kept : Kept) → Tabled text.now kinds.now mods.now count
+) -> Result<Checked, Stop>
+    ensures { (kept : Kept) → Tabled source.now.text.now source.now.kinds.now source.now.mods.now source.now.count
         → Enough names.old own.old g.old w.old k.old
         → Keeps k.old kept []
         → Tallied result write buf.old first_place buf.new k.new
-        (check_all (decode text.now) kept 0 (decode text.now)) }
+        (check_all (decode source.now.text.now) kept 0 (decode source.now.text.now)) }
 {
     // No accepted text has more: this only bounds the sum of the rounds.
-    if 32 < count {
-        return Checked::Full;
+    if 32 < source.count {
+        return Err(Stop);
     }
     let mut q = Place { at: 0, reports: 0 };
     let mut rounds: u32 = 0;
-    let mut m: u32 = 0;
-    while m < count {
-        match check_module_drivers(
-            text, kinds, mods, count, m, names, own, g, w, k, buf, q, write,
-        ) {
-            Checked::Full => return Checked::Full,
-            Checked::Done(next, taken) => {
-                q = next;
-                rounds += taken;
-                m += 1;
-                continue;
-            }
-        }
+    for m in 0..source.count {
+        let one = check_module_drivers(source, m, names, own, g, w, k, buf, q, write)?;
+        q = one.next;
+        rounds += one.rounds;
     }
-    Checked::Done(q, rounds)
+    Ok(Checked { next: q, rounds })
 }
 
-// A refusal: its number, its line and zeros.
-fn refuse(number: u32, line: u32) -> Answer
-    ensures { (buffer : Bytes) → answer_of result buffer ≡ check.refuse number line buffer }
+// The five numbers of an answer: those of a refusal are zeros behind its line.
+fn as_answer(r: Result<Accepted, Refusal>) -> Answer
+    ensures { (buffer : Bytes) → answer_of result buffer ≡ answer_for r buffer }
 {
-    Answer {
-        number,
-        line,
-        bytes: 0,
-        reports: 0,
-        rounds: 0,
-    }
-}
-
-// Acceptance: the bytes written, the reports, the rounds.
-fn accept(bytes: usize, reports: usize, rounds: u32) -> Answer
-    ensures { (buffer : Bytes) → answer_of result buffer ≡ accepted bytes reports rounds buffer }
-{
-    Answer {
-        number: 0,
-        line: 0,
-        bytes,
-        reports,
-        rounds,
+    match r {
+        Ok(a) => Answer {
+            number: 0,
+            line: 0,
+            bytes: a.bytes,
+            reports: a.reports,
+            rounds: a.rounds,
+        },
+        Err(e) => Answer {
+            number: e.number,
+            line: e.line,
+            bytes: 0,
+            reports: 0,
+            rounds: 0,
+        },
     }
 }
 
 // An accepted text: 20, 21, or its reports, written once it is known that they fit, with the summaries that were made to count them.
 fn check_accepted(
-    text: &[u8],
-    kinds: &[u8],
-    mods: &[u32],
-    count: u32,
+    source: &Source,
     names: &mut [u32],
     own: &mut [u32],
     g: &mut [u32],
     w: &mut [u32],
     k: &mut [u32],
     report: &mut [u8],
-) -> Answer
-    ensures { Tabled text.now kinds.now mods.now count
+) -> Result<Accepted, Refusal>
+    ensures { Tabled source.now.text.now source.now.kinds.now source.now.mods.now source.now.count
         → Enough names.old own.old g.old w.old k.old
-        → answer_of result report.new ≡ answer_checked (check_design (decode text.now)) report.old }
+        → answer_for result report.new ≡ answer_checked (check_design (decode source.now.text.now)) report.old }
 {
     summary::reset(k);
-    match check_modules(text, kinds, mods, count, names, own, g, w, k, report, false) {
-        Checked::Full => refuse(20, 0),
-        Checked::Done(q, rounds) => {
-            let bytes = q.at;
-            let reports = q.reports;
-            if report.len() < bytes {
-                return refuse(21, 0);
-            }
-            if reports == 0 {
-                return accept(0, 0, rounds);
-            }
-            check_modules(text, kinds, mods, count, names, own, g, w, k, report, true);
-            accept(bytes, reports, rounds)
-        }
+    let counted = check_modules(source, names, own, g, w, k, report, false)?;
+    let bytes = counted.next.at;
+    let reports = counted.next.reports;
+    let rounds = counted.rounds;
+    if report.len() < bytes {
+        return Err(Refusal {
+            number: 21,
+            line: 0,
+        });
     }
+    if reports == 0 {
+        return Ok(Accepted {
+            bytes: 0,
+            reports: 0,
+            rounds,
+        });
+    }
+    check_modules(source, names, own, g, w, k, report, true)?;
+    Ok(Accepted {
+        bytes,
+        reports,
+        rounds,
+    })
 }
 
 // Is a working slice too short for the limit that it serves?
@@ -216,8 +271,8 @@ fn check_text(
     g: &mut [u32],
     w: &mut [u32],
     k: &mut [u32],
-) -> Answer
-    ensures { answer_of result report.new ≡ check.check_drivers
+) -> Result<Accepted, Refusal>
+    ensures { answer_for result report.new ≡ check.check_drivers
         (lent_places (length kinds.old) (length mods.old) (length names.old) (length own.old)
         (length g.old) (length w.old) (length k.old))
         text.now report.old }
@@ -231,36 +286,29 @@ fn check_text(
         w.len(),
         k.len(),
     ) {
-        return refuse(20, 0);
+        return Err(Refusal {
+            number: 20,
+            line: 0,
+        });
     }
     match reader::read_text(text, kinds, mods) {
-        Err(ReadError::Short) => refuse(20, 0),
-        Err(ReadError::Refused(r)) => refuse(r.number, r.line),
+        Err(ReadError::Short) => Err(Refusal {
+            number: 20,
+            line: 0,
+        }),
+        Err(ReadError::Refused(r)) => Err(Refusal {
+            number: r.number,
+            line: r.line,
+        }),
         Ok(count) => {
-            check_accepted(
+            let source = Source {
                 text,
                 kinds,
                 mods,
                 count,
-                names,
-                &mut own[..sites::OWN],
-                g,
-                w,
-                k,
-                report,
-            )
+            };
+            check_accepted(&source, names, &mut own[..sites::OWN], g, w, k, report)
         }
-    }
-}
-
-// Makes every byte 0.
-fn clear_bytes(s: &mut [u8])
-    ensures { s.new ≡ replicate (length s.old) 0 }
-{
-    let mut i = 0;
-    while i < s.len() {
-        s[i] = 0;
-        i += 1;
     }
 }
 
@@ -281,13 +329,13 @@ pub fn check_drivers(
         ≡ check_call (slices kinds.old mods.old names.old own.old g.old w.old k.old)
         text.now report.old }
 {
-    let answer = check_text(text, report, kinds, mods, names, own, g, w, k);
-    clear_bytes(kinds);
-    graph::clear(mods);
-    graph::clear(names);
-    graph::clear(own);
-    graph::clear(g);
-    graph::clear(w);
-    graph::clear(k);
-    answer
+    let checked = check_text(text, report, kinds, mods, names, own, g, w, k);
+    kinds.fill(0);
+    mods.fill(0);
+    names.fill(0);
+    own.fill(0);
+    g.fill(0);
+    w.fill(0);
+    k.fill(0);
+    as_answer(checked)
 }

@@ -1,8 +1,8 @@
 // Report lines at the next place of a lent buffer. They are counted first, with nothing written, and then written: the place goes on
 // past the buffer's end, by one.
-ghost use Rattle.std.specs.Prelude.{◌≡◌, [], ◌∷◌, ◌+◌, ◌≤◌, ◌<◌, min, length};
-ghost use Rattle.report.specs.Line.{report_of, walk_head, walk_node, walk_tail};
-ghost use Rattle.drivers.specs.Emits.{Appends, Emits};
+ghost use Rattle.std.specs.Prelude.{◌≡◌, ◌+◌, ◌≤◌, min, length};
+ghost use Rattle.report.specs.Line.{placed};
+ghost use Rattle.drivers.specs.Emits.{bytes_of, lines_in, Appends};
 
 use report::{Node, Report};
 
@@ -11,6 +11,15 @@ use report::{Node, Report};
 pub(crate) struct Place {
     pub(crate) at: usize,
     pub(crate) reports: usize,
+}
+
+// What is appended: a report's line; or of a loop report's line its head, a node, or its end, with which the report counts.
+#[derive(Clone, Copy)]
+pub(crate) enum Piece {
+    Line(Report),
+    WalkHead(u32, u32),
+    WalkNode(Node),
+    WalkTail,
 }
 
 // The place behind n bytes.
@@ -26,65 +35,64 @@ fn behind(buf: &[u8], at: usize, n: usize) -> usize
     at + n
 }
 
-// One report more; there are never more reports than bytes.
-fn one_more(reports: usize, at: usize) -> usize
-    ensures value { reports < at → result ≡ reports + 1 }
+// So many reports more; there are never more reports than bytes.
+fn more(reports: usize, k: usize, at: usize) -> usize
+    ensures value { reports + k ≤ at → result ≡ reports + k }
     ensures upper_bound { reports ≤ at → result ≤ at }
 {
-    if reports < at {
-        return reports + 1;
+    if at < reports {
+        return reports;
     }
-    reports
+    if at - reports < k {
+        return at;
+    }
+    reports + k
 }
 
-// A report's line.
-pub(crate) fn emit(buf: &mut [u8], p: Place, write: bool, x: Report) -> Place
-    ensures { Emits write buf.old p (report_of x ∷ []) buf.new result }
+// How many bytes a piece has.
+fn count(x: Piece) -> usize
+    ensures { result ≡ length (bytes_of x) }
 {
-    let at = behind(buf, p.at, report::count_report(x));
-    let reports = one_more(p.reports, at);
-    if write {
-        report::put_report(buf, p.at, x);
-        return Place { at, reports };
+    match x {
+        Piece::Line(r) => report::count_report(r),
+        Piece::WalkHead(m, start) => report::count_walk_head(m, start),
+        Piece::WalkNode(n) => report::count_walk_node(n),
+        Piece::WalkTail => report::count_walk_tail(),
     }
-    Place { at, reports }
 }
 
-// The head of a loop report's line.
-pub(crate) fn emit_walk_head(buf: &mut [u8], p: Place, write: bool, m: u32, start: u32) -> Place
-    ensures { Appends write buf.old p (walk_head m start) 0 buf.new result }
+// How many reports count with a piece.
+fn ended(x: Piece) -> usize
+    ensures { result ≡ lines_in x }
 {
-    let at = behind(buf, p.at, report::count_walk_head(m, start));
-    let reports = p.reports;
-    if write {
-        report::put_walk_head(buf, p.at, m, start);
-        return Place { at, reports };
+    match x {
+        Piece::Line(_) => 1,
+        Piece::WalkHead(_, _) => 0,
+        Piece::WalkNode(_) => 0,
+        Piece::WalkTail => 1,
     }
-    Place { at, reports }
 }
 
-// A node of a loop report's line.
-pub(crate) fn emit_walk_node(buf: &mut [u8], p: Place, write: bool, n: Node) -> Place
-    ensures { Appends write buf.old p (walk_node n) 0 buf.new result }
+// Writes a piece at a place of the buffer, where it fits.
+fn put(buf: &mut [u8], at: usize, x: Piece)
+    ensures { buf.new ≡ (placed buf.old at (bytes_of x)).buffer }
 {
-    let at = behind(buf, p.at, report::count_walk_node(n));
-    let reports = p.reports;
-    if write {
-        report::put_walk_node(buf, p.at, n);
-        return Place { at, reports };
-    }
-    Place { at, reports }
+    match x {
+        Piece::Line(r) => report::put_report(buf, at, r),
+        Piece::WalkHead(m, start) => report::put_walk_head(buf, at, m, start),
+        Piece::WalkNode(n) => report::put_walk_node(buf, at, n),
+        Piece::WalkTail => report::put_walk_tail(buf, at),
+    };
 }
 
-// The end of a loop report's line, with which the report counts.
-pub(crate) fn emit_walk_tail(buf: &mut [u8], p: Place, write: bool) -> Place
-    ensures { Appends write buf.old p walk_tail 1 buf.new result }
+// A piece at the place p.
+pub(crate) fn emit(buf: &mut [u8], p: Place, write: bool, x: Piece) -> Place
+    ensures { Appends write buf.old p (bytes_of x) (lines_in x) buf.new result }
 {
-    let at = behind(buf, p.at, report::count_walk_tail());
-    let reports = one_more(p.reports, at);
+    let at = behind(buf, p.at, count(x));
+    let reports = more(p.reports, ended(x), at);
     if write {
-        report::put_walk_tail(buf, p.at);
-        return Place { at, reports };
+        put(buf, p.at, x);
     }
     Place { at, reports }
 }

@@ -1,5 +1,5 @@
 // The reports of a module's own tables, table by table: misuses, conflicts, outputs, registers, memories, loops.
-ghost use Rattle.std.specs.Prelude.{◌≡◌, List, [], ◌∷◌, ◌-◌, ◌≤◌, length, take, drop};
+ghost use Rattle.std.specs.Prelude.{◌≡◌, List, [], ◌∷◌, ◌-◌, ◌<◌, ◌≤◌, length, take, drop};
 ghost use Rattle.spec.specs.Syntax.{Width};
 ghost use Rattle.spec.specs.Show.{show_width};
 ghost use Rattle.spec.specs.Decode.{depth_limit};
@@ -8,30 +8,44 @@ ghost use Rattle.spec.specs.Value.{known};
 ghost use Rattle.spec.specs.Site.{Output, sites_of, width_value, width_coverage};
 ghost use Rattle.spec.specs.Edge.{Head};
 ghost use Rattle.spec.specs.Report.{report, misused};
-ghost use Rattle.spec.specs.Check.{misuse_reports, conflict_reports, coverage_report, output_reports, widths_out, reg_report, mem_report, storage_reports};
+ghost use Rattle.spec.specs.Check.{misuse_reports, conflict_reports, coverage_report, output_reports, widths_out, storage_reports};
 ghost use Rattle.report.specs.Line.{detail_of};
 ghost use Rattle.consteval.specs.Worth.{signed, worth, names_of};
 ghost use Rattle.graph.specs.Stands.{Stands};
 ghost use Rattle.graph.specs.Cycles.{Roomy};
-ghost use Rattle.sites.specs.Own.{places, own_of, misuse_of, poisoned_names, port_of};
+ghost use Rattle.sites.specs.Own.{places, own_of, misuse_of, poisoned_names, port_of, rows_in, row, names, storage_of, storage_from};
 ghost use Rattle.walk.specs.Walk.{Own, poison, own_reports};
 ghost use Rattle.items.specs.Held.{PortIs, Ports, Held};
 ghost use Rattle.drivers.specs.Emits.{Emits};
-ghost use Rattle.drivers.specs.Groups.{Reported};
+ghost use Rattle.drivers.specs.Groups.{Reported, said_by, report_by, table_by, stored_by};
 
-use crate::emit::Place;
+use crate::emit::{Piece, Place};
 use crate::{emit, loops};
 use consteval::{Value, arith};
 use lines::bytes::is_open;
 use lines::parts;
 use report::{Detail, Report};
-use sites::{Blocks, Cover, Misuse, OutputLine};
+use sites::{Blocks, Cover, Line, Misuse, OutputLine};
 
-// Done with the next place; or a width that decides coverage is outside INT.
+// A width that decides coverage is outside INT.
+#[derive(Clone, Copy, Debug, PartialEq, Eq)]
+pub(crate) struct Outside;
+
+// What is reported of a module, number m: the text, the names and values of its widths, and its own tables.
 #[derive(Clone, Copy)]
-pub(crate) enum Covered {
-    Done(Place),
-    Outside,
+struct Tables<'a> {
+    text: &'a [u8],
+    names: &'a [u32],
+    used: usize,
+    own: &'a [u32],
+    m: u32,
+}
+
+// What a module stores.
+#[derive(Clone, Copy, Debug, PartialEq, Eq)]
+enum Storage {
+    Reg,
+    Mem,
 }
 
 // The detail of a report on a misuse.
@@ -58,49 +72,41 @@ fn say(
 ) -> Place
     ensures { Emits write buf.old p (report m start name (detail_of detail) ∷ []) buf.new result }
 {
-    emit::emit(
-        buf,
-        p,
-        write,
-        Report {
-            number: m,
-            start,
-            name,
-            detail,
-        },
-    )
+    let x = Report {
+        number: m,
+        start,
+        name,
+        detail,
+    };
+    emit::emit(buf, p, write, Piece::Line(x))
 }
 
 // The misuses, in the order in which they were collected.
-fn report_misuses(own: &[u32], m: u32, buf: &mut [u8], p: Place, write: bool) -> Place
-    ensures { length own.now ≡ places
-        → Emits write buf.old p (misuse_reports m (own_of own.now).misuses) buf.new result }
+fn report_misuses(t: &Tables, buf: &mut [u8], p: Place, write: bool) -> Place
+    ensures { length t.now.own.now ≡ places
+        → Emits write buf.old p (misuse_reports t.now.m (own_of t.now.own.now).misuses) buf.new result }
 {
-    let n = sites::misuse_count(own);
+    let n = sites::misuse_count(t.own);
     let mut q = p;
-    let mut i: usize = 0;
-    while i < n {
-        let x = sites::misuse_at(own, i);
+    for i in 0..n {
+        let x = sites::misuse_at(t.own, i);
         let kind = x.kind;
         let detail = misuse_detail(kind);
-        q = say(buf, q, write, m, x.start, x.name, detail);
-        i += 1;
+        q = say(buf, q, write, t.m, x.start, x.name, detail);
     }
     q
 }
 
 // The conflicts that stand in their table, by START and then by name.
-fn report_conflicts(own: &[u32], m: u32, buf: &mut [u8], p: Place, write: bool) -> Place
-    ensures { length own.now ≡ places
-        → Emits write buf.old p (conflict_reports m (own_of own.now).conflicts) buf.new result }
+fn report_conflicts(t: &Tables, buf: &mut [u8], p: Place, write: bool) -> Place
+    ensures { length t.now.own.now ≡ places
+        → Emits write buf.old p (conflict_reports t.now.m (own_of t.now.own.now).conflicts) buf.new result }
 {
-    let n = sites::conflict_count(own);
+    let n = sites::conflict_count(t.own);
     let mut q = p;
-    let mut i: usize = 0;
-    while i < n {
-        let x = sites::conflict_at(own, i);
-        q = say(buf, q, write, m, x.start, x.name, Detail::Many);
-        i += 1;
+    for i in 0..n {
+        let x = sites::conflict_at(t.own, i);
+        q = say(buf, q, write, t.m, x.start, x.name, Detail::Many);
     }
     q
 }
@@ -125,195 +131,160 @@ fn width_of(t: &[u8], names: &[u32], used: usize) -> Value
 }
 
 // The value of the width at from..to of the text.
-fn width_at(text: &[u8], from: usize, to: usize, names: &[u32], used: usize) -> Value
-    ensures { (x : Width) → from ≤ to → to ≤ length text.now → take (to - from) (drop from text.now) ≡ show_width x
-        → width_depth x ≤ depth_limit → worth result ≡ width_value (names_of names.now used) x }
+fn width_at(t: &Tables, from: usize, to: usize) -> Value
+    ensures { (x : Width) → from ≤ to → to ≤ length t.now.text.now → take (to - from) (drop from t.now.text.now) ≡ show_width x
+        → width_depth x ≤ depth_limit → worth result ≡ width_value (names_of t.now.names.now t.now.used) x }
 {
     if to < from {
         return Value::Missing;
     }
-    if text.len() < to {
+    if t.text.len() < to {
         return Value::Missing;
     }
-    width_of(&text[from..to], names, used)
+    width_of(&t.text[from..to], t.names, t.used)
 }
 
 // The first gap of an output whose width v is held as v + 2147483648.
 fn report_gap(
-    own: &[u32],
+    t: &Tables,
     v: u32,
-    m: u32,
     start: u32,
     name: u32,
     buf: &mut [u8],
     p: Place,
     write: bool,
 ) -> Place
-    ensures { length own.now ≡ places → (o : Output) → o.name ≡ name → o.start ≡ start
-        → Emits write buf.old p (coverage_report m o (width_coverage (sites_of name (own_of own.now).sites) (known (signed v))))
+    ensures { length t.now.own.now ≡ places → (o : Output) → o.name ≡ name → o.start ≡ start
+        → Emits write buf.old p (coverage_report t.now.m o (width_coverage (sites_of name (own_of t.now.own.now).sites) (known (signed v))))
         buf.new result }
 {
     if v < 2147483648 {
         return p;
     }
-    match sites::first_gap(own, name, v - 2147483648) {
-        Some(b) => say(buf, p, write, m, start, name, Detail::Gap(b)),
+    match sites::first_gap(t.own, name, v - 2147483648) {
+        Some(b) => say(buf, p, write, t.m, start, name, Detail::Gap(b)),
         None => p,
     }
 }
 
 // What is said of an output: one that is not poisoned has a site, and where all are ranges no gap.
 fn report_output(
-    text: &[u8],
-    names: &[u32],
-    used: usize,
-    own: &[u32],
+    t: &Tables,
     x: OutputLine,
-    m: u32,
     buf: &mut [u8],
     p: Place,
     write: bool,
-) -> Covered
-    ensures { length own.now ≡ places → (o : Output) → PortIs text.now (port_of x) o
+) -> Result<Place, Outside>
+    ensures { length t.now.own.now ≡ places → (o : Output) → PortIs t.now.text.now (port_of x) o
         → Reported result write buf.old p
-        (widths_out (names_of names.now used) (poisoned_names (own_of own.now)) (own_of own.now).sites (o ∷ []))
-        (output_reports m (names_of names.now used) (poisoned_names (own_of own.now)) (own_of own.now).sites (o ∷ []))
+        (widths_out (names_of t.now.names.now t.now.used) (poisoned_names (own_of t.now.own.now)) (own_of t.now.own.now).sites (o ∷ []))
+        (output_reports t.now.m (names_of t.now.names.now t.now.used) (poisoned_names (own_of t.now.own.now)) (own_of t.now.own.now).sites (o ∷ []))
         buf.new }
 {
     let name = x.name;
     let start = x.start;
-    if sites::poisoned(own, name) {
-        return Covered::Done(p);
+    if sites::poisoned(t.own, name) {
+        return Ok(p);
     }
-    match sites::cover_of(own, name) {
-        Cover::Never => {
-            let q = say(buf, p, write, m, start, name, Detail::Never);
-            Covered::Done(q)
-        }
-        Cover::Open => Covered::Done(p),
-        Cover::Ranges => match width_at(text, x.from as usize, x.to as usize, names, used) {
-            Value::Known(v) => {
-                let q = report_gap(own, v, m, start, name, buf, p, write);
-                Covered::Done(q)
-            }
-            Value::Missing => Covered::Done(p),
-            Value::Outside => Covered::Outside,
+    match sites::cover_of(t.own, name) {
+        Cover::Never => Ok(say(buf, p, write, t.m, start, name, Detail::Never)),
+        Cover::Open => Ok(p),
+        Cover::Ranges => match width_at(t, x.from as usize, x.to as usize) {
+            Value::Known(v) => Ok(report_gap(t, v, start, name, buf, p, write)),
+            Value::Missing => Ok(p),
+            Value::Outside => Err(Outside),
         },
     }
 }
 
 // The outputs, in the order of their first lines; the conflicts stand in their table.
-fn report_coverage(
-    text: &[u8],
-    names: &[u32],
-    used: usize,
-    own: &[u32],
-    m: u32,
-    buf: &mut [u8],
-    p: Place,
-    write: bool,
-) -> Covered
-    ensures { length own.now ≡ places → (os : List Output) → Ports text.now (own_of own.now).outputs os
+fn report_coverage(t: &Tables, buf: &mut [u8], p: Place, write: bool) -> Result<Place, Outside>
+    ensures { length t.now.own.now ≡ places → (os : List Output) → Ports t.now.text.now (own_of t.now.own.now).outputs os
         → Reported result write buf.old p
-        (widths_out (names_of names.now used) (poisoned_names (own_of own.now)) (own_of own.now).sites os)
-        (output_reports m (names_of names.now used) (poisoned_names (own_of own.now)) (own_of own.now).sites os)
+        (widths_out (names_of t.now.names.now t.now.used) (poisoned_names (own_of t.now.own.now)) (own_of t.now.own.now).sites os)
+        (output_reports t.now.m (names_of t.now.names.now t.now.used) (poisoned_names (own_of t.now.own.now)) (own_of t.now.own.now).sites os)
         buf.new }
 {
-    let n = sites::output_count(own);
+    let n = sites::output_count(t.own);
     let mut q = p;
-    let mut i: usize = 0;
-    while i < n {
-        let x = sites::output_at(own, i);
-        match report_output(text, names, used, own, x, m, buf, q, write) {
-            Covered::Done(r) => {
-                q = r;
-                i += 1;
-                continue;
-            }
-            Covered::Outside => return Covered::Outside,
-        }
+    for i in 0..n {
+        let x = sites::output_at(t.own, i);
+        q = report_output(t, x, buf, q, write)?;
     }
-    Covered::Done(q)
+    Ok(q)
 }
 
-// What is said of a register: one that is not poisoned has one block.
-fn report_reg(
-    own: &[u32],
-    m: u32,
-    start: u32,
-    name: u32,
+// What is said of a register or a memory with these blocks: a register has one, a memory at most one.
+fn blocks_detail(kind: Storage, b: Blocks) -> Option<Detail>
+    ensures { result ≡ said_by kind b }
+{
+    match b {
+        Blocks::None => match kind {
+            Storage::Reg => Some(Detail::NoBlock),
+            Storage::Mem => None,
+        },
+        Blocks::One => None,
+        Blocks::Several => match kind {
+            Storage::Reg => Some(Detail::Blocks),
+            Storage::Mem => Some(Detail::MemBlocks),
+        },
+    }
+}
+
+// What is said of a register or a memory, if it is not poisoned.
+fn report_storage(
+    kind: Storage,
+    t: &Tables,
+    x: Line,
     buf: &mut [u8],
     p: Place,
     write: bool,
 ) -> Place
-    ensures { length own.now ≡ places
-        → Emits write buf.old p (storage_reports (reg_report m) (poisoned_names (own_of own.now)) (own_of own.now).pairs
-        (record { name = name; start = start } ∷ [])) buf.new result }
+    ensures { length t.now.own.now ≡ places
+        → Emits write buf.old p (storage_reports (report_by kind t.now.m) (poisoned_names (own_of t.now.own.now)) (own_of t.now.own.now).pairs
+        (storage_of x ∷ [])) buf.new result }
 {
-    if sites::poisoned(own, name) {
+    if sites::poisoned(t.own, x.name) {
         return p;
     }
-    match sites::blocks_of(own, name) {
-        Blocks::None => say(buf, p, write, m, start, name, Detail::NoBlock),
-        Blocks::One => p,
-        Blocks::Several => say(buf, p, write, m, start, name, Detail::Blocks),
+    match blocks_detail(kind, sites::blocks_of(t.own, x.name)) {
+        Some(detail) => say(buf, p, write, t.m, x.start, x.name, detail),
+        None => p,
     }
 }
 
-// The registers, in the order of their first lines.
-fn report_reg_blocks(own: &[u32], m: u32, buf: &mut [u8], p: Place, write: bool) -> Place
-    ensures { length own.now ≡ places
-        → Emits write buf.old p (storage_reports (reg_report m) (poisoned_names (own_of own.now)) (own_of own.now).pairs
-        (own_of own.now).regs) buf.new result }
+// How many registers or memories there are.
+fn storage_count(kind: Storage, own: &[u32]) -> usize
+    ensures value { length own.now ≡ places → result ≡ rows_in (table_by kind) own.now }
+    ensures upper_bound { result ≤ names }
 {
-    let n = sites::reg_count(own);
+    match kind {
+        Storage::Reg => sites::reg_count(own),
+        Storage::Mem => sites::mem_count(own),
+    }
+}
+
+// The register or the memory in row i.
+fn storage_at(kind: Storage, own: &[u32], i: usize) -> Line
+    ensures { length own.now ≡ places → i < names → storage_of result ≡ storage_from (row (table_by kind) own.now i) }
+{
+    match kind {
+        Storage::Reg => sites::reg_at(own, i),
+        Storage::Mem => sites::mem_at(own, i),
+    }
+}
+
+// The registers or the memories, in the order of their first lines.
+fn report_blocks(kind: Storage, t: &Tables, buf: &mut [u8], p: Place, write: bool) -> Place
+    ensures { length t.now.own.now ≡ places
+        → Emits write buf.old p (storage_reports (report_by kind t.now.m) (poisoned_names (own_of t.now.own.now)) (own_of t.now.own.now).pairs
+        (stored_by kind (own_of t.now.own.now))) buf.new result }
+{
+    let n = storage_count(kind, t.own);
     let mut q = p;
-    let mut i: usize = 0;
-    while i < n {
-        let x = sites::reg_at(own, i);
-        q = report_reg(own, m, x.start, x.name, buf, q, write);
-        i += 1;
-    }
-    q
-}
-
-// What is said of a memory: one that is not poisoned has at most one block.
-fn report_mem(
-    own: &[u32],
-    m: u32,
-    start: u32,
-    name: u32,
-    buf: &mut [u8],
-    p: Place,
-    write: bool,
-) -> Place
-    ensures { length own.now ≡ places
-        → Emits write buf.old p (storage_reports (mem_report m) (poisoned_names (own_of own.now)) (own_of own.now).pairs
-        (record { name = name; start = start } ∷ [])) buf.new result }
-{
-    if sites::poisoned(own, name) {
-        return p;
-    }
-    match sites::blocks_of(own, name) {
-        Blocks::None => p,
-        Blocks::One => p,
-        Blocks::Several => say(buf, p, write, m, start, name, Detail::MemBlocks),
-    }
-}
-
-// The memories, in the order of their first lines.
-fn report_mem_blocks(own: &[u32], m: u32, buf: &mut [u8], p: Place, write: bool) -> Place
-    ensures { length own.now ≡ places
-        → Emits write buf.old p (storage_reports (mem_report m) (poisoned_names (own_of own.now)) (own_of own.now).pairs
-        (own_of own.now).mems) buf.new result }
-{
-    let n = sites::mem_count(own);
-    let mut q = p;
-    let mut i: usize = 0;
-    while i < n {
-        let x = sites::mem_at(own, i);
-        q = report_mem(own, m, x.start, x.name, buf, q, write);
-        i += 1;
+    for i in 0..n {
+        let x = storage_at(kind, t.own, i);
+        q = report_storage(kind, t, x, buf, q, write);
     }
     q
 }
@@ -330,22 +301,24 @@ pub(crate) fn report_module(
     buf: &mut [u8],
     p: Place,
     write: bool,
-) -> Covered
+) -> Result<Place, Outside>
     ensures reported { (o : Own) (hs : List Head) → Held text.now own.old o → Stands g.now hs → Roomy w.old
         → Reported result write buf.old p (widths_out (names_of names.now used) (poison o) o.sites o.outputs)
         (own_reports m (names_of names.now used) o hs) buf.new }
     ensures held { (o : Own) → Held text.now own.old o → Held text.now own.new o }
 {
     sites::find_conflicts(own);
-    let a = report_misuses(own, m, buf, p, write);
-    let b = report_conflicts(own, m, buf, a, write);
-    match report_coverage(text, names, used, own, m, buf, b, write) {
-        Covered::Done(c) => {
-            let d = report_reg_blocks(own, m, buf, c, write);
-            let e = report_mem_blocks(own, m, buf, d, write);
-            let q = loops::report_loops(g, w, m, buf, e, write);
-            Covered::Done(q)
-        }
-        Covered::Outside => Covered::Outside,
-    }
+    let t = Tables {
+        text,
+        names,
+        used,
+        own,
+        m,
+    };
+    let a = report_misuses(&t, buf, p, write);
+    let b = report_conflicts(&t, buf, a, write);
+    let c = report_coverage(&t, buf, b, write)?;
+    let d = report_blocks(Storage::Reg, &t, buf, c, write);
+    let e = report_blocks(Storage::Mem, &t, buf, d, write);
+    Ok(loops::report_loops(g, w, m, buf, e, write))
 }

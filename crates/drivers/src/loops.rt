@@ -11,7 +11,7 @@ ghost use Rattle.drivers.specs.Emits.{Appends, Emits};
 ghost use Rattle.drivers.specs.Loops.{node_bytes, path_report};
 
 use crate::emit;
-use crate::emit::Place;
+use crate::emit::{Piece, Place};
 
 // More reports than any search gives: one for each of 512 roots, and for each of 512 nodes one more than it has next nodes.
 const REPORTS: u32 = 263168;
@@ -40,7 +40,7 @@ fn emit_node(g: &[u32], i: u32, buf: &mut [u8], p: Place, write: bool) -> Place
     ensures { Appends write buf.old p (node_bytes (table.node_at g.now i)) 0 buf.new result }
 {
     let n = walk_node(graph::node_of(g, i));
-    emit::emit_walk_node(buf, p, write, n)
+    emit::emit(buf, p, write, Piece::WalkNode(n))
 }
 
 // The report of the path from one place to before another, and its first node again.
@@ -57,14 +57,12 @@ fn report_loop(
     ensures { Emits write buf.old p (path_report m g.now w.now from to ∷ []) buf.new result }
 {
     let first = graph::path_node(w, from);
-    let mut q = emit::emit_walk_head(buf, p, write, m, graph::start_of(g, first));
-    let mut i = from;
-    while i < to {
+    let mut q = emit::emit(buf, p, write, Piece::WalkHead(m, graph::start_of(g, first)));
+    for i in from..to {
         q = emit_node(g, graph::path_node(w, i), buf, q, write);
-        i += 1;
     }
     let r = emit_node(g, first, buf, q, write);
-    emit::emit_walk_tail(buf, r, write)
+    emit::emit(buf, r, write, Piece::WalkTail)
 }
 
 // The reports of the graph's closed walks, in order.
@@ -81,14 +79,11 @@ pub(crate) fn report_loops(
 {
     graph::begin(g, w);
     let mut q = p;
-    let mut left = REPORTS;
-    while 0 < left {
-        left -= 1;
+    for turn in 0..REPORTS {
         match graph::next_cycle(g, w) {
             None => return q,
             Some(c) => {
                 q = report_loop(g, w, m, c.from, c.to, buf, q, write);
-                continue;
             }
         }
     }

@@ -1,4 +1,6 @@
 use native.Mathlib.Omega.{arith}
+use Rattle.drivers.specs.Check.{FewRounds}
+use Rattle.drivers.proofs.Handed.{handed_on}
 use Rattle.drivers.proofs.CheckLaws.{few_left, one_full, one_wide, one_done}
 use Rattle.drivers.proofs.check.check_module_drivers.Goals as goal
 
@@ -11,14 +13,14 @@ returns-in-Full-clause-tallied c = λ x kept C. one_full C c.collect_module.new.
 pub returns-in-Full-clause-few_rounds : goal.returns-in-Full-clause-few_rounds
 returns-in-Full-clause-few_rounds c = tt
 
-pub returns-in-Outside-clause-tallied : goal.returns-in-Outside-clause-tallied
-returns-in-Outside-clause-tallied c = λ x kept C. one_wide C c.collect_module.new.names c.collect_module.new.own c.collect_module.new.g c.collect_module.new.k c.collect_module.result c.collect_module.ensures.collects c.in-Left.is c.report_module.result c.args.write c.args.buf.now c.args.p c.report_module.new.buf c.report_module.ensures.reported c.in-Outside.is
+pub returns-in_err-next-in-Left-clause-tallied : goal.returns-in_err-next-in-Left-clause-tallied
+returns-in_err-next-in-Left-clause-tallied c = λ x kept C. one_wide C c.collect_module.new.names c.collect_module.new.own c.collect_module.new.g c.collect_module.new.k c.collect_module.result c.collect_module.ensures.collects c.in-Left.is c.report_module.result c.args.write c.args.buf.now c.args.p c.report_module.new.buf c.report_module.ensures.reported c.in_err-next-in-Left.was c.from_residual.result c.from_residual.ensures.0
 
-pub returns-in-Outside-clause-few_rounds : goal.returns-in-Outside-clause-few_rounds
-returns-in-Outside-clause-few_rounds c = tt
+pub returns-in_err-next-in-Left-clause-few_rounds : goal.returns-in_err-next-in-Left-clause-few_rounds
+returns-in_err-next-in-Left-clause-few_rounds c = handed_on FewRounds (λ _. tt) c.from_residual.result c.from_residual.ensures.0
 
-pub returns-in-Done-clause-tallied : goal.returns-in-Done-clause-tallied
-returns-in-Done-clause-tallied c = λ x kept C. one_done C c.collect_module.new.names c.collect_module.new.own c.collect_module.new.g c.collect_module.new.k c.collect_module.result c.collect_module.ensures.collects c.in-Left.is c.report_module.result c.args.write c.args.buf.now c.args.p c.report_module.new.buf c.report_module.ensures.reported c.in-Done.is
+pub returns-in_ok-next-in-Left-clause-tallied : goal.returns-in_ok-next-in-Left-clause-tallied
+returns-in_ok-next-in-Left-clause-tallied c = λ x kept C. one_done C c.collect_module.new.names c.collect_module.new.own c.collect_module.new.g c.collect_module.new.k c.collect_module.result c.collect_module.ensures.collects c.in-Left.is c.report_module.result c.args.write c.args.buf.now c.args.p c.report_module.new.buf c.report_module.ensures.reported c.in_ok-next-in-Left.was
 
-pub returns-in-Done-clause-few_rounds : goal.returns-in-Done-clause-few_rounds
-returns-in-Done-clause-few_rounds c = omega arith
+pub returns-in_ok-next-in-Left-clause-few_rounds : goal.returns-in_ok-next-in-Left-clause-few_rounds
+returns-in_ok-next-in-Left-clause-few_rounds c = omega arith

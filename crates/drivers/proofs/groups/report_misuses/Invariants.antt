@@ -1,5 +1,4 @@
 use mathlib.Core.Path.{◌≡◌}
-use Prim.Native.Nat.{◌-◌}
 use lib.ListN.{length}
 use Rattle.sites.specs.Own.{places}
 use Rattle.drivers.proofs.EmitLaws.{Emitting}
@@ -7,7 +6,4 @@ use Rattle.drivers.proofs.GroupLaws.{misuses_left}
 use Rattle.drivers.proofs.groups.report_misuses.Given as goal
 
 abbrev pub invariant-loop-i : goal.invariant-loop-i
-invariant-loop-i l = (length l.own ≡ places → Emitting l.write l.initial.buf l.initial.q (misuses_left l.own l.m l.n l.initial.i) (misuses_left l.own l.m l.n l.i) l.buf l.q) × (length l.buf ≡ length l.initial.buf)
-
-abbrev pub decreases-loop-i : goal.decreases-loop-i
-decreases-loop-i l = l.n - l.i
+invariant-loop-i l = (length l.t.own.now ≡ places → Emitting l.write l.initial.buf l.initial.q (misuses_left l.t.own.now l.t.m l.n l.initial.i) (misuses_left l.t.own.now l.t.m l.n l.i) l.buf l.q) × (length l.buf ≡ length l.initial.buf)

@@ -4,19 +4,19 @@ use Rattle.drivers.proofs.CoverLaws.{output_kept, output_undriven, output_free, 
 use Rattle.drivers.proofs.groups.report_output.Goals as goal
 
 pub returns-then-poisoned : goal.returns-then-poisoned
-returns-then-poisoned c = λ l o k. output_kept c.args.own.now (names_of c.args.names.now c.args.used) c.args.m o k.name k.start (c.poisoned.ensures.value l) c.if-poisoned.true
+returns-then-poisoned c = λ l o k. output_kept c.args.t.now.own.now (names_of c.args.t.now.names.now c.args.t.now.used) c.args.t.now.m o k.name k.start (c.poisoned.ensures.value l) c.if-poisoned.true
 
 pub returns-in-Never : goal.returns-in-Never
-returns-in-Never c = λ l o k. output_undriven c.args.own.now (names_of c.args.names.now c.args.used) c.args.m o k.name k.start (c.poisoned.ensures.value l) c.if-poisoned.false (c.cover_of.ensures.value l) c.in-Never.is c.say-q.ensures
+returns-in-Never c = λ l o k. output_undriven c.args.t.now.own.now (names_of c.args.t.now.names.now c.args.t.now.used) c.args.t.now.m o k.name k.start (c.poisoned.ensures.value l) c.if-poisoned.false (c.cover_of.ensures.value l) c.in-Never.is c.say.ensures
 
 pub returns-in-Open : goal.returns-in-Open
-returns-in-Open c = λ l o k. output_free c.args.own.now (names_of c.args.names.now c.args.used) c.args.m o k.name k.start (c.poisoned.ensures.value l) c.if-poisoned.false (c.cover_of.ensures.value l) c.in-Open.is
+returns-in-Open c = λ l o k. output_free c.args.t.now.own.now (names_of c.args.t.now.names.now c.args.t.now.used) c.args.t.now.m o k.name k.start (c.poisoned.ensures.value l) c.if-poisoned.false (c.cover_of.ensures.value l) c.in-Open.is
 
 pub returns-in-Known : goal.returns-in-Known
-returns-in-Known c = λ l o k. output_known c.args.own.now (names_of c.args.names.now c.args.used) c.args.m o k.name k.start (c.poisoned.ensures.value l) c.if-poisoned.false (c.cover_of.ensures.value l) c.in-Ranges.is (c.width_at.ensures o.width k.inside.0 k.inside.1 k.width k.deep) c.in-Known.v (ap worth c.in-Known.is) (c.report_gap-q.ensures l o (sym k.name) (sym k.start))
+returns-in-Known c = λ l o k. output_known c.args.t.now.own.now (names_of c.args.t.now.names.now c.args.t.now.used) c.args.t.now.m o k.name k.start (c.poisoned.ensures.value l) c.if-poisoned.false (c.cover_of.ensures.value l) c.in-Ranges.is (c.width_at.ensures o.width k.inside.0 k.inside.1 k.width k.deep) c.in-Known.v (ap worth c.in-Known.is) (c.report_gap.ensures l o (sym k.name) (sym k.start))
 
 pub returns-in-Missing : goal.returns-in-Missing
-returns-in-Missing c = λ l o k. output_unknown c.args.own.now (names_of c.args.names.now c.args.used) c.args.m o k.name k.start (c.poisoned.ensures.value l) c.if-poisoned.false (c.cover_of.ensures.value l) c.in-Ranges.is (c.width_at.ensures o.width k.inside.0 k.inside.1 k.width k.deep) (ap worth c.in-Missing.is)
+returns-in-Missing c = λ l o k. output_unknown c.args.t.now.own.now (names_of c.args.t.now.names.now c.args.t.now.used) c.args.t.now.m o k.name k.start (c.poisoned.ensures.value l) c.if-poisoned.false (c.cover_of.ensures.value l) c.in-Ranges.is (c.width_at.ensures o.width k.inside.0 k.inside.1 k.width k.deep) (ap worth c.in-Missing.is)
 
 pub returns-in-Outside : goal.returns-in-Outside
-returns-in-Outside c = λ l o k. output_outside c.args.own.now (names_of c.args.names.now c.args.used) c.args.m o k.name k.start (c.poisoned.ensures.value l) c.if-poisoned.false (c.cover_of.ensures.value l) c.in-Ranges.is (c.width_at.ensures o.width k.inside.0 k.inside.1 k.width k.deep) (ap worth c.in-Outside.is)
+returns-in-Outside c = λ l o k. output_outside c.args.t.now.own.now (names_of c.args.t.now.names.now c.args.t.now.used) c.args.t.now.m o k.name k.start (c.poisoned.ensures.value l) c.if-poisoned.false (c.cover_of.ensures.value l) c.in-Ranges.is (c.width_at.ensures o.width k.inside.0 k.inside.1 k.width k.deep) (ap worth c.in-Outside.is)
