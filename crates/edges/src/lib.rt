@@ -37,13 +37,6 @@ fn name_read(kinds: &[u8], n: u32, g: &mut [u32], from: u32) -> bool
     }
 }
 
-// The name that an expression is, if it is one.
-#[derive(Clone, Copy)]
-enum Named {
-    Is(u32),
-    Not,
-}
-
 // Does x begin with a bracket and then the letter a?
 fn opens(x: &[u8], a: u8) -> bool
     ensures { result ≡ opens x.now a }
@@ -54,34 +47,34 @@ fn opens(x: &[u8], a: u8) -> bool
     parts::byte(x, 1) == a
 }
 
-// Is the expression x a name? By the first bytes of a form.
-fn name_of(x: &[u8]) -> Named
+// The name that the expression x is, if it is one. By the first bytes of a form.
+fn name_of(x: &[u8]) -> Option<u32>
     ensures { result ≡ name_of x.now }
 {
     if !opens(x, b'n') {
-        return Named::Not;
+        return None;
     }
     if !is_space(parts::byte(x, 2)) {
-        return Named::Not;
+        return None;
     }
     let a = parts::part_end(x, 3);
     let v = numbers::value(parts::between(x, 2, a));
     if 4294967295 < v {
-        return Named::Not;
+        return None;
     }
-    Named::Is(v as u32)
+    Some(v as u32)
 }
 
 // The name that the expression x is an index of, if it is one of a name. By the first bytes of a form.
 #[tactic(auto, using(crate::proofs::FieldLaws::no_form, crate::proofs::FieldLaws::no_x, crate::proofs::FieldLaws::index_here))]
-fn indexed_name(x: &[u8]) -> Named
+fn indexed_name(x: &[u8]) -> Option<u32>
     ensures { result ≡ indexed_name x.now }
 {
     if !opens(x, b'i') {
-        return Named::Not;
+        return None;
     }
     if parts::byte(x, 2) != b'x' {
-        return Named::Not;
+        return None;
     }
     let a = parts::part_end(x, 4);
     name_of(parts::between(x, 3, a))
@@ -111,20 +104,20 @@ fn field_of(x: &[u8], kinds: &[u8]) -> FieldOf
     ensures { result ≡ field_by kinds.now x.now }
 {
     match name_of(x) {
-        Named::Is(i) => {
+        Some(i) => {
             if is_inst(kinds, i) {
                 return FieldOf::Inst(i);
             }
             FieldOf::Other
         }
-        Named::Not => match indexed_name(x) {
-            Named::Is(i) => {
+        None => match indexed_name(x) {
+            Some(i) => {
                 if is_inst(kinds, i) {
                     return FieldOf::InstAt(i);
                 }
                 FieldOf::Other
             }
-            Named::Not => FieldOf::Other,
+            None => FieldOf::Other,
         },
     }
 }
@@ -244,8 +237,8 @@ fn expr_reads(
         return true;
     }
     match name_of(e) {
-        Named::Is(n) => name_read(kinds, n, g, from),
-        Named::Not => {
+        Some(n) => name_read(kinds, n, g, from),
+        None => {
             if depth == 0 {
                 return true;
             }
@@ -418,13 +411,11 @@ fn has_output(w: &[u32], first: usize, count: usize, o: u32) -> bool
     ensures { result ≡ has_output o (summary_at w.now first count) }
 {
     let mut p = first;
-    let mut left = count;
-    while 0 < left {
+    for left in (0..count).rev() {
         if o == word(w, p) {
             return true;
         }
         p = next_pair(w, p);
-        left -= 1;
     }
     false
 }
@@ -434,13 +425,11 @@ fn reaches(w: &[u32], first: usize, count: usize, o: u32, i: u32) -> bool
     ensures { result ≡ reaches o i (summary_at w.now first count) }
 {
     let mut p = first;
-    let mut left = count;
-    while 0 < left {
+    for left in (0..count).rev() {
         if is_pair(w, p, o, i) {
             return true;
         }
         p = next_pair(w, p);
-        left -= 1;
     }
     false
 }
@@ -577,11 +566,9 @@ pub fn inst_heads(
     ensures g_len_unchanged { length g.new ≡ length g.old }
 {
     let mut p = first;
-    let mut left = count;
-    while 0 < left {
+    for left in (0..count).rev() {
         let o = word(w, p);
         p = next_pair(w, p);
-        left -= 1;
         if has_output(w, p, left, o) {
             continue;
         }

@@ -18,28 +18,28 @@ pub expr_reads-returns-then-not-is_open-clause-reads_or_cleared : goal.expr_read
 expr_reads-returns-then-not-is_open-clause-reads_or_cleared t c = reads_none c.args.from c.args.g.now (reads_atom c.args.e.now c.args.kinds.now (names_of c.args.names.now c.args.used) c.args.depth (byte_not _ _ _ 40 c.is_open.ensures c.byte.ensures c.if-not-is_open.true))
 
 pub expr_reads-returns-then-depth-eq0-clause-expr_read : goal.expr_reads-returns-then-depth-eq0-clause-expr_read
-expr_reads-returns-then-depth-eq0-clause-expr_read t c = expr_shut c.args.e.now c.args.depth c.args.kinds.now (names_of c.args.names.now c.args.used) c.args.g.now c.args.from c.name_of.result c.name_of.ensures (byte_is _ _ _ 40 c.is_open.ensures c.byte.ensures c.if-not-is_open.false) c.in-Not.is c.if-depth-eq0.true
+expr_reads-returns-then-depth-eq0-clause-expr_read t c = expr_shut c.args.e.now c.args.depth c.args.kinds.now (names_of c.args.names.now c.args.used) c.args.g.now c.args.from c.name_of.result c.name_of.ensures (byte_is _ _ _ 40 c.is_open.ensures c.byte.ensures c.if-not-is_open.false) c.in-None.is c.if-depth-eq0.true
 
 pub expr_reads-returns-then-depth-eq0-clause-reads_or_cleared : goal.expr_reads-returns-then-depth-eq0-clause-reads_or_cleared
-expr_reads-returns-then-depth-eq0-clause-reads_or_cleared t c = reads_none c.args.from c.args.g.now (reads_shut c.args.e.now c.args.kinds.now (names_of c.args.names.now c.args.used) (byte_is _ _ _ 40 c.is_open.ensures c.byte.ensures c.if-not-is_open.false) c.name_of.result c.name_of.ensures c.in-Not.is c.args.depth c.if-depth-eq0.true)
+expr_reads-returns-then-depth-eq0-clause-reads_or_cleared t c = reads_none c.args.from c.args.g.now (reads_shut c.args.e.now c.args.kinds.now (names_of c.args.names.now c.args.used) (byte_is _ _ _ 40 c.is_open.ensures c.byte.ensures c.if-not-is_open.false) c.name_of.result c.name_of.ensures c.in-None.is c.args.depth c.if-depth-eq0.true)
 
 pub expr_reads-returns-then-byte-eq102-clause-expr_read : goal.expr_reads-returns-then-byte-eq102-clause-expr_read
-expr_reads-returns-then-byte-eq102-clause-expr_read t c = expr_field c.args.e.now c.args.depth c.args.kinds.now (names_of c.args.names.now c.args.used) c.args.g.now c.args.from c.name_of.result c.name_of.ensures (byte_is _ _ _ 40 c.is_open.ensures c.byte.ensures c.if-not-is_open.false) c.in-Not.is (sym c.byte-in-Not.ensures ∙ c.if-byte-eq102.true) c.field_reads.result _ c.field_reads.ensures.field_read
+expr_reads-returns-then-byte-eq102-clause-expr_read t c = expr_field c.args.e.now c.args.depth c.args.kinds.now (names_of c.args.names.now c.args.used) c.args.g.now c.args.from c.name_of.result c.name_of.ensures (byte_is _ _ _ 40 c.is_open.ensures c.byte.ensures c.if-not-is_open.false) c.in-None.is (sym c.byte-in-None.ensures ∙ c.if-byte-eq102.true) c.field_reads.result _ c.field_reads.ensures.field_read
 
 pub expr_reads-returns-then-byte-eq102-clause-reads_or_cleared : goal.expr_reads-returns-then-byte-eq102-clause-reads_or_cleared
-expr_reads-returns-then-byte-eq102-clause-reads_or_cleared t c = reads_as c.args.from c.args.g.now (reads_field c.args.e.now c.args.kinds.now (names_of c.args.names.now c.args.used) (byte_is _ _ _ 40 c.is_open.ensures c.byte.ensures c.if-not-is_open.false) c.name_of.result c.name_of.ensures c.in-Not.is c.args.depth c.if-depth-eq0.false (sym c.byte-in-Not.ensures ∙ c.if-byte-eq102.true)) c.field_reads.result _ c.field_reads.ensures.reads_or_cleared
+expr_reads-returns-then-byte-eq102-clause-reads_or_cleared t c = reads_as c.args.from c.args.g.now (reads_field c.args.e.now c.args.kinds.now (names_of c.args.names.now c.args.used) (byte_is _ _ _ 40 c.is_open.ensures c.byte.ensures c.if-not-is_open.false) c.name_of.result c.name_of.ensures c.in-None.is c.args.depth c.if-depth-eq0.false (sym c.byte-in-None.ensures ∙ c.if-byte-eq102.true)) c.field_reads.result _ c.field_reads.ensures.reads_or_cleared
 
-pub expr_reads-returns-in-Is-clause-expr_read : goal.expr_reads-returns-in-Is-clause-expr_read
-expr_reads-returns-in-Is-clause-expr_read t c = expr_name c.args.e.now c.args.depth c.args.kinds.now (names_of c.args.names.now c.args.used) c.args.g.now c.args.from c.name_of.result c.name_of.ensures c.in-Is.is c.name_read.result _ c.name_read.ensures.name_read
+pub expr_reads-returns-in-Some-clause-expr_read : goal.expr_reads-returns-in-Some-clause-expr_read
+expr_reads-returns-in-Some-clause-expr_read t c = expr_name c.args.e.now c.args.depth c.args.kinds.now (names_of c.args.names.now c.args.used) c.args.g.now c.args.from c.name_of.result c.name_of.ensures c.in-Some.is c.name_read.result _ c.name_read.ensures.name_read
 
-pub expr_reads-returns-in-Is-clause-reads_or_cleared : goal.expr_reads-returns-in-Is-clause-reads_or_cleared
-expr_reads-returns-in-Is-clause-reads_or_cleared t c = reads_as c.args.from c.args.g.now (reads_name c.args.e.now c.args.kinds.now (names_of c.args.names.now c.args.used) (byte_is _ _ _ 40 c.is_open.ensures c.byte.ensures c.if-not-is_open.false) c.name_of.result c.name_of.ensures c.args.depth c.in-Is.is) c.name_read.result _ c.name_read.ensures.reads_or_cleared
+pub expr_reads-returns-in-Some-clause-reads_or_cleared : goal.expr_reads-returns-in-Some-clause-reads_or_cleared
+expr_reads-returns-in-Some-clause-reads_or_cleared t c = reads_as c.args.from c.args.g.now (reads_name c.args.e.now c.args.kinds.now (names_of c.args.names.now c.args.used) (byte_is _ _ _ 40 c.is_open.ensures c.byte.ensures c.if-not-is_open.false) c.name_of.result c.name_of.ensures c.args.depth c.in-Some.is) c.name_read.result _ c.name_read.ensures.reads_or_cleared
 
 pub expr_reads-returns-else-byte-eq102-clause-expr_read : goal.expr_reads-returns-else-byte-eq102-clause-expr_read
-expr_reads-returns-else-byte-eq102-clause-expr_read t c = expr_parts c.args.e.now c.args.depth c.args.kinds.now (names_of c.args.names.now c.args.used) c.args.g.now c.args.from c.name_of.result c.name_of.ensures (byte_is _ _ _ 40 c.is_open.ensures c.byte.ensures c.if-not-is_open.false) c.in-Not.is (λ e. c.if-byte-eq102.false (c.byte-in-Not.ensures ∙ e)) c.part_end-a.ensures c.parts_read.result _ c.parts_read.ensures.parts_read
+expr_reads-returns-else-byte-eq102-clause-expr_read t c = expr_parts c.args.e.now c.args.depth c.args.kinds.now (names_of c.args.names.now c.args.used) c.args.g.now c.args.from c.name_of.result c.name_of.ensures (byte_is _ _ _ 40 c.is_open.ensures c.byte.ensures c.if-not-is_open.false) c.in-None.is (λ e. c.if-byte-eq102.false (c.byte-in-None.ensures ∙ e)) c.part_end-a.ensures c.parts_read.result _ c.parts_read.ensures.parts_read
 
 pub expr_reads-returns-else-byte-eq102-clause-reads_or_cleared : goal.expr_reads-returns-else-byte-eq102-clause-reads_or_cleared
-expr_reads-returns-else-byte-eq102-clause-reads_or_cleared t c = reads_as c.args.from c.args.g.now (reads_parts c.args.e.now c.args.kinds.now (names_of c.args.names.now c.args.used) (byte_is _ _ _ 40 c.is_open.ensures c.byte.ensures c.if-not-is_open.false) c.name_of.result c.name_of.ensures c.in-Not.is c.args.depth c.if-depth-eq0.false (λ e. c.if-byte-eq102.false (c.byte-in-Not.ensures ∙ e)) c.part_end-a.ensures) c.parts_read.result _ c.parts_read.ensures.reads_or_cleared
+expr_reads-returns-else-byte-eq102-clause-reads_or_cleared t c = reads_as c.args.from c.args.g.now (reads_parts c.args.e.now c.args.kinds.now (names_of c.args.names.now c.args.used) (byte_is _ _ _ 40 c.is_open.ensures c.byte.ensures c.if-not-is_open.false) c.name_of.result c.name_of.ensures c.in-None.is c.args.depth c.if-depth-eq0.false (λ e. c.if-byte-eq102.false (c.byte-in-None.ensures ∙ e)) c.part_end-a.ensures) c.parts_read.result _ c.parts_read.ensures.reads_or_cleared
 
 pub field_reads-returns-in-Inst-clause-field_read : goal.field_reads-returns-in-Inst-clause-field_read
 field_reads-returns-in-Inst-clause-field_read t c = field_output c.args.e.now c.args.depth c.args.kinds.now (names_of c.args.names.now c.args.used) c.args.g.now c.args.from c.next_end-a.ensures c.between-x.ensures c.next_end.ensures c.number_at-p.ensures c.field_of.result (field_says c.between-x.result.now c.args.kinds.now c.field_of.ensures) c.in-Inst.is c.output_read.result _ c.output_read.ensures.nodes_read

@@ -5,6 +5,3 @@ use Rattle.edges.proofs.has_output.Given as goal
 
 abbrev pub invariant-loop-left : goal.invariant-loop-left
 invariant-loop-left l = has_output l.o (summary_at l.w l.p l.left) ≡ has_output l.o (summary_at l.w l.first l.count)
-
-abbrev pub decreases-loop-left : goal.decreases-loop-left
-decreases-loop-left l = l.left

@@ -1,4 +1,3 @@
-use native.Mathlib.Omega.{arith}
 use mathlib.Core.Path.{refl, ◌∙◌}
 use mathlib.Core.Bool.{true, false}
 use Rattle.consteval.specs.Worth.{names_of, worth}
@@ -12,9 +11,6 @@ use Rattle.edges.proofs.inst_heads.Goals as goal
 pub loop-left-init : goal.loop-left-init
 loop-left-init c = ((refl, λ r g' h. h), λ r g' h. outputs_all (worth c.args.index) (summary_at c.args.w.now c.args.first c.args.count) c.args.x.now c.args.depth c.args.kinds.now (names_of c.args.names.now c.args.used) r c.args.g.now g' h)
 
-pub loop-left-smaller-then-has_output : goal.loop-left-smaller-then-has_output
-loop-left-smaller-then-has_output c = omega arith
-
 pub loop-left-preserved-then-has_output : goal.loop-left-preserved-then-has_output
 loop-left-preserved-then-has_output c = ((c.loop-left.invariant.0.0, λ r g' h. c.loop-left.invariant.0.1 r g' (leave_later (inst_reads c.args.kinds.now (names_of c.args.names.now c.args.used) (summary_at c.args.w.now c.args.first c.args.count) c.args.depth c.args.x.now) (worth c.args.index) c.args.x.now (pair_word c.args.w.now c.loop-left.p c.loop-left.left c.loop-left-test.true c.next_pair-p.result c.next_pair-p.ensures c.word-o.ensures) c.has_output.ensures c.loop-left.g c.if-has_output.true r g' h)), λ r g' h. c.loop-left.invariant.1 r g' (outputs_later (worth c.args.index) (summary_at c.args.w.now c.args.first c.args.count) c.args.x.now c.args.depth c.args.kinds.now (names_of c.args.names.now c.args.used) (pair_word c.args.w.now c.loop-left.p c.loop-left.left c.loop-left-test.true c.next_pair-p.result c.next_pair-p.ensures c.word-o.ensures) c.has_output.ensures c.if-has_output.true r c.loop-left.g g' h))
 
@@ -23,9 +19,6 @@ returns-then-not-output_head-clause-inst_leaves c = c.loop-left.invariant.0.1 fa
 
 pub returns-then-not-output_head-clause-inst_heads : goal.returns-then-not-output_head-clause-inst_heads
 returns-then-not-output_head-clause-inst_heads c = c.loop-left.invariant.1 false c.output_head.new.g (outputs_stop (worth c.args.index) (summary_at c.args.w.now c.args.first c.args.count) c.args.x.now c.args.depth c.args.kinds.now (names_of c.args.names.now c.args.used) (pair_word c.args.w.now c.loop-left.p c.loop-left.left c.loop-left-test.true c.next_pair-p.result c.next_pair-p.ensures c.word-o.ensures) c.has_output.ensures c.if-has_output.false c.loop-left.g c.output_head.new.g c.output_head.result c.output_head.ensures.output_head c.if-not-output_head.true)
-
-pub loop-left-smaller : goal.loop-left-smaller
-loop-left-smaller c = omega arith
 
 pub loop-left-preserved : goal.loop-left-preserved
 loop-left-preserved c = ((c.output_head.auto.g ∙ c.loop-left.invariant.0.0, λ r g' h. c.loop-left.invariant.0.1 r g' (leave_more (inst_reads c.args.kinds.now (names_of c.args.names.now c.args.used) (summary_at c.args.w.now c.args.first c.args.count) c.args.depth c.args.x.now) (worth c.args.index) c.args.x.now (pair_word c.args.w.now c.loop-left.p c.loop-left.left c.loop-left-test.true c.next_pair-p.result c.next_pair-p.ensures c.word-o.ensures) c.has_output.ensures c.loop-left.g c.if-has_output.false c.output_head.new.g c.output_head.result c.output_head.ensures.output_leaves c.if-not-output_head.false c.output_head.auto.g r g' h)), λ r g' h. c.loop-left.invariant.1 r g' (outputs_more (worth c.args.index) (summary_at c.args.w.now c.args.first c.args.count) c.args.x.now c.args.depth c.args.kinds.now (names_of c.args.names.now c.args.used) (pair_word c.args.w.now c.loop-left.p c.loop-left.left c.loop-left-test.true c.next_pair-p.result c.next_pair-p.ensures c.word-o.ensures) c.has_output.ensures c.if-has_output.false c.loop-left.g c.output_head.new.g c.output_head.result c.output_head.ensures.output_head c.if-not-output_head.false r g' h))
