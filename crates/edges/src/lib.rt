@@ -1,7 +1,7 @@
 // What an expression reads, and what a line heads: into the graph of a module.
 #![tactic(auto)]
 
-ghost use Rattle.std.specs.Prelude.{◌≡◌, ◌+◌, ◌-◌, length, drop, get_or, eqb, ◌&&◌};
+ghost use Rattle.std.specs.Prelude.{◌≡◌, ◌+◌, ◌-◌, length, drop, get_or, eqb, ◌&&◌, is_ok};
 ghost use Rattle.std.proofs.Math.Option.{none};
 ghost use Rattle.spec.specs.Decode.{decode_expr};
 ghost use Rattle.spec.specs.Value.{value};
@@ -19,21 +19,25 @@ use graph::{Added, Node};
 use lines::bytes::{is_minus, is_open, is_space};
 use lines::{numbers, parts};
 
+// A limit is passed, or a constant is outside INT: the text is refused by the number 20.
+#[derive(Clone, Copy, Debug, PartialEq, Eq)]
+pub struct Stop;
+
 // The node `from`, which the last line headed, reads the name n, by its kind: false where a limit is passed, and then the graph is cleared.
-fn name_read(kinds: &[u8], n: u32, g: &mut [u32], from: u32) -> bool
-    ensures name_read { NameRead result n kinds.now g.old g.new from }
-    ensures reads_or_cleared { ReadsOrCleared result (name_reads (kind_word (get_or kinds.now n 0)) n) from g.old g.new }
+fn name_read(kinds: &[u8], n: u32, g: &mut [u32], from: u32) -> Result<(), Stop>
+    ensures name_read { NameRead (is_ok result) n kinds.now g.old g.new from }
+    ensures reads_or_cleared { ReadsOrCleared (is_ok result) (name_reads (kind_word (get_or kinds.now n 0)) n) from g.old g.new }
 {
     let k = parts::byte(kinds, n as usize);
     if k == 0 {
-        return true;
+        return Ok(());
     }
     if 3 < k {
-        return true;
+        return Ok(());
     }
     match graph::read(g, from, Node::Signal(n)) {
-        Added::At(_) => true,
-        Added::Full => false,
+        Added::At(_) => Ok(()),
+        Added::Full => Err(Stop),
     }
 }
 
@@ -123,13 +127,13 @@ fn field_of(x: &[u8], kinds: &[u8]) -> FieldOf
 }
 
 // The node `from` reads the output p of the instance i. At a limit the graph is cleared.
-fn output_read(i: u32, p: u32, g: &mut [u32], from: u32) -> bool
-    ensures nodes_read { NodesRead result (one_read (inst_out i none p)) g.old g.new from }
-    ensures reads_or_cleared { ReadsOrCleared result (one_read (inst_out i none p)) from g.old g.new }
+fn output_read(i: u32, p: u32, g: &mut [u32], from: u32) -> Result<(), Stop>
+    ensures nodes_read { NodesRead (is_ok result) (one_read (inst_out i none p)) g.old g.new from }
+    ensures reads_or_cleared { ReadsOrCleared (is_ok result) (one_read (inst_out i none p)) from g.old g.new }
 {
     match graph::read(g, from, Node::Output(i, p)) {
-        Added::At(_) => true,
-        Added::Full => false,
+        Added::At(_) => Ok(()),
+        Added::Full => Err(Stop),
     }
 }
 
@@ -143,20 +147,20 @@ fn index_read(
     used: usize,
     g: &mut [u32],
     from: u32,
-) -> bool
-    ensures nodes_read { NodesRead result (indexed_reads i (value (names_of names.now used) (decode_expr depth e.now)) p)
+) -> Result<(), Stop>
+    ensures nodes_read { NodesRead (is_ok result) (indexed_reads i (value (names_of names.now used) (decode_expr depth e.now)) p)
         g.old g.new from }
-    ensures reads_or_cleared { ReadsOrCleared result (indexed_reads i (value (names_of names.now used) (decode_expr depth e.now)) p) from g.old g.new }
+    ensures reads_or_cleared { ReadsOrCleared (is_ok result) (indexed_reads i (value (names_of names.now used) (decode_expr depth e.now)) p) from g.old g.new }
 {
     match consteval::eval(e, depth, names, used) {
         Value::Known(v) => match graph::read(g, from, Node::OutputAt(i, v, p)) {
-            Added::At(_) => true,
-            Added::Full => false,
+            Added::At(_) => Ok(()),
+            Added::Full => Err(Stop),
         },
-        Value::Missing => true,
+        Value::Missing => Ok(()),
         Value::Outside => {
             graph::clear(g);
-            false
+            Err(Stop)
         }
     }
 }
@@ -200,9 +204,9 @@ fn field_reads(
     used: usize,
     g: &mut [u32],
     from: u32,
-) -> bool
-    ensures field_read { FieldRead result e.now depth kinds.now (names_of names.now used) g.old g.new from }
-    ensures reads_or_cleared { ReadsOrCleared result (field_read (expr_read kinds.now (names_of names.now used) depth) kinds.now (names_of names.now used) depth e.now) from g.old g.new }
+) -> Result<(), Stop>
+    ensures field_read { FieldRead (is_ok result) e.now depth kinds.now (names_of names.now used) g.old g.new from }
+    ensures reads_or_cleared { ReadsOrCleared (is_ok result) (field_read (expr_read kinds.now (names_of names.now used) depth) kinds.now (names_of names.now used) depth e.now) from g.old g.new }
 {
     let a = next_end(e, 2);
     let x = parts::between(e, 2, a);
@@ -229,18 +233,18 @@ fn expr_reads(
     used: usize,
     g: &mut [u32],
     from: u32,
-) -> bool
-    ensures expr_read { ExprRead result e.now depth kinds.now (names_of names.now used) g.old g.new from }
-    ensures reads_or_cleared { ReadsOrCleared result (expr_read kinds.now (names_of names.now used) depth e.now) from g.old g.new }
+) -> Result<(), Stop>
+    ensures expr_read { ExprRead (is_ok result) e.now depth kinds.now (names_of names.now used) g.old g.new from }
+    ensures reads_or_cleared { ReadsOrCleared (is_ok result) (expr_read kinds.now (names_of names.now used) depth e.now) from g.old g.new }
 {
     if !is_open(parts::byte(e, 0)) {
-        return true;
+        return Ok(());
     }
     match name_of(e) {
         Some(n) => name_read(kinds, n, g, from),
         None => {
             if depth == 0 {
-                return true;
+                return Ok(());
             }
             if parts::byte(e, 1) == b'f' {
                 return field_reads(e, depth - 1, kinds, names, used, g, from);
@@ -262,19 +266,17 @@ fn parts_read(
     used: usize,
     g: &mut [u32],
     from: u32,
-) -> bool
-    ensures parts_read { PartsRead result (drop end e.now) depth kinds.now (names_of names.now used) g.old g.new from }
-    ensures reads_or_cleared { ReadsOrCleared result (parts_read kinds.now (names_of names.now used) depth e.now end) from g.old g.new }
+) -> Result<(), Stop>
+    ensures parts_read { PartsRead (is_ok result) (drop end e.now) depth kinds.now (names_of names.now used) g.old g.new from }
+    ensures reads_or_cleared { ReadsOrCleared (is_ok result) (parts_read kinds.now (names_of names.now used) depth e.now end) from g.old g.new }
 {
     let mut a = end;
     while parts::more(e, a) {
         let b = parts::part_end(e, a + 1);
-        if !expr_reads(parts::between(e, a, b), depth, kinds, names, used, g, from) {
-            return false;
-        }
+        expr_reads(parts::between(e, a, b), depth, kinds, names, used, g, from)?;
         a = b;
     }
-    true
+    Ok(())
 }
 
 // The `wire` line x heads its signal, which reads its expression. The name stands behind the 5 bytes of `(wire`, START behind the
@@ -286,9 +288,9 @@ pub fn wire_heads(
     names: &[u32],
     used: usize,
     g: &mut [u32],
-) -> bool
-    ensures wire_leaves { WireLeaves result x.now depth kinds.now (names_of names.now used) g.old g.new }
-    ensures wire_heads { WireHeads result x.now depth kinds.now (names_of names.now used) g.old g.new }
+) -> Result<(), Stop>
+    ensures wire_leaves { WireLeaves (is_ok result) x.now depth kinds.now (names_of names.now used) g.old g.new }
+    ensures wire_heads { WireHeads (is_ok result) x.now depth kinds.now (names_of names.now used) g.old g.new }
     ensures g_len_unchanged { length g.new ≡ length g.old }
 {
     let a = next_end(x, 5);
@@ -307,7 +309,7 @@ pub fn wire_heads(
                 i,
             )
         }
-        Added::Full => false,
+        Added::Full => Err(Stop),
     }
 }
 
@@ -321,9 +323,9 @@ pub fn drive_heads(
     names: &[u32],
     used: usize,
     g: &mut [u32],
-) -> bool
-    ensures drive_leaves { DriveLeaves result x.now depth kinds.now (names_of names.now used) g.old g.new }
-    ensures drive_heads { DriveHeads result x.now depth kinds.now (names_of names.now used) g.old g.new }
+) -> Result<(), Stop>
+    ensures drive_leaves { DriveLeaves (is_ok result) x.now depth kinds.now (names_of names.now used) g.old g.new }
+    ensures drive_heads { DriveHeads (is_ok result) x.now depth kinds.now (names_of names.now used) g.old g.new }
     ensures g_len_unchanged { length g.new ≡ length g.old }
 {
     let a = next_end(x, 6);
@@ -332,22 +334,20 @@ pub fn drive_heads(
     let n = number_at(lv, 3, b);
     let kind = parts::byte(kinds, n as usize);
     if kind < 2 {
-        return true;
+        return Ok(());
     }
     if 3 < kind {
-        return true;
+        return Ok(());
     }
     let c = next_end(lv, b);
     let start = number_at(lv, b, c);
     match graph::head(g, Node::Signal(n), start) {
         Added::At(i) => {
             let e = parts::between(x, a, next_end(x, a));
-            if !expr_reads(e, under(depth, 1), kinds, names, used, g, i) {
-                return false;
-            }
+            expr_reads(e, under(depth, 1), kinds, names, used, g, i)?;
             parts_read(lv, c, under(depth, 2), kinds, names, used, g, i)
         }
-        Added::Full => false,
+        Added::Full => Err(Stop),
     }
 }
 
@@ -447,13 +447,13 @@ fn conn_read(
     used: usize,
     g: &mut [u32],
     from: u32,
-) -> bool
-    ensures conn_read { ConnRead result o (summary_at w.now first count) c.now depth kinds.now (names_of names.now used) g.old g.new from }
-    ensures reads_or_cleared { ReadsOrCleared result (conn_read kinds.now (names_of names.now used) (summary_at w.now first count) o depth c.now) from g.old g.new }
+) -> Result<(), Stop>
+    ensures conn_read { ConnRead (is_ok result) o (summary_at w.now first count) c.now depth kinds.now (names_of names.now used) g.old g.new from }
+    ensures reads_or_cleared { ReadsOrCleared (is_ok result) (conn_read kinds.now (names_of names.now used) (summary_at w.now first count) o depth c.now) from g.old g.new }
 {
     let a = next_end(c, 5);
     if !reaches(w, first, count, o, number_at(c, 5, a)) {
-        return true;
+        return Ok(());
     }
     expr_reads(
         parts::between(c, a, next_end(c, a)),
@@ -480,20 +480,18 @@ fn conns_read(
     used: usize,
     g: &mut [u32],
     from: u32,
-) -> bool
-    ensures conns_read { ConnsRead result o (summary_at w.now first count) (drop end x.now) depth kinds.now (names_of names.now used) g.old g.new from }
-    ensures reads_or_cleared { ReadsOrCleared result (conns_read kinds.now (names_of names.now used) (summary_at w.now first count) o depth x.now end) from g.old g.new }
+) -> Result<(), Stop>
+    ensures conns_read { ConnsRead (is_ok result) o (summary_at w.now first count) (drop end x.now) depth kinds.now (names_of names.now used) g.old g.new from }
+    ensures reads_or_cleared { ReadsOrCleared (is_ok result) (conns_read kinds.now (names_of names.now used) (summary_at w.now first count) o depth x.now end) from g.old g.new }
 {
     let mut a = end;
     while parts::more(x, a) {
         let b = parts::part_end(x, a + 1);
         let c = parts::between(x, a, b);
-        if !conn_read(c, depth, o, w, first, count, kinds, names, used, g, from) {
-            return false;
-        }
+        conn_read(c, depth, o, w, first, count, kinds, names, used, g, from)?;
         a = b;
     }
-    true
+    Ok(())
 }
 
 // The node of the output o of the instance i with that index, one without value being none.
@@ -520,9 +518,9 @@ fn output_head(
     names: &[u32],
     used: usize,
     g: &mut [u32],
-) -> bool
-    ensures output_head { OutputHead result o (worth index) (summary_at w.now first count) x.now depth kinds.now (names_of names.now used) g.old g.new }
-    ensures output_leaves { OutputLeaves result (inst_reads kinds.now (names_of names.now used) (summary_at w.now first count) depth x.now o) o (worth index) x.now g.old g.new }
+) -> Result<(), Stop>
+    ensures output_head { OutputHead (is_ok result) o (worth index) (summary_at w.now first count) x.now depth kinds.now (names_of names.now used) g.old g.new }
+    ensures output_leaves { OutputLeaves (is_ok result) (inst_reads kinds.now (names_of names.now used) (summary_at w.now first count) depth x.now o) o (worth index) x.now g.old g.new }
 {
     let a = next_end(x, 5);
     let c = next_end(x, next_end(x, a));
@@ -543,7 +541,7 @@ fn output_head(
             g,
             i,
         ),
-        Added::Full => false,
+        Added::Full => Err(Stop),
     }
 }
 
@@ -560,9 +558,9 @@ pub fn inst_heads(
     names: &[u32],
     used: usize,
     g: &mut [u32],
-) -> bool
-    ensures inst_leaves { InstLeaves result (worth index) (summary_at w.now first count) x.now depth kinds.now (names_of names.now used) g.old g.new }
-    ensures inst_heads { InstHeads result (worth index) (summary_at w.now first count) x.now depth kinds.now (names_of names.now used) g.old g.new }
+) -> Result<(), Stop>
+    ensures inst_leaves { InstLeaves (is_ok result) (worth index) (summary_at w.now first count) x.now depth kinds.now (names_of names.now used) g.old g.new }
+    ensures inst_heads { InstHeads (is_ok result) (worth index) (summary_at w.now first count) x.now depth kinds.now (names_of names.now used) g.old g.new }
     ensures g_len_unchanged { length g.new ≡ length g.old }
 {
     let mut p = first;
@@ -572,9 +570,7 @@ pub fn inst_heads(
         if has_output(w, p, left, o) {
             continue;
         }
-        if !output_head(x, depth, index, o, w, first, count, kinds, names, used, g) {
-            return false;
-        }
+        output_head(x, depth, index, o, w, first, count, kinds, names, used, g)?;
     }
-    true
+    Ok(())
 }
