@@ -3,16 +3,17 @@ use Rattle.items.proofs.Places.{named_means}
 use mathlib.Core.Path.{refl}
 use Rattle.consteval.specs.Worth.{names_of}
 use Rattle.items.proofs.DriveLaws.{line_output, line_other, line_wire, line_reg, line_mem, other_driving}
+use Rattle.std.specs.Prelude.{is_ok}
 use Rattle.items.proofs.drive.Goals as goal
 
 pub returns-then-k-eq2-clause-drive_line : goal.returns-then-k-eq2-clause-drive_line
-returns-then-k-eq2-clause-drive_line c = line_output c.args.x.now c.args.bound c.args.depth c.args.kinds.now (names_of c.args.names.now c.args.used) c.args.own.now c.part_end.ensures c.between-lv.ensures c.named_at-l.result (named_means _ _ c.named_at-l.ensures) c.byte-k.ensures c.if-k-eq2.true c.drive_output.result _ c.drive_output.ensures.drive_output
+returns-then-k-eq2-clause-drive_line c = line_output c.args.x.now c.args.bound c.args.depth c.args.kinds.now (names_of c.args.names.now c.args.used) c.args.own.now c.part_end.ensures c.between-lv.ensures c.named_at-l.result (named_means _ _ c.named_at-l.ensures) c.byte-k.ensures c.if-k-eq2.true (is_ok c.drive_output.result) _ c.drive_output.ensures.drive_output
 
 pub returns-then-k-eq2-clause-own_len_unchanged : goal.returns-then-k-eq2-clause-own_len_unchanged
 returns-then-k-eq2-clause-own_len_unchanged c = c.drive_output.ensures.own_len_unchanged
 
 pub returns-then-k-eq2-clause-own_leaves : goal.returns-then-k-eq2-clause-own_leaves
-returns-then-k-eq2-clause-own_leaves c = drive_output c.args.x.now c.args.bound c.args.depth c.args.kinds.now (names_of c.args.names.now c.args.used) c.args.own.now c.part_end.ensures c.between-lv.ensures c.named_at-l.result c.named_at-l.ensures c.byte-k.ensures c.if-k-eq2.true c.drive_output.result _ c.drive_output.ensures.own_leaves
+returns-then-k-eq2-clause-own_leaves c = drive_output c.args.x.now c.args.bound c.args.depth c.args.kinds.now (names_of c.args.names.now c.args.used) c.args.own.now c.part_end.ensures c.between-lv.ensures c.named_at-l.result c.named_at-l.ensures c.byte-k.ensures c.if-k-eq2.true (is_ok c.drive_output.result) _ c.drive_output.ensures.own_leaves
 
 pub returns-then-k-eq3-clause-drive_line : goal.returns-then-k-eq3-clause-drive_line
 returns-then-k-eq3-clause-drive_line c = line_wire c.args.x.now c.args.bound c.args.depth c.args.kinds.now (names_of c.args.names.now c.args.used) c.args.own.now c.part_end.ensures c.between-lv.ensures c.named_at-l.result (named_means _ _ c.named_at-l.ensures) c.byte-k.ensures _ c.add_misuse.ensures.own_len_unchanged c.if-k-eq3.true c.add_misuse.ensures.own_after

@@ -2,25 +2,26 @@ use Rattle.items.proofs.AddedLaws.{line_drive, line_on, line_port, line_reg, lin
 use mathlib.Core.Path.{refl, sym, ◌∙◌}
 use Rattle.consteval.specs.Worth.{names_of}
 use Rattle.items.proofs.LineLaws.{own_drive, own_on, own_port, own_reg, own_mem, own_other}
+use Rattle.std.specs.Prelude.{is_ok}
 use Rattle.items.proofs.own_line.Goals as goal
 
 pub returns-then-c-eq100-clause-own_line : goal.returns-then-c-eq100-clause-own_line
-returns-then-c-eq100-clause-own_line c = own_drive c.args.x.now c.args.base c.args.bound c.args.depth c.args.kinds.now (names_of c.args.names.now c.args.used) c.args.own.now (sym c.byte-c.ensures ∙ c.if-c-eq100.true) c.drive.result _ c.drive.ensures.drive_line
+returns-then-c-eq100-clause-own_line c = own_drive c.args.x.now c.args.base c.args.bound c.args.depth c.args.kinds.now (names_of c.args.names.now c.args.used) c.args.own.now (sym c.byte-c.ensures ∙ c.if-c-eq100.true) (is_ok c.drive.result) _ c.drive.ensures.drive_line
 
 pub returns-then-c-eq100-clause-own_len_unchanged : goal.returns-then-c-eq100-clause-own_len_unchanged
 returns-then-c-eq100-clause-own_len_unchanged c = c.drive.ensures.own_len_unchanged
 
 pub returns-then-c-eq100-clause-own_leaves : goal.returns-then-c-eq100-clause-own_leaves
-returns-then-c-eq100-clause-own_leaves c = line_drive c.args.x.now c.args.base c.args.bound c.args.depth c.args.kinds.now (names_of c.args.names.now c.args.used) c.args.own.now (sym c.byte-c.ensures ∙ c.if-c-eq100.true) c.drive.result _ c.drive.ensures.own_leaves
+returns-then-c-eq100-clause-own_leaves c = line_drive c.args.x.now c.args.base c.args.bound c.args.depth c.args.kinds.now (names_of c.args.names.now c.args.used) c.args.own.now (sym c.byte-c.ensures ∙ c.if-c-eq100.true) (is_ok c.drive.result) _ c.drive.ensures.own_leaves
 
 pub returns-then-c-eq111-clause-own_line : goal.returns-then-c-eq111-clause-own_line
-returns-then-c-eq111-clause-own_line c = own_on c.args.x.now c.args.base c.args.bound c.args.depth c.args.kinds.now (names_of c.args.names.now c.args.used) c.args.own.now (sym c.byte-c.ensures ∙ c.if-c-eq111.true) c.on_block.result _ c.on_block.ensures.on_line
+returns-then-c-eq111-clause-own_line c = own_on c.args.x.now c.args.base c.args.bound c.args.depth c.args.kinds.now (names_of c.args.names.now c.args.used) c.args.own.now (sym c.byte-c.ensures ∙ c.if-c-eq111.true) (is_ok c.on_block.result) _ c.on_block.ensures.on_line
 
 pub returns-then-c-eq111-clause-own_len_unchanged : goal.returns-then-c-eq111-clause-own_len_unchanged
 returns-then-c-eq111-clause-own_len_unchanged c = c.on_block.ensures.own_len_unchanged
 
 pub returns-then-c-eq111-clause-own_leaves : goal.returns-then-c-eq111-clause-own_leaves
-returns-then-c-eq111-clause-own_leaves c = line_on c.args.x.now c.args.base c.args.bound c.args.depth c.args.kinds.now (names_of c.args.names.now c.args.used) c.args.own.now (λ e. c.if-c-eq100.false (c.byte-c.ensures ∙ e)) (sym c.byte-c.ensures ∙ c.if-c-eq111.true) c.on_block.result _ c.on_block.ensures.own_leaves
+returns-then-c-eq111-clause-own_leaves c = line_on c.args.x.now c.args.base c.args.bound c.args.depth c.args.kinds.now (names_of c.args.names.now c.args.used) c.args.own.now (λ e. c.if-c-eq100.false (c.byte-c.ensures ∙ e)) (sym c.byte-c.ensures ∙ c.if-c-eq111.true) (is_ok c.on_block.result) _ c.on_block.ensures.own_leaves
 
 pub returns-then-c-eq112-clause-own_line : goal.returns-then-c-eq112-clause-own_line
 returns-then-c-eq112-clause-own_line c = own_port c.args.x.now c.args.base c.args.bound c.args.depth c.args.kinds.now (names_of c.args.names.now c.args.used) c.args.own.now (sym c.byte-c.ensures ∙ c.if-c-eq112.true) _ c.port_line.ensures.port_line
