@@ -1,6 +1,5 @@
 pub mod ReadLaws
 pub mod ExprLaws
-pub mod Handed
 pub mod InstLaws
 pub mod FieldLaws
 pub mod PartLaws

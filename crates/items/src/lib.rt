@@ -24,14 +24,8 @@ pub fn reset(own: &mut [u32])
     ensures own_after { own.new ≡ emptied own.old }
     ensures held { length own.old ≡ places → (text : Bytes) → Held text own.new no_own }
 {
-    let mut i: usize = 0;
-    while i < own.len() {
-        if 7 <= i {
-            return;
-        }
-        own[i] = 0;
-        i += 1;
-    }
+    let n = own.len().min(7);
+    own[..n].fill(0);
 }
 
 // The number behind the byte at `before`, up to `end`.

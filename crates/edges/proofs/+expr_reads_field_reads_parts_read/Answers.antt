@@ -10,7 +10,7 @@ use Rattle.edges.proofs.TotalLaws.{reads_output, reads_indexed, reads_inner, rea
 use Rattle.edges.proofs.LeaveLaws.{reads_as, reads_none, all_none, all_stop, all_more}
 use Rattle.edges.proofs.PartLaws.{field_output, field_indexed, field_inner, expr_atom, expr_name, expr_shut, expr_field, expr_parts, parts_none, parts_stop, parts_more}
 use Rattle.std.specs.Prelude.{is_ok}
-use Rattle.edges.proofs.Handed.{not_ok}
+use Rattle.std.proofs.lemmas.Result.{err_from_is_err_and}
 use Rattle.edges.proofs.+expr_reads_field_reads_parts_read.Goals as goal
 
 pub expr_reads-returns-then-not-is_open-clause-expr_read : goal.expr_reads-returns-then-not-is_open-clause-expr_read
@@ -68,10 +68,10 @@ pub parts_read-overflow_add-a : goal.parts_read-overflow_add-a
 parts_read-overflow_add-a t c = omega (arith, follows_in c.args.e.now c.loop-b.a (sym c.more.ensures ∙ c.loop-b-test.true))
 
 pub parts_read-returns-in_err-expr_reads-clause-parts_read : goal.parts_read-returns-in_err-expr_reads-clause-parts_read
-parts_read-returns-in_err-expr_reads-clause-parts_read t c = rw (not_ok c.from_residual.result c.from_residual.ensures.0) (c.loop-b.invariant.1 false c.expr_reads.new.g (parts_stop c.args.e.now c.loop-b.a c.args.depth c.args.kinds.now (names_of c.args.names.now c.args.used) c.args.from (sym c.more.ensures ∙ c.loop-b-test.true) c.part_end-b.ensures c.between.ensures c.loop-b.g c.expr_reads.new.g (is_ok c.expr_reads.result) (ap is_ok c.in_err-expr_reads.was) c.expr_reads.ensures.expr_read))
+parts_read-returns-in_err-expr_reads-clause-parts_read t c = rw (err_from_is_err_and c.from_residual.result c.from_residual.ensures.1).1 (c.loop-b.invariant.1 false c.expr_reads.new.g (parts_stop c.args.e.now c.loop-b.a c.args.depth c.args.kinds.now (names_of c.args.names.now c.args.used) c.args.from (sym c.more.ensures ∙ c.loop-b-test.true) c.part_end-b.ensures c.between.ensures c.loop-b.g c.expr_reads.new.g (is_ok c.expr_reads.result) (ap is_ok c.in_err-expr_reads.was) c.expr_reads.ensures.expr_read))
 
 pub parts_read-returns-in_err-expr_reads-clause-reads_or_cleared : goal.parts_read-returns-in_err-expr_reads-clause-reads_or_cleared
-parts_read-returns-in_err-expr_reads-clause-reads_or_cleared t c = rw (not_ok c.from_residual.result c.from_residual.ensures.0) (c.loop-b.invariant.0.1 false c.expr_reads.new.g (all_stop (expr_read c.args.kinds.now (names_of c.args.names.now c.args.used) c.args.depth) c.args.e.now c.loop-b.a c.args.from (sym c.more.ensures ∙ c.loop-b-test.true) c.part_end-b.ensures c.between.ensures c.loop-b.g c.expr_reads.new.g (is_ok c.expr_reads.result) (ap is_ok c.in_err-expr_reads.was) c.expr_reads.ensures.reads_or_cleared))
+parts_read-returns-in_err-expr_reads-clause-reads_or_cleared t c = rw (err_from_is_err_and c.from_residual.result c.from_residual.ensures.1).1 (c.loop-b.invariant.0.1 false c.expr_reads.new.g (all_stop (expr_read c.args.kinds.now (names_of c.args.names.now c.args.used) c.args.depth) c.args.e.now c.loop-b.a c.args.from (sym c.more.ensures ∙ c.loop-b-test.true) c.part_end-b.ensures c.between.ensures c.loop-b.g c.expr_reads.new.g (is_ok c.expr_reads.result) (ap is_ok c.in_err-expr_reads.was) c.expr_reads.ensures.reads_or_cleared))
 
 pub parts_read-loop-b-smaller : goal.parts_read-loop-b-smaller
 parts_read-loop-b-smaller t c = omega (arith, follows_in c.args.e.now c.loop-b.a (sym c.more.ensures ∙ c.loop-b-test.true), c.part_end-b.ensures)

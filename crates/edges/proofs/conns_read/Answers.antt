@@ -8,7 +8,7 @@ use Rattle.edges.specs.Total as total
 use Rattle.edges.proofs.LeaveLaws.{all_none, all_stop, all_more}
 use Rattle.edges.proofs.OutputLaws.{conns_none, conns_stop, conns_more}
 use Rattle.std.specs.Prelude.{is_ok}
-use Rattle.edges.proofs.Handed.{not_ok}
+use Rattle.std.proofs.lemmas.Result.{err_from_is_err_and}
 use Rattle.edges.proofs.conns_read.Goals as goal
 
 pub loop-b-init : goal.loop-b-init
@@ -18,10 +18,10 @@ pub overflow_add-a : goal.overflow_add-a
 overflow_add-a c = omega (arith, follows_in c.args.x.now c.loop-b.a (sym c.more.ensures ∙ c.loop-b-test.true))
 
 pub returns-in_err-conn_read-clause-conns_read : goal.returns-in_err-conn_read-clause-conns_read
-returns-in_err-conn_read-clause-conns_read c = rw (not_ok c.from_residual.result c.from_residual.ensures.0) (c.loop-b.invariant.1 false c.conn_read.new.g (conns_stop c.args.o (summary_at c.args.w.now c.args.first c.args.count) c.args.x.now c.loop-b.a c.args.depth c.args.kinds.now (names_of c.args.names.now c.args.used) c.args.from (sym c.more.ensures ∙ c.loop-b-test.true) c.part_end-b.ensures c.between-c.ensures c.loop-b.g c.conn_read.new.g (is_ok c.conn_read.result) (ap is_ok c.in_err-conn_read.was) c.conn_read.ensures.conn_read))
+returns-in_err-conn_read-clause-conns_read c = rw (err_from_is_err_and c.from_residual.result c.from_residual.ensures.1).1 (c.loop-b.invariant.1 false c.conn_read.new.g (conns_stop c.args.o (summary_at c.args.w.now c.args.first c.args.count) c.args.x.now c.loop-b.a c.args.depth c.args.kinds.now (names_of c.args.names.now c.args.used) c.args.from (sym c.more.ensures ∙ c.loop-b-test.true) c.part_end-b.ensures c.between-c.ensures c.loop-b.g c.conn_read.new.g (is_ok c.conn_read.result) (ap is_ok c.in_err-conn_read.was) c.conn_read.ensures.conn_read))
 
 pub returns-in_err-conn_read-clause-reads_or_cleared : goal.returns-in_err-conn_read-clause-reads_or_cleared
-returns-in_err-conn_read-clause-reads_or_cleared c = rw (not_ok c.from_residual.result c.from_residual.ensures.0) (c.loop-b.invariant.0.1 false c.conn_read.new.g (all_stop (total.conn_read c.args.kinds.now (names_of c.args.names.now c.args.used) (summary_at c.args.w.now c.args.first c.args.count) c.args.o c.args.depth) c.args.x.now c.loop-b.a c.args.from (sym c.more.ensures ∙ c.loop-b-test.true) c.part_end-b.ensures c.between-c.ensures c.loop-b.g c.conn_read.new.g (is_ok c.conn_read.result) (ap is_ok c.in_err-conn_read.was) c.conn_read.ensures.reads_or_cleared))
+returns-in_err-conn_read-clause-reads_or_cleared c = rw (err_from_is_err_and c.from_residual.result c.from_residual.ensures.1).1 (c.loop-b.invariant.0.1 false c.conn_read.new.g (all_stop (total.conn_read c.args.kinds.now (names_of c.args.names.now c.args.used) (summary_at c.args.w.now c.args.first c.args.count) c.args.o c.args.depth) c.args.x.now c.loop-b.a c.args.from (sym c.more.ensures ∙ c.loop-b-test.true) c.part_end-b.ensures c.between-c.ensures c.loop-b.g c.conn_read.new.g (is_ok c.conn_read.result) (ap is_ok c.in_err-conn_read.was) c.conn_read.ensures.reads_or_cleared))
 
 pub loop-b-smaller : goal.loop-b-smaller
 loop-b-smaller c = omega (arith, follows_in c.args.x.now c.loop-b.a (sym c.more.ensures ∙ c.loop-b-test.true), c.part_end-b.ensures)
