@@ -5,7 +5,7 @@
 mod places;
 mod plain;
 
-ghost use Rattle.std.specs.Prelude.{◌≡◌, true, false, List, [], ℕ, suc, ◌+◌, ◌≤◌, ◌<◌, length};
+ghost use Rattle.std.specs.Prelude.{◌≡◌, true, false, List, [], ℕ, suc, ◌+◌, ◌≤◌, ◌<◌, length, is_ok};
 ghost use Rattle.std.proofs.Math.Option.{none};
 ghost use Rattle.consteval.specs.Worth.{names_of};
 ghost use Rattle.spec.specs.Refusal.{decode, has_name};
@@ -19,31 +19,17 @@ ghost use Rattle.collect.specs.Face.{WalkGiven, ModuleGiven, Collects, left_of, 
 ghost use Rattle.collect.specs.Cycle.{walk_number, Mode, World, Given, Single, OneGiven, mode, Ends, walk_of, one_of, turns_of, step_of, Framed, RoundsWithin, WalkLeaves, Stepped, Tabled, AskedFor, AskLeaves, EdgesLeave};
 
 use consteval::names;
+use edges::Stop;
 use lines::parts;
 use steps::modules::Named;
 use steps::{Chosen, Head, Times, modules};
 use summary::State;
 
-// What collecting a module gives: a limit is passed or a constant is outside INT; else how many names its table has, and the rounds left.
-#[derive(Clone, Copy)]
-pub enum Collected {
-    Full,
-    Left(usize, u32),
-}
-
-// What a walk gives: the rounds left, or a limit is passed or a constant outside INT.
-#[derive(Clone, Copy)]
-enum Walked {
-    Left(u32),
-    Full,
-}
-
-// What asking for a summary gives: nothing is known of the module, its pairs stand in the table, or a limit is passed or a constant outside INT.
-#[derive(Clone, Copy)]
-enum Asked {
-    Empty,
-    Kept,
-    Full,
+// What collecting a module gives: how many names its table has, and the rounds left.
+#[derive(Clone, Copy, Debug, PartialEq, Eq)]
+pub struct Collected {
+    pub used: usize,
+    pub left: u32,
 }
 
 // What a run of items is walked with: the modules of the text, how many of them may still be begun, the brackets left, which walk it is, and
@@ -82,7 +68,7 @@ fn collect_items(
     own: &mut [u32],
     g: &mut [u32],
     k: &mut [u32],
-) -> Walked
+) -> Result<u32, Stop>
     requires { base + length s.now ≤ 4294967295 }
     ensures ends { (w : World) → Given (mode pass.checking pass.bound) text.now kinds.now mods.now pass.count s.now base pass.depth
         ks.now names.old pass.used own.old g.old k.old w
@@ -97,15 +83,10 @@ fn collect_items(
         let end = runs::form_end(s, at + 1);
         let x = parts::between(s, at, end);
         let from = base + at as u32 + 1;
-        match collect_item(text, kinds, mods, x, from, pass, left, ks, names, own, g, k) {
-            Walked::Left(l) => {
-                left = l;
-                at = end;
-            }
-            Walked::Full => return Walked::Full,
-        }
+        left = collect_item(text, kinds, mods, x, from, pass, left, ks, names, own, g, k)?;
+        at = end;
     }
-    Walked::Left(left)
+    Ok(left)
 }
 
 // Walks one item, which is at `from` in the text: its line, then what it holds.
@@ -123,7 +104,7 @@ fn collect_item(
     own: &mut [u32],
     g: &mut [u32],
     k: &mut [u32],
-) -> Walked
+) -> Result<u32, Stop>
     requires { from + length x.now ≤ 4294967295 }
     ensures ends { (h : heads.Head) (w : Single) → OneGiven h (mode pass.checking pass.bound) text.now kinds.now mods.now pass.count x.now from pass.depth
         ks.now names.old pass.used own.old g.old k.old w
@@ -134,7 +115,7 @@ fn collect_item(
 {
     match steps::head_of(x) {
         Head::Plain => {
-            if plain::plain_line(
+            if let Err(e) = plain::plain_line(
                 x,
                 from,
                 pass.depth,
@@ -146,19 +127,17 @@ fn collect_item(
                 own,
                 g,
             ) {
-                Walked::Left(left)
-            } else {
                 graph::clear(k);
-                Walked::Full
+                return Err(e);
             }
+            Ok(left)
         }
         Head::Inst => {
-            if inst_edges(text, kinds, mods, x, pass, ks, names, g, k) {
-                Walked::Left(left)
-            } else {
+            if let Err(e) = inst_edges(text, kinds, mods, x, pass, ks, names, g, k) {
                 graph::clear(own);
-                Walked::Full
+                return Err(e);
             }
+            Ok(left)
         }
         Head::Repeat => repeat_items(text, kinds, mods, x, from, pass, left, ks, names, own, g, k),
         Head::ConstIf => branch_items(text, kinds, mods, x, from, pass, left, ks, names, own, g, k),
@@ -180,7 +159,7 @@ fn repeat_items(
     own: &mut [u32],
     g: &mut [u32],
     k: &mut [u32],
-) -> Walked
+) -> Result<u32, Stop>
     requires { from + length x.now ≤ 4294967295 }
     ensures ends { (w : Single) → OneGiven head.Repeat (mode pass.checking pass.bound) text.now kinds.now mods.now pass.count x.now from pass.depth
         ks.now names.old pass.used own.old g.old k.old w
@@ -191,7 +170,7 @@ fn repeat_items(
 {
     if pass.depth == 0 {
         places::clear_tables(own, g, k);
-        return Walked::Full;
+        return Err(Stop);
     }
     let a = steps::body_at(x);
     let s = parts::rest(x, a);
@@ -201,18 +180,18 @@ fn repeat_items(
     match steps::times_of(x, pass.depth, names, pass.used, left) {
         Times::Outside => {
             places::clear_tables(own, g, k);
-            Walked::Full
+            Err(Stop)
         }
-        Times::Never => Walked::Left(left),
+        Times::Never => Ok(left),
         Times::Once => collect_items(text, kinds, mods, s, base, deep, left, ks, names, own, g, k),
         Times::Rounds(n, low, rounds) => {
             if left < rounds {
                 places::clear_tables(own, g, k);
-                return Walked::Full;
+                return Err(Stop);
             }
             if 4294967295 - low < rounds {
                 places::clear_tables(own, g, k);
-                return Walked::Full;
+                return Err(Stop);
             }
             let turn = Turn {
                 name: n,
@@ -240,7 +219,7 @@ fn repeat_rounds(
     own: &mut [u32],
     g: &mut [u32],
     k: &mut [u32],
-) -> Walked
+) -> Result<u32, Stop>
     requires s_bound { base + length s.now ≤ 4294967295 }
     requires rounds_bound { turn.low + turn.rounds ≤ 4294967295 }
     ensures ends { (w : World) → Given (mode pass.checking pass.bound) text.now kinds.now mods.now pass.count s.now base pass.depth
@@ -251,23 +230,16 @@ fn repeat_rounds(
     ensures walk_leaves { WalkLeaves result pass.checking own.old own.new g.old g.new k.old k.new }
 {
     let mut left = turn.left;
-    let mut i: u32 = 0;
-    while i < turn.rounds {
+    for i in 0..turn.rounds {
         if !names::push(names, pass.used, turn.name, turn.low + i) {
             places::clear_tables(own, g, k);
-            return Walked::Full;
+            return Err(Stop);
         }
         let mut open = pass;
         open.used = pass.used + 1;
-        match collect_items(text, kinds, mods, s, base, open, left, ks, names, own, g, k) {
-            Walked::Left(l) => {
-                left = l;
-                i += 1;
-            }
-            Walked::Full => return Walked::Full,
-        }
+        left = collect_items(text, kinds, mods, s, base, open, left, ks, names, own, g, k)?;
     }
-    Walked::Left(left)
+    Ok(left)
 }
 
 // A `constif` line: the items of the branch that its condition takes.
@@ -285,7 +257,7 @@ fn branch_items(
     own: &mut [u32],
     g: &mut [u32],
     k: &mut [u32],
-) -> Walked
+) -> Result<u32, Stop>
     requires { from + length x.now ≤ 4294967295 }
     ensures ends { (w : Single) → OneGiven head.ConstIf (mode pass.checking pass.bound) text.now kinds.now mods.now pass.count x.now from pass.depth
         ks.now names.old pass.used own.old g.old k.old w
@@ -296,17 +268,17 @@ fn branch_items(
 {
     if pass.depth < 2 {
         places::clear_tables(own, g, k);
-        return Walked::Full;
+        return Err(Stop);
     }
     match steps::branch_of(x, pass.depth, names, pass.used) {
         Chosen::Outside => {
             places::clear_tables(own, g, k);
-            Walked::Full
+            Err(Stop)
         }
         Chosen::Run(a, b) => {
             if x.len() <= a {
                 places::clear_tables(own, g, k);
-                return Walked::Full;
+                return Err(Stop);
             }
             let s = parts::between(x, a, b);
             let base = from + a as u32 + 1;
@@ -329,53 +301,62 @@ fn inst_edges(
     names: &[u32],
     g: &mut [u32],
     k: &mut [u32],
-) -> bool
+) -> Result<(), Stop>
     ensures stepped { (mo : Mode) (own : List ℕ) (from : ℕ) (w : Single)
         → OneGiven head.Inst mo text.now kinds.now mods.now pass.count x.now from pass.depth
         ks.now names.now pass.used own g.old k.old w
-        → Stepped result mo text.now own g.new k.new w.busy
+        → Stepped (is_ok result) mo text.now own g.new k.new w.busy
         (step_of pass.fuel text.now mo w.header w.busy (names_of names.now pass.used) w.item w.state) }
-    ensures edges_leave { EdgesLeave result g.old g.new k.old k.new }
+    ensures edges_leave { EdgesLeave (is_ok result) g.old g.new k.old k.new }
 {
     let index = edges::inst_index(x, pass.depth, names, pass.used);
     if places::is_outside(index) {
         graph::clear(g);
         graph::clear(k);
-        return false;
+        return Err(Stop);
     }
     let m = edges::inst_module(x);
-    match comb_summary(text, kinds, mods, m, pass, k) {
-        Asked::Full => {
+    let known = match comb_summary(text, kinds, mods, m, pass, k) {
+        Ok(known) => known,
+        Err(e) => {
             graph::clear(g);
-            false
+            return Err(e);
         }
-        Asked::Empty => plain::inst_line(x, pass.depth, index, k, 0, 0, ks, names, pass.used, g),
-        Asked::Kept => {
-            let first = summary::first(k, m);
-            let pairs = summary::count(k, m);
-            plain::inst_line(
-                x, pass.depth, index, k, first, pairs, ks, names, pass.used, g,
-            )
-        }
+    };
+    if !known {
+        return plain::inst_line(x, pass.depth, index, k, 0, 0, ks, names, pass.used, g);
     }
+    let first = summary::first(k, m);
+    let pairs = summary::count(k, m);
+    plain::inst_line(
+        x, pass.depth, index, k, first, pairs, ks, names, pass.used, g,
+    )
 }
 
-// The summary of module m, made when it is first asked for; nothing for a module that is missing or in progress.
+// The summary of module m, made when it is first asked for: true where its pairs stand in the table, false where nothing is known of it, since it is
+// missing or in progress.
 #[cycle(branch_items_collect_item_collect_items_comb_summary_inst_edges_make_summary_repeat_items_repeat_rounds)]
-fn comb_summary(text: &[u8], kinds: &[u8], mods: &[u32], m: u32, pass: Pass, k: &mut [u32]) -> Asked
+fn comb_summary(
+    text: &[u8],
+    kinds: &[u8],
+    mods: &[u32],
+    m: u32,
+    pass: Pass,
+    k: &mut [u32],
+) -> Result<bool, Stop>
     ensures asked_for { (kept : Kept) (busy : List ℕ) → Tabled text.now kinds.now mods.now pass.count → Keeps k.old kept busy
         → AskedFor result k.new m busy (ask_walk pass.fuel (decode text.now) busy kept m) }
     ensures ask_leaves { AskLeaves result k.old k.new }
 {
     if pass.fuel == 0 {
-        return Asked::Empty;
+        return Ok(false);
     }
     if pass.count <= m {
-        return Asked::Empty;
+        return Ok(false);
     }
     match summary::state_of(k, m) {
-        State::Kept => Asked::Kept,
-        State::Busy => Asked::Empty,
+        State::Kept => Ok(true),
+        State::Busy => Ok(false),
         State::New => {
             let mut begun = pass;
             begun.fuel = pass.fuel - 1;
@@ -386,7 +367,14 @@ fn comb_summary(text: &[u8], kinds: &[u8], mods: &[u32], m: u32, pass: Pass, k: 
 
 // Makes the summary of module m: walks its items with tables of their own, and keeps what its outputs reach.
 #[cycle(branch_items_collect_item_collect_items_comb_summary_inst_edges_make_summary_repeat_items_repeat_rounds)]
-fn make_summary(text: &[u8], kinds: &[u8], mods: &[u32], m: u32, pass: Pass, k: &mut [u32]) -> Asked
+fn make_summary(
+    text: &[u8],
+    kinds: &[u8],
+    mods: &[u32],
+    m: u32,
+    pass: Pass,
+    k: &mut [u32],
+) -> Result<bool, Stop>
     ensures asked_for { (kept : Kept) (busy : List ℕ) → Tabled text.now kinds.now mods.now pass.count → Keeps k.old kept busy
         → m < pass.count → kept_summary kept m ≡ none → has_name m busy ≡ false
         → AskedFor result k.new m busy (ask_walk (suc pass.fuel) (decode text.now) busy kept m) }
@@ -394,12 +382,12 @@ fn make_summary(text: &[u8], kinds: &[u8], mods: &[u32], m: u32, pass: Pass, k: 
 {
     if 32768 < text.len() {
         graph::clear(k);
-        return Asked::Full;
+        return Err(Stop);
     }
     let mut names = [0u32; 6616];
     let Named::Used(used) = modules::names_of_module(text, mods, m, &mut names) else {
         graph::clear(k);
-        return Asked::Full;
+        return Err(Stop);
     };
     summary::begin(k, m);
     let mut g = [0u32; 16898];
@@ -411,7 +399,7 @@ fn make_summary(text: &[u8], kinds: &[u8], mods: &[u32], m: u32, pass: Pass, k: 
     pass.checking = false;
     pass.bound = false;
     pass.used = used;
-    let Walked::Left(_) = collect_items(
+    collect_items(
         text,
         kinds,
         mods,
@@ -424,13 +412,11 @@ fn make_summary(text: &[u8], kinds: &[u8], mods: &[u32], m: u32, pass: Pass, k: 
         &mut own,
         &mut g,
         k,
-    ) else {
-        return Asked::Full;
-    };
+    )?;
     if summary::summarise(run, ks, &g, k, m) {
-        Asked::Kept
+        Ok(true)
     } else {
-        Asked::Full
+        Err(Stop)
     }
 }
 
@@ -446,7 +432,7 @@ fn walk_module(
     own: &mut [u32],
     g: &mut [u32],
     k: &mut [u32],
-) -> Walked
+) -> Result<u32, Stop>
     ensures ends { (x : Module) (kept : Kept) → WalkGiven text.now kinds.now mods.now count m
         names.old used own.old g.old k.old x kept
         → Ends result (mode true x.bound) text.now own.new g.new k.new [] (own_walk (decode text.now) x kept) }
@@ -456,11 +442,11 @@ fn walk_module(
 {
     if 32768 < text.len() {
         places::clear_tables(own, g, k);
-        return Walked::Full;
+        return Err(Stop);
     }
     if 32 < count {
         places::clear_tables(own, g, k);
-        return Walked::Full;
+        return Err(Stop);
     }
     let run = modules::items_of_module(text, mods, m);
     let base = places::run_at(mods, m);
@@ -492,7 +478,7 @@ pub fn collect_module(
     own: &mut [u32],
     g: &mut [u32],
     k: &mut [u32],
-) -> Collected
+) -> Result<Collected, Stop>
     ensures collects { (x : Module) (kept : Kept) → ModuleGiven text.now kinds.now mods.now count m
         names.old own.old g.old k.old x kept
         → Collects result text.now names.new own.new g.new k.new x (own_walk (decode text.now) x kept) }
@@ -504,16 +490,16 @@ pub fn collect_module(
         Named::Outside => {
             graph::clear(names);
             places::clear_tables(own, g, k);
-            Collected::Full
+            Err(Stop)
         }
         Named::Used(used) => {
             items::reset(own);
             graph::reset(g);
             match walk_module(text, kinds, mods, count, m, names, used, own, g, k) {
-                Walked::Left(left) => Collected::Left(used, left),
-                Walked::Full => {
+                Ok(left) => Ok(Collected { used, left }),
+                Err(e) => {
                     graph::clear(names);
-                    Collected::Full
+                    Err(e)
                 }
             }
         }

@@ -14,7 +14,6 @@ ghost use Rattle.drivers.specs.Check.{Enough, Checking, Tallied, FewRounds, firs
 use crate::emit::Place;
 use crate::groups;
 use crate::groups::Covered;
-use collect::Collected;
 use lines::tables::Read;
 use lines::{reader, tables};
 use steps::modules;
@@ -58,13 +57,11 @@ fn check_module_drivers(
     ensures few_rounds { FewRounds result }
 {
     match collect::collect_module(text, kinds, mods, count, m, names, own, g, k) {
-        Collected::Full => Checked::Full,
-        Collected::Left(used, left) => {
-            match groups::report_module(text, names, used, own, g, w, m, buf, p, write) {
-                Covered::Outside => Checked::Full,
-                Covered::Done(q) => Checked::Done(q, 4096 - left),
-            }
-        }
+        Err(_) => Checked::Full,
+        Ok(c) => match groups::report_module(text, names, c.used, own, g, w, m, buf, p, write) {
+            Covered::Outside => Checked::Full,
+            Covered::Done(q) => Checked::Done(q, 4096 - c.left),
+        },
     }
 }
 

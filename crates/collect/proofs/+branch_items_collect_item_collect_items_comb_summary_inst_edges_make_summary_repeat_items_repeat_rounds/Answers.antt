@@ -19,6 +19,9 @@ use Rattle.graph.proofs.Limits.{stands_empty}
 use Rattle.spec.proofs.Cleared.{cleared_of}
 use Rattle.collect.proofs.Leaving.{own_same, filled_same, walk_kept, walk_cleared, line_kept, line_cleared, edges_kept, edges_cleared, ask_empty, ask_kept, ask_cleared, made_left, inst_stepped, known_none, known_kept, inst_edges_left}
 use Rattle.summary.proofs.Pairs.{leaves_zero}
+use Rattle.std.specs.Prelude.{Ok, is_ok}
+use Rattle.std.proofs.lemmas.Result.{err_from_is_err_and}
+use Rattle.collect.proofs.Leaving.{passed}
 use Rattle.collect.proofs.+branch_items_collect_item_collect_items_comb_summary_inst_edges_make_summary_repeat_items_repeat_rounds.Goals as goal
 
 pub branch_items-returns-then-pass-lt2-clause-ends : goal.branch_items-returns-then-pass-lt2-clause-ends
@@ -78,41 +81,41 @@ collect_item-repeat_items-requires t c = (omega arith, omega (arith, c.requires)
 pub collect_item-branch_items-requires : goal.collect_item-branch_items-requires
 collect_item-branch_items-requires t c = (omega arith, omega (arith, c.requires))
 
-pub collect_item-returns-then-plain_line-clause-ends : goal.collect_item-returns-then-plain_line-clause-ends
-collect_item-returns-then-plain_line-clause-ends t c = plain_walked c.args.pass.fuel (mode c.args.pass.checking c.args.pass.bound) c.args.text.now c.args.kinds.now c.args.mods.now c.args.pass.count c.args.x.now c.args.from c.args.pass.depth c.args.ks.now c.args.names.now c.args.pass.used c.args.left c.args.own.now c.args.g.now c.args.k.now c.head_of.result c.head_of.ensures c.in-Plain.is c.plain_line.result c.plain_line.new.own c.plain_line.new.g c.plain_line.ensures.plain_line c.if-plain_line.true
+pub collect_item-returns-in_default-clause-ends : goal.collect_item-returns-in_default-clause-ends
+collect_item-returns-in_default-clause-ends t c = plain_walked c.args.pass.fuel (mode c.args.pass.checking c.args.pass.bound) c.args.text.now c.args.kinds.now c.args.mods.now c.args.pass.count c.args.x.now c.args.from c.args.pass.depth c.args.ks.now c.args.names.now c.args.pass.used c.args.left c.args.own.now c.args.g.now c.args.k.now c.head_of.result c.head_of.ensures c.in-Plain.is (is_ok c.plain_line.result) c.plain_line.new.own c.plain_line.new.g c.plain_line.ensures.plain_line (passed c.plain_line.result c.in_default.not-Err)
 
-pub collect_item-returns-then-plain_line-clause-framed : goal.collect_item-returns-then-plain_line-clause-framed
-collect_item-returns-then-plain_line-clause-framed t c = (framed_same, omega arith)
+pub collect_item-returns-in_default-clause-framed : goal.collect_item-returns-in_default-clause-framed
+collect_item-returns-in_default-clause-framed t c = (framed_same, omega arith)
 
-pub collect_item-returns-then-plain_line-clause-walk_leaves : goal.collect_item-returns-then-plain_line-clause-walk_leaves
-collect_item-returns-then-plain_line-clause-walk_leaves t c = (let z = line_kept c.plain_line.result c.args.pass.checking c.args.own.now c.plain_line.new.own c.args.g.now c.plain_line.new.g c.if-plain_line.true c.plain_line.ensures.plain_leaves in (z.0, z.1 c.args.k.now))
+pub collect_item-returns-in_default-clause-walk_leaves : goal.collect_item-returns-in_default-clause-walk_leaves
+collect_item-returns-in_default-clause-walk_leaves t c = (let z = line_kept (is_ok c.plain_line.result) c.args.pass.checking c.args.own.now c.plain_line.new.own c.args.g.now c.plain_line.new.g (passed c.plain_line.result c.in_default.not-Err) c.plain_line.ensures.plain_leaves in (z.0, z.1 c.args.k.now))
 
-pub collect_item-returns-else-plain_line-clause-ends : goal.collect_item-returns-else-plain_line-clause-ends
-collect_item-returns-else-plain_line-clause-ends t c = plain_full c.args.pass.fuel (mode c.args.pass.checking c.args.pass.bound) c.args.text.now c.args.kinds.now c.args.mods.now c.args.pass.count c.args.x.now c.args.from c.args.pass.depth c.args.ks.now c.args.names.now c.args.pass.used c.args.left c.args.own.now c.args.g.now c.args.k.now c.head_of.result c.head_of.ensures c.in-Plain.is c.plain_line.result c.plain_line.new.own c.plain_line.new.g c.plain_line.ensures.plain_line c.if-plain_line.false
+pub collect_item-returns-in-Err-clause-ends : goal.collect_item-returns-in-Err-clause-ends
+collect_item-returns-in-Err-clause-ends t c = plain_full c.args.pass.fuel (mode c.args.pass.checking c.args.pass.bound) c.args.text.now c.args.kinds.now c.args.mods.now c.args.pass.count c.args.x.now c.args.from c.args.pass.depth c.args.ks.now c.args.names.now c.args.pass.used c.args.left c.args.own.now c.args.g.now c.args.k.now c.head_of.result c.head_of.ensures c.in-Plain.is (is_ok c.plain_line.result) c.plain_line.new.own c.plain_line.new.g c.plain_line.ensures.plain_line (ap is_ok c.in-Err.is)
 
-pub collect_item-returns-else-plain_line-clause-framed : goal.collect_item-returns-else-plain_line-clause-framed
-collect_item-returns-else-plain_line-clause-framed t c = (framed_same, tt)
+pub collect_item-returns-in-Err-clause-framed : goal.collect_item-returns-in-Err-clause-framed
+collect_item-returns-in-Err-clause-framed t c = (framed_same, tt)
 
-pub collect_item-returns-else-plain_line-clause-walk_leaves : goal.collect_item-returns-else-plain_line-clause-walk_leaves
-collect_item-returns-else-plain_line-clause-walk_leaves t c = (let z = line_cleared c.plain_line.result c.args.pass.checking c.args.own.now c.plain_line.new.own c.args.g.now c.plain_line.new.g c.if-plain_line.false c.plain_line.ensures.plain_leaves in (z.0, z.1, cleared_of (length c.args.k.now) c.clear.new.g c.clear.ensures))
+pub collect_item-returns-in-Err-clause-walk_leaves : goal.collect_item-returns-in-Err-clause-walk_leaves
+collect_item-returns-in-Err-clause-walk_leaves t c = (let z = line_cleared (is_ok c.plain_line.result) c.args.pass.checking c.args.own.now c.plain_line.new.own c.args.g.now c.plain_line.new.g (ap is_ok c.in-Err.is) c.plain_line.ensures.plain_leaves in (z.0, z.1, cleared_of (length c.args.k.now) c.clear.new.g c.clear.ensures))
 
-pub collect_item-returns-then-inst_edges-clause-ends : goal.collect_item-returns-then-inst_edges-clause-ends
-collect_item-returns-then-inst_edges-clause-ends t c = inst_walked c.args.pass.fuel (mode c.args.pass.checking c.args.pass.bound) c.args.text.now c.args.kinds.now c.args.mods.now c.args.pass.count c.args.x.now c.args.from c.args.pass.depth c.args.ks.now c.args.names.now c.args.pass.used c.args.left c.args.own.now c.args.g.now c.args.k.now c.head_of.result c.head_of.ensures c.in-Inst.is c.inst_edges.result c.inst_edges.new.g c.inst_edges.new.k c.inst_edges.ensures.stepped c.if-inst_edges.true
+pub collect_item-returns-in_default-inst_edges-clause-ends : goal.collect_item-returns-in_default-inst_edges-clause-ends
+collect_item-returns-in_default-inst_edges-clause-ends t c = inst_walked c.args.pass.fuel (mode c.args.pass.checking c.args.pass.bound) c.args.text.now c.args.kinds.now c.args.mods.now c.args.pass.count c.args.x.now c.args.from c.args.pass.depth c.args.ks.now c.args.names.now c.args.pass.used c.args.left c.args.own.now c.args.g.now c.args.k.now c.head_of.result c.head_of.ensures c.in-Inst.is (is_ok c.inst_edges.result) c.inst_edges.new.g c.inst_edges.new.k c.inst_edges.ensures.stepped (passed c.inst_edges.result c.in_default-inst_edges.not-Err)
 
-pub collect_item-returns-then-inst_edges-clause-framed : goal.collect_item-returns-then-inst_edges-clause-framed
-collect_item-returns-then-inst_edges-clause-framed t c = (framed_same, omega arith)
+pub collect_item-returns-in_default-inst_edges-clause-framed : goal.collect_item-returns-in_default-inst_edges-clause-framed
+collect_item-returns-in_default-inst_edges-clause-framed t c = (framed_same, omega arith)
 
-pub collect_item-returns-then-inst_edges-clause-walk_leaves : goal.collect_item-returns-then-inst_edges-clause-walk_leaves
-collect_item-returns-then-inst_edges-clause-walk_leaves t c = (own_same c.args.pass.checking c.args.own.now, edges_kept c.inst_edges.result c.args.g.now c.inst_edges.new.g c.args.k.now c.inst_edges.new.k c.if-inst_edges.true c.inst_edges.ensures.edges_leave)
+pub collect_item-returns-in_default-inst_edges-clause-walk_leaves : goal.collect_item-returns-in_default-inst_edges-clause-walk_leaves
+collect_item-returns-in_default-inst_edges-clause-walk_leaves t c = (own_same c.args.pass.checking c.args.own.now, edges_kept (is_ok c.inst_edges.result) c.args.g.now c.inst_edges.new.g c.args.k.now c.inst_edges.new.k (passed c.inst_edges.result c.in_default-inst_edges.not-Err) c.inst_edges.ensures.edges_leave)
 
-pub collect_item-returns-else-inst_edges-clause-ends : goal.collect_item-returns-else-inst_edges-clause-ends
-collect_item-returns-else-inst_edges-clause-ends t c = inst_full c.args.pass.fuel (mode c.args.pass.checking c.args.pass.bound) c.args.text.now c.args.kinds.now c.args.mods.now c.args.pass.count c.args.x.now c.args.from c.args.pass.depth c.args.ks.now c.args.names.now c.args.pass.used c.args.left c.args.own.now c.args.g.now c.args.k.now c.head_of.result c.head_of.ensures c.in-Inst.is c.inst_edges.result c.inst_edges.new.g c.inst_edges.new.k c.inst_edges.ensures.stepped c.if-inst_edges.false
+pub collect_item-returns-in-Err-inst_edges-clause-ends : goal.collect_item-returns-in-Err-inst_edges-clause-ends
+collect_item-returns-in-Err-inst_edges-clause-ends t c = inst_full c.args.pass.fuel (mode c.args.pass.checking c.args.pass.bound) c.args.text.now c.args.kinds.now c.args.mods.now c.args.pass.count c.args.x.now c.args.from c.args.pass.depth c.args.ks.now c.args.names.now c.args.pass.used c.args.left c.args.own.now c.args.g.now c.args.k.now c.head_of.result c.head_of.ensures c.in-Inst.is (is_ok c.inst_edges.result) c.inst_edges.new.g c.inst_edges.new.k c.inst_edges.ensures.stepped (ap is_ok c.in-Err-inst_edges.is)
 
-pub collect_item-returns-else-inst_edges-clause-framed : goal.collect_item-returns-else-inst_edges-clause-framed
-collect_item-returns-else-inst_edges-clause-framed t c = (framed_same, tt)
+pub collect_item-returns-in-Err-inst_edges-clause-framed : goal.collect_item-returns-in-Err-inst_edges-clause-framed
+collect_item-returns-in-Err-inst_edges-clause-framed t c = (framed_same, tt)
 
-pub collect_item-returns-else-inst_edges-clause-walk_leaves : goal.collect_item-returns-else-inst_edges-clause-walk_leaves
-collect_item-returns-else-inst_edges-clause-walk_leaves t c = (let z = edges_cleared c.inst_edges.result c.args.g.now c.inst_edges.new.g c.args.k.now c.inst_edges.new.k c.if-inst_edges.false c.inst_edges.ensures.edges_leave in (cleared_of (length c.args.own.now) c.clear-else-inst_edges.new.g c.clear-else-inst_edges.ensures, z.0, z.1))
+pub collect_item-returns-in-Err-inst_edges-clause-walk_leaves : goal.collect_item-returns-in-Err-inst_edges-clause-walk_leaves
+collect_item-returns-in-Err-inst_edges-clause-walk_leaves t c = (let z = edges_cleared (is_ok c.inst_edges.result) c.args.g.now c.inst_edges.new.g c.args.k.now c.inst_edges.new.k (ap is_ok c.in-Err-inst_edges.is) c.inst_edges.ensures.edges_leave in (cleared_of (length c.args.own.now) c.clear-in-Err-inst_edges.new.g c.clear-in-Err-inst_edges.ensures, z.0, z.1))
 
 pub collect_item-returns-in-Repeat-clause-ends : goal.collect_item-returns-in-Repeat-clause-ends
 collect_item-returns-in-Repeat-clause-ends t c = body_walked c.args.pass.fuel (mode c.args.pass.checking c.args.pass.bound) c.args.text.now c.args.kinds.now c.args.mods.now c.args.pass.count c.args.x.now c.args.from c.args.pass.depth c.args.ks.now c.args.names.now c.args.pass.used c.args.left c.args.own.now c.args.g.now c.args.k.now c.head_of.result c.head_of.ensures head.Repeat c.in-Repeat.is c.repeat_items.result c.repeat_items.new.own c.repeat_items.new.g c.repeat_items.new.k c.repeat_items.ensures.ends
@@ -151,16 +154,16 @@ pub collect_items-loop-at-smaller : goal.collect_items-loop-at-smaller
 collect_items-loop-at-smaller t c = omega (arith, (after c.args.pass.fuel (mode c.args.pass.checking c.args.pass.bound) c.args.text.now c.args.kinds.now c.args.mods.now c.args.pass.count c.args.s.now c.args.base c.args.pass.depth c.args.ks.now c.args.names.now c.args.pass.used c.args.left c.args.own.now c.args.g.now c.args.k.now c.loop-at.at c.loop-at.left c.loop-at.names c.loop-at.own c.loop-at.g c.loop-at.k c.loop-at.invariant c.loop-at-test.true c.form_end-end.result c.between-x.result.now c.form_end-end.ensures c.between-x.ensures).0, (after c.args.pass.fuel (mode c.args.pass.checking c.args.pass.bound) c.args.text.now c.args.kinds.now c.args.mods.now c.args.pass.count c.args.s.now c.args.base c.args.pass.depth c.args.ks.now c.args.names.now c.args.pass.used c.args.left c.args.own.now c.args.g.now c.args.k.now c.loop-at.at c.loop-at.left c.loop-at.names c.loop-at.own c.loop-at.g c.loop-at.k c.loop-at.invariant c.loop-at-test.true c.form_end-end.result c.between-x.result.now c.form_end-end.ensures c.between-x.ensures).1)
 
 pub collect_items-loop-at-preserved : goal.collect_items-loop-at-preserved
-collect_items-loop-at-preserved t c = item_next c.args.pass.fuel (mode c.args.pass.checking c.args.pass.bound) c.args.text.now c.args.kinds.now c.args.mods.now c.args.pass.count c.args.s.now c.args.base c.args.pass.depth c.args.ks.now c.args.names.now c.args.pass.used c.args.left c.args.own.now c.args.g.now c.args.k.now c.loop-at.at c.loop-at.left c.loop-at.names c.loop-at.own c.loop-at.g c.loop-at.k c.loop-at.invariant c.loop-at-test.true c.form_end-end.result c.between-x.result.now c.form_end-end.ensures c.between-x.ensures _ c.collect_item.new.names c.collect_item.new.own c.collect_item.new.g c.collect_item.new.k c.collect_item.result c.in-Left.is c.collect_item.ensures.framed.1 c.collect_item.ensures.framed.0 (record { kept = walk_kept c.collect_item.result c.args.pass.checking c.loop-at.own c.collect_item.new.own c.loop-at.g c.collect_item.new.g c.loop-at.k c.collect_item.new.k c.in-Left.is c.collect_item.ensures.walk_leaves; own_size = c.collect_item.auto.own; g_size = c.collect_item.auto.g; k_size = c.collect_item.auto.k }) c.collect_item.ensures.ends
+collect_items-loop-at-preserved t c = item_next c.args.pass.fuel (mode c.args.pass.checking c.args.pass.bound) c.args.text.now c.args.kinds.now c.args.mods.now c.args.pass.count c.args.s.now c.args.base c.args.pass.depth c.args.ks.now c.args.names.now c.args.pass.used c.args.left c.args.own.now c.args.g.now c.args.k.now c.loop-at.at c.loop-at.left c.loop-at.names c.loop-at.own c.loop-at.g c.loop-at.k c.loop-at.invariant c.loop-at-test.true c.form_end-end.result c.between-x.result.now c.form_end-end.ensures c.between-x.ensures _ c.collect_item.new.names c.collect_item.new.own c.collect_item.new.g c.collect_item.new.k c.collect_item.result c.in_ok-left.was c.collect_item.ensures.framed.1 c.collect_item.ensures.framed.0 (record { kept = walk_kept c.collect_item.result c.args.pass.checking c.loop-at.own c.collect_item.new.own c.loop-at.g c.collect_item.new.g c.loop-at.k c.collect_item.new.k c.in_ok-left.was c.collect_item.ensures.walk_leaves; own_size = c.collect_item.auto.own; g_size = c.collect_item.auto.g; k_size = c.collect_item.auto.k }) c.collect_item.ensures.ends
 
-pub collect_items-returns-in-Full-clause-ends : goal.collect_items-returns-in-Full-clause-ends
-collect_items-returns-in-Full-clause-ends t c = item_full c.args.pass.fuel (mode c.args.pass.checking c.args.pass.bound) c.args.text.now c.args.kinds.now c.args.mods.now c.args.pass.count c.args.s.now c.args.base c.args.pass.depth c.args.ks.now c.args.names.now c.args.pass.used c.args.left c.args.own.now c.args.g.now c.args.k.now c.loop-at.at c.loop-at.left c.loop-at.names c.loop-at.own c.loop-at.g c.loop-at.k c.loop-at.invariant c.loop-at-test.true c.form_end-end.result c.between-x.result.now c.form_end-end.ensures c.between-x.ensures c.collect_item.new.own c.collect_item.new.g c.collect_item.new.k c.collect_item.result c.in-Full.is c.collect_item.ensures.ends
+pub collect_items-returns-in_err-left-clause-ends : goal.collect_items-returns-in_err-left-clause-ends
+collect_items-returns-in_err-left-clause-ends t c = rw (err_from_is_err_and c.from_residual.result c.from_residual.ensures.1).1 (item_full c.args.pass.fuel (mode c.args.pass.checking c.args.pass.bound) c.args.text.now c.args.kinds.now c.args.mods.now c.args.pass.count c.args.s.now c.args.base c.args.pass.depth c.args.ks.now c.args.names.now c.args.pass.used c.args.left c.args.own.now c.args.g.now c.args.k.now c.loop-at.at c.loop-at.left c.loop-at.names c.loop-at.own c.loop-at.g c.loop-at.k c.loop-at.invariant c.loop-at-test.true c.form_end-end.result c.between-x.result.now c.form_end-end.ensures c.between-x.ensures c.collect_item.new.own c.collect_item.new.g c.collect_item.new.k c.collect_item.result c.in_err-left.was c.collect_item.ensures.ends)
 
-pub collect_items-returns-in-Full-clause-framed : goal.collect_items-returns-in-Full-clause-framed
-collect_items-returns-in-Full-clause-framed t c = (framed_again c.loop-at.invariant.framed c.collect_item.ensures.framed.0, tt)
+pub collect_items-returns-in_err-left-clause-framed : goal.collect_items-returns-in_err-left-clause-framed
+collect_items-returns-in_err-left-clause-framed t c = rw (err_from_is_err_and c.from_residual.result c.from_residual.ensures.1).1 ((framed_again c.loop-at.invariant.framed c.collect_item.ensures.framed.0, tt))
 
-pub collect_items-returns-in-Full-clause-walk_leaves : goal.collect_items-returns-in-Full-clause-walk_leaves
-collect_items-returns-in-Full-clause-walk_leaves t c = walk_cleared c.collect_item.result c.args.pass.checking c.loop-at.own c.collect_item.new.own c.loop-at.g c.collect_item.new.g c.loop-at.k c.collect_item.new.k c.in-Full.is c.collect_item.ensures.walk_leaves
+pub collect_items-returns-in_err-left-clause-walk_leaves : goal.collect_items-returns-in_err-left-clause-walk_leaves
+collect_items-returns-in_err-left-clause-walk_leaves t c = rw (err_from_is_err_and c.from_residual.result c.from_residual.ensures.1).1 (walk_cleared c.collect_item.result c.args.pass.checking c.loop-at.own c.collect_item.new.own c.loop-at.g c.collect_item.new.g c.loop-at.k c.collect_item.new.k c.in_err-left.was c.collect_item.ensures.walk_leaves)
 
 pub collect_items-returns-clause-ends : goal.collect_items-returns-clause-ends
 collect_items-returns-clause-ends t c = ended c.args.pass.fuel (mode c.args.pass.checking c.args.pass.bound) c.args.text.now c.args.kinds.now c.args.mods.now c.args.pass.count c.args.s.now c.args.base c.args.pass.depth c.args.ks.now c.args.names.now c.args.pass.used c.args.left c.args.own.now c.args.g.now c.args.k.now c.loop-at.at c.loop-at.left c.loop-at.names c.loop-at.own c.loop-at.g c.loop-at.k c.loop-at.invariant (omega (arith, c.loop-at-test.false))
@@ -213,23 +216,23 @@ inst_edges-returns-then-is_outside-clause-edges_leave t c = (cleared_of (length 
 pub inst_edges-comb_summary-requires : goal.inst_edges-comb_summary-requires
 inst_edges-comb_summary-requires t c = omega arith
 
-pub inst_edges-returns-in-Full-clause-stepped : goal.inst_edges-returns-in-Full-clause-stepped
-inst_edges-returns-in-Full-clause-stepped t c = λ mo own from w G. summary_full c.args.pass.fuel c.args.text.now c.args.kinds.now c.args.mods.now c.args.pass.count c.args.x.now c.args.pass.depth c.args.ks.now c.args.names.now c.args.pass.used c.args.g.now c.args.k.now mo own from w G _ c.inst_index-index.ensures (sym (c.is_outside.ensures ∙ outside_number c.inst_index-index.result) ∙ c.if-is_outside.false) c.inst_module-m.result c.inst_module-m.ensures (subst (λ x. AskedFor x c.comb_summary.new.k c.inst_module-m.result w.busy (ask_walk c.args.pass.fuel (decode c.args.text.now) w.busy w.state.kept c.inst_module-m.result)) c.in-Full.is (c.comb_summary.ensures.asked_for w.state.kept w.busy G.tabled G.holding.keeps))
+pub inst_edges-returns-in-Err-clause-stepped : goal.inst_edges-returns-in-Err-clause-stepped
+inst_edges-returns-in-Err-clause-stepped t c = λ mo own from w G. summary_full c.args.pass.fuel c.args.text.now c.args.kinds.now c.args.mods.now c.args.pass.count c.args.x.now c.args.pass.depth c.args.ks.now c.args.names.now c.args.pass.used c.args.g.now c.args.k.now mo own from w G _ c.inst_index-index.ensures (sym (c.is_outside.ensures ∙ outside_number c.inst_index-index.result) ∙ c.if-is_outside.false) c.inst_module-m.result c.inst_module-m.ensures (subst (λ x. AskedFor x c.comb_summary.new.k c.inst_module-m.result w.busy (ask_walk c.args.pass.fuel (decode c.args.text.now) w.busy w.state.kept c.inst_module-m.result)) c.in-Err.is (c.comb_summary.ensures.asked_for w.state.kept w.busy G.tabled G.holding.keeps))
 
-pub inst_edges-returns-in-Full-clause-edges_leave : goal.inst_edges-returns-in-Full-clause-edges_leave
-inst_edges-returns-in-Full-clause-edges_leave t c = (cleared_of (length c.args.g.now) c.clear-in-Full.new.g c.clear-in-Full.ensures, ask_cleared c.comb_summary.result c.args.k.now c.comb_summary.new.k c.in-Full.is c.comb_summary.ensures.ask_leaves)
+pub inst_edges-returns-in-Err-clause-edges_leave : goal.inst_edges-returns-in-Err-clause-edges_leave
+inst_edges-returns-in-Err-clause-edges_leave t c = (cleared_of (length c.args.g.now) c.clear-in-Err.new.g c.clear-in-Err.ensures, ask_cleared c.comb_summary.result c.args.k.now c.comb_summary.new.k c.in-Err.is c.comb_summary.ensures.ask_leaves)
 
-pub inst_edges-returns-in-Empty-clause-stepped : goal.inst_edges-returns-in-Empty-clause-stepped
-inst_edges-returns-in-Empty-clause-stepped t c = λ mo own from w G. inst_stepped (worth c.inst_index-index.result) (summary_at c.comb_summary.new.k 0 0) c.args.x.now c.args.pass.depth c.args.ks.now (names_of c.args.names.now c.args.pass.used) c.args.g.now c.inst_line.new.g c.comb_summary.new.k c.inst_line.new.k c.inst_line.result mo c.args.text.now own w.busy _ c.inst_line.ensures.inst_leaves (summary_empty c.args.pass.fuel c.args.text.now c.args.kinds.now c.args.mods.now c.args.pass.count c.args.x.now c.args.pass.depth c.args.ks.now c.args.names.now c.args.pass.used c.args.g.now c.args.k.now mo own from w G _ c.inst_index-index.ensures (sym (c.is_outside.ensures ∙ outside_number c.inst_index-index.result) ∙ c.if-is_outside.false) c.inst_module-m.result c.inst_module-m.ensures c.comb_summary.new.k (subst (λ x. AskedFor x c.comb_summary.new.k c.inst_module-m.result w.busy (ask_walk c.args.pass.fuel (decode c.args.text.now) w.busy w.state.kept c.inst_module-m.result)) c.in-Empty.is (c.comb_summary.ensures.asked_for w.state.kept w.busy G.tabled G.holding.keeps)) c.inst_line.result c.inst_line.new.g c.inst_line.ensures.inst_heads)
+pub inst_edges-returns-then-not-known-clause-stepped : goal.inst_edges-returns-then-not-known-clause-stepped
+inst_edges-returns-then-not-known-clause-stepped t c = λ mo own from w G. inst_stepped (worth c.inst_index-index.result) (summary_at c.comb_summary.new.k 0 0) c.args.x.now c.args.pass.depth c.args.ks.now (names_of c.args.names.now c.args.pass.used) c.args.g.now c.inst_line.new.g c.comb_summary.new.k c.inst_line.new.k (is_ok c.inst_line.result) mo c.args.text.now own w.busy _ c.inst_line.ensures.inst_leaves (summary_empty c.args.pass.fuel c.args.text.now c.args.kinds.now c.args.mods.now c.args.pass.count c.args.x.now c.args.pass.depth c.args.ks.now c.args.names.now c.args.pass.used c.args.g.now c.args.k.now mo own from w G _ c.inst_index-index.ensures (sym (c.is_outside.ensures ∙ outside_number c.inst_index-index.result) ∙ c.if-is_outside.false) c.inst_module-m.result c.inst_module-m.ensures c.comb_summary.new.k (subst (λ x. AskedFor x c.comb_summary.new.k c.inst_module-m.result w.busy (ask_walk c.args.pass.fuel (decode c.args.text.now) w.busy w.state.kept c.inst_module-m.result)) (c.in-Ok.is ∙ ap Ok c.if-not-known.true) (c.comb_summary.ensures.asked_for w.state.kept w.busy G.tabled G.holding.keeps)) (is_ok c.inst_line.result) c.inst_line.new.g c.inst_line.ensures.inst_heads)
 
-pub inst_edges-returns-in-Empty-clause-edges_leave : goal.inst_edges-returns-in-Empty-clause-edges_leave
-inst_edges-returns-in-Empty-clause-edges_leave t c = inst_edges_left (worth c.inst_index-index.result) (summary_at c.comb_summary.new.k 0 0) c.args.x.now c.args.pass.depth c.args.ks.now (names_of c.args.names.now c.args.pass.used) c.args.g.now c.inst_line.new.g c.comb_summary.new.k c.inst_line.new.k c.inst_line.result c.args.k.now (ask_empty c.comb_summary.result c.args.k.now c.comb_summary.new.k c.in-Empty.is c.comb_summary.ensures.ask_leaves) c.inst_index-index.ensures (known_none c.args.x.now c.comb_summary.new.k) c.inst_line.ensures.inst_leaves
+pub inst_edges-returns-then-not-known-clause-edges_leave : goal.inst_edges-returns-then-not-known-clause-edges_leave
+inst_edges-returns-then-not-known-clause-edges_leave t c = inst_edges_left (worth c.inst_index-index.result) (summary_at c.comb_summary.new.k 0 0) c.args.x.now c.args.pass.depth c.args.ks.now (names_of c.args.names.now c.args.pass.used) c.args.g.now c.inst_line.new.g c.comb_summary.new.k c.inst_line.new.k (is_ok c.inst_line.result) c.args.k.now (ask_empty c.comb_summary.result c.args.k.now c.comb_summary.new.k (c.in-Ok.is ∙ ap Ok c.if-not-known.true) c.comb_summary.ensures.ask_leaves) c.inst_index-index.ensures (known_none c.args.x.now c.comb_summary.new.k) c.inst_line.ensures.inst_leaves
 
-pub inst_edges-returns-in-Kept-clause-stepped : goal.inst_edges-returns-in-Kept-clause-stepped
-inst_edges-returns-in-Kept-clause-stepped t c = λ mo own from w G. inst_stepped (worth c.inst_index-index.result) (summary_at c.comb_summary.new.k c.first-first.result c.count-pairs.result) c.args.x.now c.args.pass.depth c.args.ks.now (names_of c.args.names.now c.args.pass.used) c.args.g.now c.inst_line-in-Kept.new.g c.comb_summary.new.k c.inst_line-in-Kept.new.k c.inst_line-in-Kept.result mo c.args.text.now own w.busy _ c.inst_line-in-Kept.ensures.inst_leaves (summary_kept c.args.pass.fuel c.args.text.now c.args.kinds.now c.args.mods.now c.args.pass.count c.args.x.now c.args.pass.depth c.args.ks.now c.args.names.now c.args.pass.used c.args.g.now c.args.k.now mo own from w G _ c.inst_index-index.ensures (sym (c.is_outside.ensures ∙ outside_number c.inst_index-index.result) ∙ c.if-is_outside.false) c.inst_module-m.result c.inst_module-m.ensures c.comb_summary.new.k (subst (λ x. AskedFor x c.comb_summary.new.k c.inst_module-m.result w.busy (ask_walk c.args.pass.fuel (decode c.args.text.now) w.busy w.state.kept c.inst_module-m.result)) c.in-Kept.is (c.comb_summary.ensures.asked_for w.state.kept w.busy G.tabled G.holding.keeps)) c.first-first.result c.count-pairs.result c.first-first.ensures c.count-pairs.ensures c.inst_line-in-Kept.result c.inst_line-in-Kept.new.g c.inst_line-in-Kept.ensures.inst_heads)
+pub inst_edges-returns-clause-stepped : goal.inst_edges-returns-clause-stepped
+inst_edges-returns-clause-stepped t c = λ mo own from w G. inst_stepped (worth c.inst_index-index.result) (summary_at c.comb_summary.new.k c.first-first.result c.count-pairs.result) c.args.x.now c.args.pass.depth c.args.ks.now (names_of c.args.names.now c.args.pass.used) c.args.g.now c.inst_line-2.new.g c.comb_summary.new.k c.inst_line-2.new.k (is_ok c.inst_line-2.result) mo c.args.text.now own w.busy _ c.inst_line-2.ensures.inst_leaves (summary_kept c.args.pass.fuel c.args.text.now c.args.kinds.now c.args.mods.now c.args.pass.count c.args.x.now c.args.pass.depth c.args.ks.now c.args.names.now c.args.pass.used c.args.g.now c.args.k.now mo own from w G _ c.inst_index-index.ensures (sym (c.is_outside.ensures ∙ outside_number c.inst_index-index.result) ∙ c.if-is_outside.false) c.inst_module-m.result c.inst_module-m.ensures c.comb_summary.new.k (subst (λ x. AskedFor x c.comb_summary.new.k c.inst_module-m.result w.busy (ask_walk c.args.pass.fuel (decode c.args.text.now) w.busy w.state.kept c.inst_module-m.result)) (c.in-Ok.is ∙ ap Ok c.if-not-known.false) (c.comb_summary.ensures.asked_for w.state.kept w.busy G.tabled G.holding.keeps)) c.first-first.result c.count-pairs.result c.first-first.ensures c.count-pairs.ensures (is_ok c.inst_line-2.result) c.inst_line-2.new.g c.inst_line-2.ensures.inst_heads)
 
-pub inst_edges-returns-in-Kept-clause-edges_leave : goal.inst_edges-returns-in-Kept-clause-edges_leave
-inst_edges-returns-in-Kept-clause-edges_leave t c = inst_edges_left (worth c.inst_index-index.result) (summary_at c.comb_summary.new.k c.first-first.result c.count-pairs.result) c.args.x.now c.args.pass.depth c.args.ks.now (names_of c.args.names.now c.args.pass.used) c.args.g.now c.inst_line-in-Kept.new.g c.comb_summary.new.k c.inst_line-in-Kept.new.k c.inst_line-in-Kept.result c.args.k.now (ask_kept c.comb_summary.result c.args.k.now c.comb_summary.new.k c.in-Kept.is c.comb_summary.ensures.ask_leaves) c.inst_index-index.ensures (known_kept c.args.x.now c.comb_summary.new.k c.inst_module-m.result c.inst_module-m.ensures c.first-first.result c.count-pairs.result c.first-first.ensures c.count-pairs.ensures) c.inst_line-in-Kept.ensures.inst_leaves
+pub inst_edges-returns-clause-edges_leave : goal.inst_edges-returns-clause-edges_leave
+inst_edges-returns-clause-edges_leave t c = inst_edges_left (worth c.inst_index-index.result) (summary_at c.comb_summary.new.k c.first-first.result c.count-pairs.result) c.args.x.now c.args.pass.depth c.args.ks.now (names_of c.args.names.now c.args.pass.used) c.args.g.now c.inst_line-2.new.g c.comb_summary.new.k c.inst_line-2.new.k (is_ok c.inst_line-2.result) c.args.k.now (ask_kept c.comb_summary.result c.args.k.now c.comb_summary.new.k (c.in-Ok.is ∙ ap Ok c.if-not-known.false) c.comb_summary.ensures.ask_leaves) c.inst_index-index.ensures (known_kept c.args.x.now c.comb_summary.new.k c.inst_module-m.result c.inst_module-m.ensures c.first-first.result c.count-pairs.result c.first-first.ensures c.count-pairs.ensures) c.inst_line-2.ensures.inst_leaves
 
 pub make_summary-returns-then-text-gt32768-clause-asked_for : goal.make_summary-returns-then-text-gt32768-clause-asked_for
 make_summary-returns-then-text-gt32768-clause-asked_for t c = λ kept busy t h small new free. not_long c.args.text.now c.args.kinds.now c.args.mods.now c.args.pass.count c.args.m c.args.k.now kept busy t h c.args.pass.fuel small new free c.if-text-gt32768.true
@@ -246,20 +249,20 @@ make_summary-returns-in_default-clause-ask_leaves t c = cleared_of (length c.arg
 pub make_summary-collect_items-requires : goal.make_summary-collect_items-requires
 make_summary-collect_items-requires t c = (omega arith, omega (arith, c.if-text-gt32768.false, c.run_at.type_inv, c.run_at.ensures, run_short c.args.text.now c.args.mods.now c.args.m, ap length c.items_of_module-run.ensures))
 
-pub make_summary-returns-in_default-collect_items-clause-asked_for : goal.make_summary-returns-in_default-collect_items-clause-asked_for
-make_summary-returns-in_default-collect_items-clause-asked_for t c = λ kept busy t h small new free. make_stops c.args.text.now c.args.kinds.now c.args.mods.now c.args.pass.count c.args.m c.args.k.now kept busy t h c.args.pass.fuel small new free c.names_of_module.result c.names_of_module.new.names (λ x M. c.names_of_module.ensures.names_are x M (omega (arith, length-replicate {A = ℕ} 6616 0))) _ c.in-Used.is _ _ c.begin.new.k (stands_empty 16898 (omega arith)) c.begin.ensures c.items_of_module-run.result.now c.items_of_module-run.ensures c.run_at.result c.run_at.ensures c.module_kinds-ks.result.now c.module_kinds-ks.ensures c.collect_items.result c.collect_items.new.own c.collect_items.new.g c.collect_items.new.k c.collect_items.ensures.ends c.in_default-collect_items.is
+pub make_summary-returns-in_err-collect_items-clause-asked_for : goal.make_summary-returns-in_err-collect_items-clause-asked_for
+make_summary-returns-in_err-collect_items-clause-asked_for t c = rw (err_from_is_err_and c.from_residual.result c.from_residual.ensures.1).1 (λ kept busy t h small new free. make_stops c.args.text.now c.args.kinds.now c.args.mods.now c.args.pass.count c.args.m c.args.k.now kept busy t h c.args.pass.fuel small new free c.names_of_module.result c.names_of_module.new.names (λ x M. c.names_of_module.ensures.names_are x M (omega (arith, length-replicate {A = ℕ} 6616 0))) _ c.in-Used.is _ _ c.begin.new.k (stands_empty 16898 (omega arith)) c.begin.ensures c.items_of_module-run.result.now c.items_of_module-run.ensures c.run_at.result c.run_at.ensures c.module_kinds-ks.result.now c.module_kinds-ks.ensures c.collect_items.result c.collect_items.new.own c.collect_items.new.g c.collect_items.new.k c.collect_items.ensures.ends c.in_err-collect_items.was)
 
-pub make_summary-returns-in_default-collect_items-clause-ask_leaves : goal.make_summary-returns-in_default-collect_items-clause-ask_leaves
-make_summary-returns-in_default-collect_items-clause-ask_leaves t c = (walk_cleared c.collect_items.result false _ _ _ _ _ _ c.in_default-collect_items.is c.collect_items.ensures.walk_leaves).2
+pub make_summary-returns-in_err-collect_items-clause-ask_leaves : goal.make_summary-returns-in_err-collect_items-clause-ask_leaves
+make_summary-returns-in_err-collect_items-clause-ask_leaves t c = rw (err_from_is_err_and c.from_residual.result c.from_residual.ensures.1).1 ((walk_cleared c.collect_items.result false _ _ _ _ _ _ c.in_err-collect_items.was c.collect_items.ensures.walk_leaves).2)
 
 pub make_summary-returns-then-summarise-clause-asked_for : goal.make_summary-returns-then-summarise-clause-asked_for
-make_summary-returns-then-summarise-clause-asked_for t c = λ kept busy t h small new free. make_kept c.args.text.now c.args.kinds.now c.args.mods.now c.args.pass.count c.args.m c.args.k.now kept busy t h c.args.pass.fuel small new free c.names_of_module.result c.names_of_module.new.names (λ x M. c.names_of_module.ensures.names_are x M (omega (arith, length-replicate {A = ℕ} 6616 0))) _ c.in-Used.is _ _ c.begin.new.k (stands_empty 16898 (omega arith)) c.begin.ensures c.items_of_module-run.result.now c.items_of_module-run.ensures c.run_at.result c.run_at.ensures c.module_kinds-ks.result.now c.module_kinds-ks.ensures c.collect_items.result c.collect_items.new.own c.collect_items.new.g c.collect_items.new.k c.collect_items.ensures.ends _ c.in-Left.is c.summarise.result c.summarise.new.k c.summarise.ensures.by_index c.if-summarise.true
+make_summary-returns-then-summarise-clause-asked_for t c = λ kept busy t h small new free. make_kept c.args.text.now c.args.kinds.now c.args.mods.now c.args.pass.count c.args.m c.args.k.now kept busy t h c.args.pass.fuel small new free c.names_of_module.result c.names_of_module.new.names (λ x M. c.names_of_module.ensures.names_are x M (omega (arith, length-replicate {A = ℕ} 6616 0))) _ c.in-Used.is _ _ c.begin.new.k (stands_empty 16898 (omega arith)) c.begin.ensures c.items_of_module-run.result.now c.items_of_module-run.ensures c.run_at.result c.run_at.ensures c.module_kinds-ks.result.now c.module_kinds-ks.ensures c.collect_items.result c.collect_items.new.own c.collect_items.new.g c.collect_items.new.k c.collect_items.ensures.ends _ c.in_ok-collect_items.was c.summarise.result c.summarise.new.k c.summarise.ensures.by_index c.if-summarise.true
 
 pub make_summary-returns-then-summarise-clause-ask_leaves : goal.make_summary-returns-then-summarise-clause-ask_leaves
-make_summary-returns-then-summarise-clause-ask_leaves t c = made_left c.args.k.now c.begin.new.k c.collect_items.new.g c.collect_items.new.k c.summarise.new.k c.args.m c.items_of_module-run.result.now c.module_kinds-ks.result.now c.summarise.result c.begin.ensures (walk_kept c.collect_items.result false _ _ _ _ _ _ c.in-Left.is c.collect_items.ensures.walk_leaves).1 c.if-summarise.true c.summarise.ensures.leaves
+make_summary-returns-then-summarise-clause-ask_leaves t c = made_left c.args.k.now c.begin.new.k c.collect_items.new.g c.collect_items.new.k c.summarise.new.k c.args.m c.items_of_module-run.result.now c.module_kinds-ks.result.now c.summarise.result c.begin.ensures (walk_kept c.collect_items.result false _ _ _ _ _ _ c.in_ok-collect_items.was c.collect_items.ensures.walk_leaves).1 c.if-summarise.true c.summarise.ensures.leaves
 
 pub make_summary-returns-else-summarise-clause-asked_for : goal.make_summary-returns-else-summarise-clause-asked_for
-make_summary-returns-else-summarise-clause-asked_for t c = λ kept busy t h small new free. make_over c.args.text.now c.args.kinds.now c.args.mods.now c.args.pass.count c.args.m c.args.k.now kept busy t h c.args.pass.fuel small new free c.names_of_module.result c.names_of_module.new.names (λ x M. c.names_of_module.ensures.names_are x M (omega (arith, length-replicate {A = ℕ} 6616 0))) _ c.in-Used.is _ _ c.begin.new.k (stands_empty 16898 (omega arith)) c.begin.ensures c.items_of_module-run.result.now c.items_of_module-run.ensures c.run_at.result c.run_at.ensures c.module_kinds-ks.result.now c.module_kinds-ks.ensures c.collect_items.result c.collect_items.new.own c.collect_items.new.g c.collect_items.new.k c.collect_items.ensures.ends _ c.in-Left.is c.summarise.result c.summarise.new.k c.summarise.ensures.by_index c.if-summarise.false
+make_summary-returns-else-summarise-clause-asked_for t c = λ kept busy t h small new free. make_over c.args.text.now c.args.kinds.now c.args.mods.now c.args.pass.count c.args.m c.args.k.now kept busy t h c.args.pass.fuel small new free c.names_of_module.result c.names_of_module.new.names (λ x M. c.names_of_module.ensures.names_are x M (omega (arith, length-replicate {A = ℕ} 6616 0))) _ c.in-Used.is _ _ c.begin.new.k (stands_empty 16898 (omega arith)) c.begin.ensures c.items_of_module-run.result.now c.items_of_module-run.ensures c.run_at.result c.run_at.ensures c.module_kinds-ks.result.now c.module_kinds-ks.ensures c.collect_items.result c.collect_items.new.own c.collect_items.new.g c.collect_items.new.k c.collect_items.ensures.ends _ c.in_ok-collect_items.was c.summarise.result c.summarise.new.k c.summarise.ensures.by_index c.if-summarise.false
 
 pub make_summary-returns-else-summarise-clause-ask_leaves : goal.make_summary-returns-else-summarise-clause-ask_leaves
 make_summary-returns-else-summarise-clause-ask_leaves t c = leaves_zero c.summarise.result _ _ _ c.collect_items.new.k c.args.m c.summarise.new.k c.if-summarise.false c.summarise.ensures.leaves
@@ -363,20 +366,17 @@ repeat_rounds-overflow_add-open t c = omega (arith, ltb-true c.args.pass.used (l
 pub repeat_rounds-collect_items-requires : goal.repeat_rounds-collect_items-requires
 repeat_rounds-collect_items-requires t c = (omega arith, omega (arith, c.requires))
 
-pub repeat_rounds-loop-i-smaller : goal.repeat_rounds-loop-i-smaller
-repeat_rounds-loop-i-smaller t c = omega (arith, c.loop-i-test.true)
-
 pub repeat_rounds-loop-i-preserved : goal.repeat_rounds-loop-i-preserved
-repeat_rounds-loop-i-preserved t c = rounds_next c.args.pass.fuel (mode c.args.pass.checking c.args.pass.bound) c.args.text.now c.args.kinds.now c.args.mods.now c.args.pass.count c.args.s.now c.args.base c.args.pass.depth c.args.ks.now c.args.names.now c.args.pass.used c.args.turn.name c.args.turn.low c.args.turn.rounds c.args.turn.left c.args.own.now c.args.g.now c.args.k.now c.loop-i.i c.loop-i.left c.loop-i.names c.loop-i.own c.loop-i.g c.loop-i.k c.loop-i.invariant c.loop-i-test.true c.push.new.names c.push.ensures.names_after c.collect_items.result c.collect_items.new.names c.collect_items.new.own c.collect_items.new.g c.collect_items.new.k c.collect_items.ensures.ends _ c.in-Left.is c.collect_items.ensures.framed.1 c.collect_items.ensures.framed.0 (record { kept = walk_kept c.collect_items.result c.args.pass.checking c.loop-i.own c.collect_items.new.own c.loop-i.g c.collect_items.new.g c.loop-i.k c.collect_items.new.k c.in-Left.is c.collect_items.ensures.walk_leaves; own_size = c.collect_items.auto.own; g_size = c.collect_items.auto.g; k_size = c.collect_items.auto.k })
+repeat_rounds-loop-i-preserved t c = rounds_next c.args.pass.fuel (mode c.args.pass.checking c.args.pass.bound) c.args.text.now c.args.kinds.now c.args.mods.now c.args.pass.count c.args.s.now c.args.base c.args.pass.depth c.args.ks.now c.args.names.now c.args.pass.used c.args.turn.name c.args.turn.low c.args.turn.rounds c.args.turn.left c.args.own.now c.args.g.now c.args.k.now c.loop-i.i c.loop-i.left c.loop-i.names c.loop-i.own c.loop-i.g c.loop-i.k c.loop-i.invariant c.loop-i-test.true c.push.new.names c.push.ensures.names_after c.collect_items.result c.collect_items.new.names c.collect_items.new.own c.collect_items.new.g c.collect_items.new.k c.collect_items.ensures.ends _ c.in_ok-left.was c.collect_items.ensures.framed.1 c.collect_items.ensures.framed.0 (record { kept = walk_kept c.collect_items.result c.args.pass.checking c.loop-i.own c.collect_items.new.own c.loop-i.g c.collect_items.new.g c.loop-i.k c.collect_items.new.k c.in_ok-left.was c.collect_items.ensures.walk_leaves; own_size = c.collect_items.auto.own; g_size = c.collect_items.auto.g; k_size = c.collect_items.auto.k })
 
-pub repeat_rounds-returns-in-Full-clause-ends : goal.repeat_rounds-returns-in-Full-clause-ends
-repeat_rounds-returns-in-Full-clause-ends t c = rounds_full c.args.pass.fuel (mode c.args.pass.checking c.args.pass.bound) c.args.text.now c.args.kinds.now c.args.mods.now c.args.pass.count c.args.s.now c.args.base c.args.pass.depth c.args.ks.now c.args.names.now c.args.pass.used c.args.turn.name c.args.turn.low c.args.turn.rounds c.args.turn.left c.args.own.now c.args.g.now c.args.k.now c.loop-i.i c.loop-i.left c.loop-i.names c.loop-i.own c.loop-i.g c.loop-i.k c.loop-i.invariant c.loop-i-test.true c.push.new.names c.push.ensures.names_after c.collect_items.result c.collect_items.new.names c.collect_items.new.own c.collect_items.new.g c.collect_items.new.k c.collect_items.ensures.ends c.in-Full.is
+pub repeat_rounds-returns-in_err-left-clause-ends : goal.repeat_rounds-returns-in_err-left-clause-ends
+repeat_rounds-returns-in_err-left-clause-ends t c = rw (err_from_is_err_and c.from_residual.result c.from_residual.ensures.1).1 (rounds_full c.args.pass.fuel (mode c.args.pass.checking c.args.pass.bound) c.args.text.now c.args.kinds.now c.args.mods.now c.args.pass.count c.args.s.now c.args.base c.args.pass.depth c.args.ks.now c.args.names.now c.args.pass.used c.args.turn.name c.args.turn.low c.args.turn.rounds c.args.turn.left c.args.own.now c.args.g.now c.args.k.now c.loop-i.i c.loop-i.left c.loop-i.names c.loop-i.own c.loop-i.g c.loop-i.k c.loop-i.invariant c.loop-i-test.true c.push.new.names c.push.ensures.names_after c.collect_items.result c.collect_items.new.names c.collect_items.new.own c.collect_items.new.g c.collect_items.new.k c.collect_items.ensures.ends c.in_err-left.was)
 
-pub repeat_rounds-returns-in-Full-clause-framed : goal.repeat_rounds-returns-in-Full-clause-framed
-repeat_rounds-returns-in-Full-clause-framed t c = (rounds_framed c.args.pass.fuel (mode c.args.pass.checking c.args.pass.bound) c.args.text.now c.args.kinds.now c.args.mods.now c.args.pass.count c.args.s.now c.args.base c.args.pass.depth c.args.ks.now c.args.names.now c.args.pass.used c.args.turn.name c.args.turn.low c.args.turn.rounds c.args.turn.left c.args.own.now c.args.g.now c.args.k.now c.loop-i.i c.loop-i.left c.loop-i.names c.loop-i.own c.loop-i.g c.loop-i.k c.loop-i.invariant c.loop-i-test.true c.push.new.names c.push.ensures.names_after c.collect_items.result c.collect_items.new.names c.collect_items.new.own c.collect_items.new.g c.collect_items.new.k c.collect_items.ensures.ends c.collect_items.ensures.framed.0, tt)
+pub repeat_rounds-returns-in_err-left-clause-framed : goal.repeat_rounds-returns-in_err-left-clause-framed
+repeat_rounds-returns-in_err-left-clause-framed t c = rw (err_from_is_err_and c.from_residual.result c.from_residual.ensures.1).1 ((rounds_framed c.args.pass.fuel (mode c.args.pass.checking c.args.pass.bound) c.args.text.now c.args.kinds.now c.args.mods.now c.args.pass.count c.args.s.now c.args.base c.args.pass.depth c.args.ks.now c.args.names.now c.args.pass.used c.args.turn.name c.args.turn.low c.args.turn.rounds c.args.turn.left c.args.own.now c.args.g.now c.args.k.now c.loop-i.i c.loop-i.left c.loop-i.names c.loop-i.own c.loop-i.g c.loop-i.k c.loop-i.invariant c.loop-i-test.true c.push.new.names c.push.ensures.names_after c.collect_items.result c.collect_items.new.names c.collect_items.new.own c.collect_items.new.g c.collect_items.new.k c.collect_items.ensures.ends c.collect_items.ensures.framed.0, tt))
 
-pub repeat_rounds-returns-in-Full-clause-walk_leaves : goal.repeat_rounds-returns-in-Full-clause-walk_leaves
-repeat_rounds-returns-in-Full-clause-walk_leaves t c = walk_cleared c.collect_items.result c.args.pass.checking c.loop-i.own c.collect_items.new.own c.loop-i.g c.collect_items.new.g c.loop-i.k c.collect_items.new.k c.in-Full.is c.collect_items.ensures.walk_leaves
+pub repeat_rounds-returns-in_err-left-clause-walk_leaves : goal.repeat_rounds-returns-in_err-left-clause-walk_leaves
+repeat_rounds-returns-in_err-left-clause-walk_leaves t c = rw (err_from_is_err_and c.from_residual.result c.from_residual.ensures.1).1 (walk_cleared c.collect_items.result c.args.pass.checking c.loop-i.own c.collect_items.new.own c.loop-i.g c.collect_items.new.g c.loop-i.k c.collect_items.new.k c.in_err-left.was c.collect_items.ensures.walk_leaves)
 
 pub repeat_rounds-returns-clause-ends : goal.repeat_rounds-returns-clause-ends
 repeat_rounds-returns-clause-ends t c = rounds_end c.args.pass.fuel (mode c.args.pass.checking c.args.pass.bound) c.args.text.now c.args.kinds.now c.args.mods.now c.args.pass.count c.args.s.now c.args.base c.args.pass.depth c.args.ks.now c.args.names.now c.args.pass.used c.args.turn.name c.args.turn.low c.args.turn.rounds c.args.turn.left c.args.own.now c.args.g.now c.args.k.now c.loop-i.i c.loop-i.left c.loop-i.names c.loop-i.own c.loop-i.g c.loop-i.k c.loop-i.invariant (omega (arith, c.loop-i-test.false))

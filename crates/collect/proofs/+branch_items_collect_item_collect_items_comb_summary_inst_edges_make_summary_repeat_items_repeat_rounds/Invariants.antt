@@ -37,6 +37,3 @@ decreases-repeat_rounds l = l.pass.fuel * 256 + l.pass.depth * 4 + 7
 
 abbrev pub invariant-repeat_rounds-loop-i : goal.invariant-repeat_rounds-loop-i
 invariant-repeat_rounds-loop-i l = Rounds l.pass.fuel (mode l.pass.checking l.pass.bound) l.text l.kinds l.mods l.pass.count l.s l.base l.pass.depth l.ks l.initial.names l.pass.used l.turn.name l.turn.low l.turn.rounds l.turn.left l.initial.own l.initial.g l.initial.k l.i l.left l.names l.own l.g l.k
-
-abbrev pub decreases-repeat_rounds-loop-i : goal.decreases-repeat_rounds-loop-i
-decreases-repeat_rounds-loop-i l = l.turn.rounds - l.i
