@@ -19,7 +19,7 @@ ghost use Rattle.collect.specs.Face.{WalkGiven, ModuleGiven, Collects, left_of, 
 ghost use Rattle.collect.specs.Cycle.{walk_number, Mode, World, Given, Single, OneGiven, mode, Ends, walk_of, one_of, turns_of, step_of, Framed, RoundsWithin, WalkLeaves, Stepped, Tabled, AskedFor, AskLeaves, EdgesLeave};
 
 use consteval::names;
-use edges::Stop;
+use edges::{Scope, Stop};
 use lines::parts;
 use steps::modules::Named;
 use steps::{Chosen, Head, Times, modules};
@@ -115,15 +115,18 @@ fn collect_item(
 {
     match steps::head_of(x) {
         Head::Plain => {
+            let scope = Scope {
+                kinds: ks,
+                names,
+                used: pass.used,
+            };
             if let Err(e) = plain::plain_line(
                 x,
                 from,
                 pass.depth,
-                ks,
+                scope,
                 pass.checking,
                 pass.bound,
-                names,
-                pass.used,
                 own,
                 g,
             ) {
@@ -323,14 +326,17 @@ fn inst_edges(
             return Err(e);
         }
     };
+    let scope = Scope {
+        kinds: ks,
+        names,
+        used: pass.used,
+    };
     if !known {
-        return plain::inst_line(x, pass.depth, index, k, 0, 0, ks, names, pass.used, g);
+        return plain::inst_line(x, pass.depth, index, k, 0, 0, scope, g);
     }
     let first = summary::first(k, m);
     let pairs = summary::count(k, m);
-    plain::inst_line(
-        x, pass.depth, index, k, first, pairs, ks, names, pass.used, g,
-    )
+    plain::inst_line(x, pass.depth, index, k, first, pairs, scope, g)
 }
 
 // The summary of module m, made when it is first asked for: true where its pairs stand in the table, false where nothing is known of it, since it is

@@ -6,27 +6,20 @@ ghost use Rattle.edges.specs.Lines.{summary_at, InstHeads};
 ghost use Rattle.collect.specs.Plain.{LineHeads, HeadsLeave, PlainLine, PlainLeaves, InstLeaves};
 
 use consteval::Value;
-use edges::Stop;
+use edges::{Pairs, Scope, Stop};
 use lines::parts;
 
 // What the line x heads and reads, by the first byte of its word.
-fn line_heads(
-    x: &[u8],
-    depth: u32,
-    ks: &[u8],
-    names: &[u32],
-    used: usize,
-    g: &mut [u32],
-) -> Result<(), Stop>
-    ensures line_heads { LineHeads (is_ok result) x.now depth ks.now (names_of names.now used) g.old g.new }
+fn line_heads(x: &[u8], depth: u32, scope: Scope<'_>, g: &mut [u32]) -> Result<(), Stop>
+    ensures line_heads { LineHeads (is_ok result) x.now depth scope.entry.kinds.now (names_of scope.entry.names.now scope.entry.used) g.old g.new }
     ensures heads_leave { HeadsLeave (is_ok result) g.old g.new }
 {
     let c = parts::byte(x, 1);
     if c == b'w' {
-        return edges::wire_heads(x, depth, ks, names, used, g);
+        return edges::wire_heads(x, depth, scope, g);
     }
     if c == b'd' {
-        return edges::drive_heads(x, depth, ks, names, used, g);
+        return edges::drive_heads(x, depth, scope, g);
     }
     Ok(())
 }
@@ -37,35 +30,33 @@ pub(crate) fn plain_line(
     x: &[u8],
     from: u32,
     depth: u32,
-    ks: &[u8],
+    scope: Scope<'_>,
     checking: bool,
     bound: bool,
-    names: &[u32],
-    used: usize,
     own: &mut [u32],
     g: &mut [u32],
 ) -> Result<(), Stop>
-    ensures plain_line { PlainLine (is_ok result) x.now from depth ks.now checking bound (names_of names.now used)
+    ensures plain_line { PlainLine (is_ok result) x.now from depth scope.entry.kinds.now checking bound (names_of scope.entry.names.now scope.entry.used)
         own.old g.old own.new g.new }
     ensures plain_leaves { PlainLeaves (is_ok result) checking own.old own.new g.old g.new }
 {
     if checking {
-        if let Err(e) = items::own_line(x, from, bound, depth, ks, names, used, own) {
+        if let Err(e) = items::own_line(x, from, bound, depth, scope, own) {
             graph::clear(g);
             return Err(e);
         }
-        if let Err(e) = line_heads(x, depth, ks, names, used, g) {
+        if let Err(e) = line_heads(x, depth, scope, g) {
             graph::clear(own);
             return Err(e);
         }
         return Ok(());
     }
-    if items::drive_outside(x, depth, ks, names, used) {
+    if items::drive_outside(x, depth, scope) {
         graph::clear(own);
         graph::clear(g);
         return Err(Stop);
     }
-    if let Err(e) = line_heads(x, depth, ks, names, used, g) {
+    if let Err(e) = line_heads(x, depth, scope, g) {
         graph::clear(own);
         return Err(e);
     }
@@ -80,15 +71,18 @@ pub(crate) fn inst_line(
     k: &mut [u32],
     first: usize,
     count: usize,
-    ks: &[u8],
-    names: &[u32],
-    used: usize,
+    scope: Scope<'_>,
     g: &mut [u32],
 ) -> Result<(), Stop>
-    ensures inst_heads { InstHeads (is_ok result) (worth index) (summary_at k.old first count) x.now depth ks.now (names_of names.now used) g.old g.new }
-    ensures inst_leaves { InstLeaves (is_ok result) (worth index) (summary_at k.old first count) x.now depth ks.now (names_of names.now used) g.old g.new k.old k.new }
+    ensures inst_heads { InstHeads (is_ok result) (worth index) (summary_at k.old first count) x.now depth scope.entry.kinds.now (names_of scope.entry.names.now scope.entry.used) g.old g.new }
+    ensures inst_leaves { InstLeaves (is_ok result) (worth index) (summary_at k.old first count) x.now depth scope.entry.kinds.now (names_of scope.entry.names.now scope.entry.used) g.old g.new k.old k.new }
 {
-    if let Err(e) = edges::inst_heads(x, depth, index, k, first, count, ks, names, used, g) {
+    let pairs = Pairs {
+        words: k,
+        first,
+        count,
+    };
+    if let Err(e) = edges::inst_heads(x, depth, index, pairs, scope, g) {
         graph::clear(k);
         return Err(e);
     }

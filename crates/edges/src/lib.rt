@@ -23,6 +23,22 @@ use lines::{numbers, parts};
 #[derive(Clone, Copy, Debug, PartialEq, Eq)]
 pub struct Stop;
 
+// What a line of a module is read by: the kinds of the module's names, and the table of names that have a value, of which `used` are in use.
+#[derive(Clone, Copy)]
+pub struct Scope<'a> {
+    pub kinds: &'a [u8],
+    pub names: &'a [u32],
+    pub used: usize,
+}
+
+// The pairs of output and input of a summary: `count` of them in `words` from `first` on.
+#[derive(Clone, Copy)]
+pub struct Pairs<'a> {
+    pub words: &'a [u32],
+    pub first: usize,
+    pub count: usize,
+}
+
 // The node `from`, which the last line headed, reads the name n, by its kind: false where a limit is passed, and then the graph is cleared.
 fn name_read(kinds: &[u8], n: u32, g: &mut [u32], from: u32) -> Result<(), Stop>
     ensures name_read { NameRead (is_ok result) n kinds.now g.old g.new from }
@@ -143,16 +159,15 @@ fn index_read(
     p: u32,
     e: &[u8],
     depth: u32,
-    names: &[u32],
-    used: usize,
+    scope: Scope<'_>,
     g: &mut [u32],
     from: u32,
 ) -> Result<(), Stop>
-    ensures nodes_read { NodesRead (is_ok result) (indexed_reads i (value (names_of names.now used) (decode_expr depth e.now)) p)
+    ensures nodes_read { NodesRead (is_ok result) (indexed_reads i (value (names_of scope.entry.names.now scope.entry.used) (decode_expr depth e.now)) p)
         g.old g.new from }
-    ensures reads_or_cleared { ReadsOrCleared (is_ok result) (indexed_reads i (value (names_of names.now used) (decode_expr depth e.now)) p) from g.old g.new }
+    ensures reads_or_cleared { ReadsOrCleared (is_ok result) (indexed_reads i (value (names_of scope.entry.names.now scope.entry.used) (decode_expr depth e.now)) p) from g.old g.new }
 {
-    match consteval::eval(e, depth, names, used) {
+    match consteval::eval(e, depth, scope.names, scope.used) {
         Value::Known(v) => match graph::read(g, from, Node::OutputAt(i, v, p)) {
             Added::At(_) => Ok(()),
             Added::Full => Err(Stop),
@@ -196,61 +211,45 @@ fn under(depth: u32, k: u32) -> u32
 // The node `from` reads the `f` that e is: an output of an instance, or what the expression under it reads, which is at most `depth`
 // brackets deep. Where it says false the graph is cleared.
 #[cycle(expr_reads_field_reads_parts_read)]
-fn field_reads(
-    e: &[u8],
-    depth: u32,
-    kinds: &[u8],
-    names: &[u32],
-    used: usize,
-    g: &mut [u32],
-    from: u32,
-) -> Result<(), Stop>
-    ensures field_read { FieldRead (is_ok result) e.now depth kinds.now (names_of names.now used) g.old g.new from }
-    ensures reads_or_cleared { ReadsOrCleared (is_ok result) (field_read (expr_read kinds.now (names_of names.now used) depth) kinds.now (names_of names.now used) depth e.now) from g.old g.new }
+fn field_reads(e: &[u8], depth: u32, scope: Scope<'_>, g: &mut [u32], from: u32) -> Result<(), Stop>
+    ensures field_read { FieldRead (is_ok result) e.now depth scope.entry.kinds.now (names_of scope.entry.names.now scope.entry.used) g.old g.new from }
+    ensures reads_or_cleared { ReadsOrCleared (is_ok result) (field_read (expr_read scope.entry.kinds.now (names_of scope.entry.names.now scope.entry.used) depth) scope.entry.kinds.now (names_of scope.entry.names.now scope.entry.used) depth e.now) from g.old g.new }
 {
     let a = next_end(e, 2);
     let x = parts::between(e, 2, a);
     let p = number_at(e, a, next_end(e, a));
-    match field_of(x, kinds) {
+    match field_of(x, scope.kinds) {
         FieldOf::Inst(i) => output_read(i, p, g, from),
         FieldOf::InstAt(i) => {
             let b = parts::part_end(x, 4);
             let index = parts::between(x, b, next_end(x, b));
-            index_read(i, p, index, under(depth, 1), names, used, g, from)
+            index_read(i, p, index, under(depth, 1), scope, g, from)
         }
-        FieldOf::Other => expr_reads(x, depth, kinds, names, used, g, from),
+        FieldOf::Other => expr_reads(x, depth, scope, g, from),
     }
 }
 
 // The node `from` reads what the expression e reads: false where a limit is passed or an index is outside INT, and then
 // the graph is cleared.
 #[cycle(expr_reads_field_reads_parts_read)]
-fn expr_reads(
-    e: &[u8],
-    depth: u32,
-    kinds: &[u8],
-    names: &[u32],
-    used: usize,
-    g: &mut [u32],
-    from: u32,
-) -> Result<(), Stop>
-    ensures expr_read { ExprRead (is_ok result) e.now depth kinds.now (names_of names.now used) g.old g.new from }
-    ensures reads_or_cleared { ReadsOrCleared (is_ok result) (expr_read kinds.now (names_of names.now used) depth e.now) from g.old g.new }
+fn expr_reads(e: &[u8], depth: u32, scope: Scope<'_>, g: &mut [u32], from: u32) -> Result<(), Stop>
+    ensures expr_read { ExprRead (is_ok result) e.now depth scope.entry.kinds.now (names_of scope.entry.names.now scope.entry.used) g.old g.new from }
+    ensures reads_or_cleared { ReadsOrCleared (is_ok result) (expr_read scope.entry.kinds.now (names_of scope.entry.names.now scope.entry.used) depth e.now) from g.old g.new }
 {
     if !is_open(parts::byte(e, 0)) {
         return Ok(());
     }
     match name_of(e) {
-        Some(n) => name_read(kinds, n, g, from),
+        Some(n) => name_read(scope.kinds, n, g, from),
         None => {
             if depth == 0 {
                 return Ok(());
             }
             if parts::byte(e, 1) == b'f' {
-                return field_reads(e, depth - 1, kinds, names, used, g, from);
+                return field_reads(e, depth - 1, scope, g, from);
             }
             let a = parts::part_end(e, 1);
-            parts_read(e, a, depth - 1, kinds, names, used, g, from)
+            parts_read(e, a, depth - 1, scope, g, from)
         }
     }
 }
@@ -261,19 +260,17 @@ fn parts_read(
     e: &[u8],
     end: usize,
     depth: u32,
-    kinds: &[u8],
-    names: &[u32],
-    used: usize,
+    scope: Scope<'_>,
     g: &mut [u32],
     from: u32,
 ) -> Result<(), Stop>
-    ensures parts_read { PartsRead (is_ok result) (drop end e.now) depth kinds.now (names_of names.now used) g.old g.new from }
-    ensures reads_or_cleared { ReadsOrCleared (is_ok result) (parts_read kinds.now (names_of names.now used) depth e.now end) from g.old g.new }
+    ensures parts_read { PartsRead (is_ok result) (drop end e.now) depth scope.entry.kinds.now (names_of scope.entry.names.now scope.entry.used) g.old g.new from }
+    ensures reads_or_cleared { ReadsOrCleared (is_ok result) (parts_read scope.entry.kinds.now (names_of scope.entry.names.now scope.entry.used) depth e.now end) from g.old g.new }
 {
     let mut a = end;
     while parts::more(e, a) {
         let b = parts::part_end(e, a + 1);
-        expr_reads(parts::between(e, a, b), depth, kinds, names, used, g, from)?;
+        expr_reads(parts::between(e, a, b), depth, scope, g, from)?;
         a = b;
     }
     Ok(())
@@ -281,16 +278,9 @@ fn parts_read(
 
 // The `wire` line x heads its signal, which reads its expression. The name stands behind the 5 bytes of `(wire`, START behind the
 // expression. Where it says false the graph is cleared.
-pub fn wire_heads(
-    x: &[u8],
-    depth: u32,
-    kinds: &[u8],
-    names: &[u32],
-    used: usize,
-    g: &mut [u32],
-) -> Result<(), Stop>
-    ensures wire_leaves { WireLeaves (is_ok result) x.now depth kinds.now (names_of names.now used) g.old g.new }
-    ensures wire_heads { WireHeads (is_ok result) x.now depth kinds.now (names_of names.now used) g.old g.new }
+pub fn wire_heads(x: &[u8], depth: u32, scope: Scope<'_>, g: &mut [u32]) -> Result<(), Stop>
+    ensures wire_leaves { WireLeaves (is_ok result) x.now depth scope.entry.kinds.now (names_of scope.entry.names.now scope.entry.used) g.old g.new }
+    ensures wire_heads { WireHeads (is_ok result) x.now depth scope.entry.kinds.now (names_of scope.entry.names.now scope.entry.used) g.old g.new }
     ensures g_len_unchanged { length g.new ≡ length g.old }
 {
     let a = next_end(x, 5);
@@ -298,17 +288,7 @@ pub fn wire_heads(
     let n = number_at(x, 5, a);
     let start = number_at(x, b, next_end(x, b));
     match graph::head(g, Node::Signal(n), start) {
-        Added::At(i) => {
-            expr_reads(
-                parts::between(x, a, b),
-                under(depth, 1),
-                kinds,
-                names,
-                used,
-                g,
-                i,
-            )
-        }
+        Added::At(i) => expr_reads(parts::between(x, a, b), under(depth, 1), scope, g, i),
         Added::Full => Err(Stop),
     }
 }
@@ -316,23 +296,16 @@ pub fn wire_heads(
 // The `drive` line x heads its signal, an output or a wire by its kind (2, 3): it reads the expression, then the indexes. The LV stands
 // behind the 6 bytes of `(drive`, its name behind the 3 of `(lv`. Where it says false the graph is cleared.
 #[tactic(auto, using(crate::proofs::LeaveLaws::drive_past))]
-pub fn drive_heads(
-    x: &[u8],
-    depth: u32,
-    kinds: &[u8],
-    names: &[u32],
-    used: usize,
-    g: &mut [u32],
-) -> Result<(), Stop>
-    ensures drive_leaves { DriveLeaves (is_ok result) x.now depth kinds.now (names_of names.now used) g.old g.new }
-    ensures drive_heads { DriveHeads (is_ok result) x.now depth kinds.now (names_of names.now used) g.old g.new }
+pub fn drive_heads(x: &[u8], depth: u32, scope: Scope<'_>, g: &mut [u32]) -> Result<(), Stop>
+    ensures drive_leaves { DriveLeaves (is_ok result) x.now depth scope.entry.kinds.now (names_of scope.entry.names.now scope.entry.used) g.old g.new }
+    ensures drive_heads { DriveHeads (is_ok result) x.now depth scope.entry.kinds.now (names_of scope.entry.names.now scope.entry.used) g.old g.new }
     ensures g_len_unchanged { length g.new ≡ length g.old }
 {
     let a = next_end(x, 6);
     let lv = parts::between(x, 6, a);
     let b = next_end(lv, 3);
     let n = number_at(lv, 3, b);
-    let kind = parts::byte(kinds, n as usize);
+    let kind = parts::byte(scope.kinds, n as usize);
     if kind < 2 {
         return Ok(());
     }
@@ -344,8 +317,8 @@ pub fn drive_heads(
     match graph::head(g, Node::Signal(n), start) {
         Added::At(i) => {
             let e = parts::between(x, a, next_end(x, a));
-            expr_reads(e, under(depth, 1), kinds, names, used, g, i)?;
-            parts_read(lv, c, under(depth, 2), kinds, names, used, g, i)
+            expr_reads(e, under(depth, 1), scope, g, i)?;
+            parts_read(lv, c, under(depth, 2), scope, g, i)
         }
         Added::Full => Err(Stop),
     }
@@ -406,30 +379,30 @@ fn next_pair(w: &[u32], p: usize) -> usize
     q + 1
 }
 
-// Does the output o stand in the summary of `count` pairs from `first` on?
-fn has_output(w: &[u32], first: usize, count: usize, o: u32) -> bool
-    ensures { result ≡ has_output o (summary_at w.now first count) }
+// Does the output o stand in the summary?
+fn has_output(pairs: Pairs<'_>, o: u32) -> bool
+    ensures { result ≡ has_output o (summary_at pairs.entry.words.now pairs.entry.first pairs.entry.count) }
 {
-    let mut p = first;
-    for left in (0..count).rev() {
-        if o == word(w, p) {
+    let mut p = pairs.first;
+    for left in (0..pairs.count).rev() {
+        if o == word(pairs.words, p) {
             return true;
         }
-        p = next_pair(w, p);
+        p = next_pair(pairs.words, p);
     }
     false
 }
 
 // Does the output o reach the input i in that summary?
-fn reaches(w: &[u32], first: usize, count: usize, o: u32, i: u32) -> bool
-    ensures { result ≡ reaches o i (summary_at w.now first count) }
+fn reaches(pairs: Pairs<'_>, o: u32, i: u32) -> bool
+    ensures { result ≡ reaches o i (summary_at pairs.entry.words.now pairs.entry.first pairs.entry.count) }
 {
-    let mut p = first;
-    for left in (0..count).rev() {
-        if is_pair(w, p, o, i) {
+    let mut p = pairs.first;
+    for left in (0..pairs.count).rev() {
+        if is_pair(pairs.words, p, o, i) {
             return true;
         }
-        p = next_pair(w, p);
+        p = next_pair(pairs.words, p);
     }
     false
 }
@@ -439,31 +412,19 @@ fn conn_read(
     c: &[u8],
     depth: u32,
     o: u32,
-    w: &[u32],
-    first: usize,
-    count: usize,
-    kinds: &[u8],
-    names: &[u32],
-    used: usize,
+    pairs: Pairs<'_>,
+    scope: Scope<'_>,
     g: &mut [u32],
     from: u32,
 ) -> Result<(), Stop>
-    ensures conn_read { ConnRead (is_ok result) o (summary_at w.now first count) c.now depth kinds.now (names_of names.now used) g.old g.new from }
-    ensures reads_or_cleared { ReadsOrCleared (is_ok result) (conn_read kinds.now (names_of names.now used) (summary_at w.now first count) o depth c.now) from g.old g.new }
+    ensures conn_read { ConnRead (is_ok result) o (summary_at pairs.entry.words.now pairs.entry.first pairs.entry.count) c.now depth scope.entry.kinds.now (names_of scope.entry.names.now scope.entry.used) g.old g.new from }
+    ensures reads_or_cleared { ReadsOrCleared (is_ok result) (conn_read scope.entry.kinds.now (names_of scope.entry.names.now scope.entry.used) (summary_at pairs.entry.words.now pairs.entry.first pairs.entry.count) o depth c.now) from g.old g.new }
 {
     let a = next_end(c, 5);
-    if !reaches(w, first, count, o, number_at(c, 5, a)) {
+    if !reaches(pairs, o, number_at(c, 5, a)) {
         return Ok(());
     }
-    expr_reads(
-        parts::between(c, a, next_end(c, a)),
-        depth,
-        kinds,
-        names,
-        used,
-        g,
-        from,
-    )
+    expr_reads(parts::between(c, a, next_end(c, a)), depth, scope, g, from)
 }
 
 // It reads so all the connections behind the part of x that ends at `end`.
@@ -472,23 +433,19 @@ fn conns_read(
     end: usize,
     depth: u32,
     o: u32,
-    w: &[u32],
-    first: usize,
-    count: usize,
-    kinds: &[u8],
-    names: &[u32],
-    used: usize,
+    pairs: Pairs<'_>,
+    scope: Scope<'_>,
     g: &mut [u32],
     from: u32,
 ) -> Result<(), Stop>
-    ensures conns_read { ConnsRead (is_ok result) o (summary_at w.now first count) (drop end x.now) depth kinds.now (names_of names.now used) g.old g.new from }
-    ensures reads_or_cleared { ReadsOrCleared (is_ok result) (conns_read kinds.now (names_of names.now used) (summary_at w.now first count) o depth x.now end) from g.old g.new }
+    ensures conns_read { ConnsRead (is_ok result) o (summary_at pairs.entry.words.now pairs.entry.first pairs.entry.count) (drop end x.now) depth scope.entry.kinds.now (names_of scope.entry.names.now scope.entry.used) g.old g.new from }
+    ensures reads_or_cleared { ReadsOrCleared (is_ok result) (conns_read scope.entry.kinds.now (names_of scope.entry.names.now scope.entry.used) (summary_at pairs.entry.words.now pairs.entry.first pairs.entry.count) o depth x.now end) from g.old g.new }
 {
     let mut a = end;
     while parts::more(x, a) {
         let b = parts::part_end(x, a + 1);
         let c = parts::between(x, a, b);
-        conn_read(c, depth, o, w, first, count, kinds, names, used, g, from)?;
+        conn_read(c, depth, o, pairs, scope, g, from)?;
         a = b;
     }
     Ok(())
@@ -511,66 +468,50 @@ fn output_head(
     depth: u32,
     index: Value,
     o: u32,
-    w: &[u32],
-    first: usize,
-    count: usize,
-    kinds: &[u8],
-    names: &[u32],
-    used: usize,
+    pairs: Pairs<'_>,
+    scope: Scope<'_>,
     g: &mut [u32],
 ) -> Result<(), Stop>
-    ensures output_head { OutputHead (is_ok result) o (worth index) (summary_at w.now first count) x.now depth kinds.now (names_of names.now used) g.old g.new }
-    ensures output_leaves { OutputLeaves (is_ok result) (inst_reads kinds.now (names_of names.now used) (summary_at w.now first count) depth x.now o) o (worth index) x.now g.old g.new }
+    ensures output_head { OutputHead (is_ok result) o (worth index) (summary_at pairs.entry.words.now pairs.entry.first pairs.entry.count) x.now depth scope.entry.kinds.now (names_of scope.entry.names.now scope.entry.used) g.old g.new }
+    ensures output_leaves { OutputLeaves (is_ok result) (inst_reads scope.entry.kinds.now (names_of scope.entry.names.now scope.entry.used) (summary_at pairs.entry.words.now pairs.entry.first pairs.entry.count) depth x.now o) o (worth index) x.now g.old g.new }
 {
     let a = next_end(x, 5);
     let c = next_end(x, next_end(x, a));
     let end = next_end(x, c);
     let n = output_node(number_at(x, 5, a), index, o);
     match graph::head(g, n, number_at(x, c, end)) {
-        Added::At(i) => conns_read(
-            x,
-            end,
-            under(depth, 2),
-            o,
-            w,
-            first,
-            count,
-            kinds,
-            names,
-            used,
-            g,
-            i,
-        ),
+        Added::At(i) => conns_read(x, end, under(depth, 2), o, pairs, scope, g, i),
         Added::Full => Err(Stop),
     }
 }
 
-// The `inst` line x heads every output in the summary of its module, `count` pairs of w from `first` on: an output with its last pair.
+// The `inst` line x heads every output in the summary of its module: an output with its last pair.
 // Where it says false the graph is cleared.
 pub fn inst_heads(
     x: &[u8],
     depth: u32,
     index: Value,
-    w: &[u32],
-    first: usize,
-    count: usize,
-    kinds: &[u8],
-    names: &[u32],
-    used: usize,
+    pairs: Pairs<'_>,
+    scope: Scope<'_>,
     g: &mut [u32],
 ) -> Result<(), Stop>
-    ensures inst_leaves { InstLeaves (is_ok result) (worth index) (summary_at w.now first count) x.now depth kinds.now (names_of names.now used) g.old g.new }
-    ensures inst_heads { InstHeads (is_ok result) (worth index) (summary_at w.now first count) x.now depth kinds.now (names_of names.now used) g.old g.new }
+    ensures inst_leaves { InstLeaves (is_ok result) (worth index) (summary_at pairs.entry.words.now pairs.entry.first pairs.entry.count) x.now depth scope.entry.kinds.now (names_of scope.entry.names.now scope.entry.used) g.old g.new }
+    ensures inst_heads { InstHeads (is_ok result) (worth index) (summary_at pairs.entry.words.now pairs.entry.first pairs.entry.count) x.now depth scope.entry.kinds.now (names_of scope.entry.names.now scope.entry.used) g.old g.new }
     ensures g_len_unchanged { length g.new ≡ length g.old }
 {
-    let mut p = first;
-    for left in (0..count).rev() {
-        let o = word(w, p);
-        p = next_pair(w, p);
-        if has_output(w, p, left, o) {
+    let mut p = pairs.first;
+    for left in (0..pairs.count).rev() {
+        let o = word(pairs.words, p);
+        p = next_pair(pairs.words, p);
+        let later = Pairs {
+            words: pairs.words,
+            first: p,
+            count: left,
+        };
+        if has_output(later, o) {
             continue;
         }
-        output_head(x, depth, index, o, w, first, count, kinds, names, used, g)?;
+        output_head(x, depth, index, o, pairs, scope, g)?;
     }
     Ok(())
 }

@@ -59,9 +59,9 @@ filled l n h =
     let e : length (replicate {A = ℕ} n 0) ≡ n = length-replicate n 0 in
     let z : 0 + length (replicate {A = ℕ} n 0) ≡ n = omega (arith, e) in
     sym (
-      sets-eq (replicate n 0) l 0 (omega (arith, e))
-      ∙ ap (λ (t : List ℕ). t ++ replicate n 0 ++ drop (0 + length (replicate {A = ℕ} n 0)) l) (take-append_seam [] l)
-      ∙ ap (λ (m : ℕ). replicate n 0 ++ drop m l) z
+    sets-eq (replicate n 0) l 0 (omega (arith, e))
+    ∙ ap (λ (t : List ℕ). t ++ replicate n 0 ++ drop (0 + length (replicate {A = ℕ} n 0)) l) (take-append_seam [] l)
+    ∙ ap (λ (m : ℕ). replicate n 0 ++ drop m l) z
     )
 
 -- the first seven, or all where there are fewer

@@ -15,7 +15,7 @@ ghost use Rattle.items.specs.Added.{OwnLeaves, port_added, reg_added, mem_added,
 ghost use Rattle.items.specs.Lines.{emptied, number_at, named_at, ConstantIs, index_at, ExtentIs, says_outside, index_outside, SetAfter, DefaultAfter, StmtAfter, StmtsAfter, PortLine, RegLine, MemLine, DriveOutput, DriveLine, OnLine, OwnLine, drive_outside};
 
 use consteval::Value;
-use edges::Stop;
+use edges::{Scope, Stop};
 use lines::{numbers, parts};
 use sites::{Extent, Misuse, Site, Stored};
 
@@ -238,24 +238,16 @@ fn drive_output(
 }
 
 // A driven name: a site of an output, or the misuse of a wire, a register or a memory.
-fn drive(
-    x: &[u8],
-    bound: bool,
-    depth: u32,
-    kinds: &[u8],
-    names: &[u32],
-    used: usize,
-    own: &mut [u32],
-) -> Result<(), Stop>
-    ensures drive_line { DriveLine (is_ok result) x.now bound depth kinds.now (names_of names.now used) own.old own.new }
+fn drive(x: &[u8], bound: bool, depth: u32, scope: Scope<'_>, own: &mut [u32]) -> Result<(), Stop>
+    ensures drive_line { DriveLine (is_ok result) x.now bound depth scope.entry.kinds.now (names_of scope.entry.names.now scope.entry.used) own.old own.new }
     ensures own_len_unchanged { length own.new ≡ length own.old }
-    ensures own_leaves { OwnLeaves (is_ok result) (drive_added x.now bound depth kinds.now (names_of names.now used) own.old) own.new }
+    ensures own_leaves { OwnLeaves (is_ok result) (drive_added x.now bound depth scope.entry.kinds.now (names_of scope.entry.names.now scope.entry.used) own.old) own.new }
 {
     let lv = parts::between(x, 6, parts::part_end(x, 7));
     let l = named_at(lv, 3);
-    let k = parts::byte(kinds, l.name as usize);
+    let k = parts::byte(scope.kinds, l.name as usize);
     if k == 2 {
-        return drive_output(lv, l, bound, depth, names, used, own);
+        return drive_output(lv, l, bound, depth, scope.names, scope.used, own);
     }
     if k == 3 {
         sites::add_misuse(own, l.name, l.start, Misuse::Wire);
@@ -349,7 +341,14 @@ fn block_stmt(s: &[u8], block: u32, depth: u32, kinds: &[u8], own: &mut [u32]) -
 
 // The statements behind the part that ends at `end`, in order.
 #[cycle(block_stmt_block_stmts)]
-fn block_stmts(s: &[u8], end: usize, block: u32, depth: u32, kinds: &[u8], own: &mut [u32]) -> Result<(), Stop>
+fn block_stmts(
+    s: &[u8],
+    end: usize,
+    block: u32,
+    depth: u32,
+    kinds: &[u8],
+    own: &mut [u32],
+) -> Result<(), Stop>
     ensures stmts_after { StmtsAfter (is_ok result) s.now end block depth kinds.now own.old own.new }
     ensures own_len_unchanged { length own.new ≡ length own.old }
     ensures own_leaves { OwnLeaves (is_ok result) (all_added (stmt_added block kinds.now depth) (parts_behind s.now end) own.old) own.new }
@@ -382,21 +381,19 @@ pub fn own_line(
     base: u32,
     bound: bool,
     depth: u32,
-    kinds: &[u8],
-    names: &[u32],
-    used: usize,
+    scope: Scope<'_>,
     own: &mut [u32],
 ) -> Result<(), Stop>
-    ensures own_line { OwnLine (is_ok result) x.now base bound depth kinds.now (names_of names.now used) own.old own.new }
+    ensures own_line { OwnLine (is_ok result) x.now base bound depth scope.entry.kinds.now (names_of scope.entry.names.now scope.entry.used) own.old own.new }
     ensures own_len_unchanged { length own.new ≡ length own.old }
-    ensures own_leaves { OwnLeaves (is_ok result) (line_added x.now base bound depth kinds.now (names_of names.now used) own.old) own.new }
+    ensures own_leaves { OwnLeaves (is_ok result) (line_added x.now base bound depth scope.entry.kinds.now (names_of scope.entry.names.now scope.entry.used) own.old) own.new }
 {
     let c = parts::byte(x, 1);
     if c == b'd' {
-        return drive(x, bound, depth, kinds, names, used, own);
+        return drive(x, bound, depth, scope, own);
     }
     if c == b'o' {
-        return on_block(x, depth, kinds, own);
+        return on_block(x, depth, scope.kinds, own);
     }
     if c == b'p' {
         port_line(x, base, own);
@@ -415,19 +412,19 @@ pub fn own_line(
 
 // In a summary's walk, which has no own tables: whether the collected line x has a constant outside INT. Only the drive of an output
 // has constants.
-pub fn drive_outside(x: &[u8], depth: u32, kinds: &[u8], names: &[u32], used: usize) -> bool
-    ensures { result ≡ drive_outside x.now depth kinds.now (names_of names.now used) }
+pub fn drive_outside(x: &[u8], depth: u32, scope: Scope<'_>) -> bool
+    ensures { result ≡ drive_outside x.now depth scope.entry.kinds.now (names_of scope.entry.names.now scope.entry.used) }
 {
     if parts::byte(x, 1) != b'd' {
         return false;
     }
     let lv = parts::between(x, 6, parts::part_end(x, 7));
     let l = named_at(lv, 3);
-    if parts::byte(kinds, l.name as usize) != 2 {
+    if parts::byte(scope.kinds, l.name as usize) != 2 {
         return false;
     }
     let end = l.end;
-    match lvalue_extent(lv, end, true, depth, names, used) {
+    match lvalue_extent(lv, end, true, depth, scope.names, scope.used) {
         Extended::Is(_) => false,
         Extended::Outside => true,
     }

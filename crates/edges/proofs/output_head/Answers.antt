@@ -10,13 +10,13 @@ use Rattle.std.specs.Prelude.{is_ok}
 use Rattle.edges.proofs.output_head.Goals as goal
 
 pub returns-in-At-clause-output_head : goal.returns-in-At-clause-output_head
-returns-in-At-clause-output_head c = output_reads c.args.o (worth c.args.index) (summary_at c.args.w.now c.args.first c.args.count) c.args.x.now c.args.depth c.args.kinds.now (names_of c.args.names.now c.args.used) c.args.g.now c.next_end-a.ensures c.next_end.ensures c.next_end-c.ensures c.next_end-end.ensures c.number_at.ensures c.output_node-n.ensures c.number_at-2.ensures c.head.result _ c.head.ensures.headed c.in-At.is c.under.ensures (is_ok c.conns_read.result) _ c.conns_read.ensures.conns_read
+returns-in-At-clause-output_head c = output_reads c.args.o (worth c.args.index) (summary_at c.args.pairs.words.now c.args.pairs.first c.args.pairs.count) c.args.x.now c.args.depth c.args.scope.kinds.now (names_of c.args.scope.names.now c.args.scope.used) c.args.g.now c.next_end-a.ensures c.next_end.ensures c.next_end-c.ensures c.next_end-end.ensures c.number_at.ensures c.output_node-n.ensures c.number_at-2.ensures c.head.result _ c.head.ensures.headed c.in-At.is c.under.ensures (is_ok c.conns_read.result) _ c.conns_read.ensures.conns_read
 
 pub returns-in-At-clause-output_leaves : goal.returns-in-At-clause-output_leaves
-returns-in-At-clause-output_leaves c = output_leaves c.args.x.now c.next_end-a.ensures c.next_end.ensures c.next_end-c.ensures c.next_end-end.ensures c.number_at.ensures c.number_at-2.ensures (worth c.args.index) c.args.o c.output_node-n.result c.output_node-n.ensures (inst_reads_here c.args.kinds.now (names_of c.args.names.now c.args.used) c.args.depth c.args.x.now (summary_at c.args.w.now c.args.first c.args.count) c.args.o c.next_end-a.ensures c.next_end.ensures c.next_end-c.ensures c.next_end-end.ensures c.under.ensures) (is_ok c.conns_read.result) c.args.g.now _ (head_reads _ c.args.g.now c.output_node-n.result c.number_at-2.result c.head.result c.head.new.g c.head.ensures.head_leaves c.in-At.is c.head.auto.g (is_ok c.conns_read.result) _ c.conns_read.ensures.reads_or_cleared)
+returns-in-At-clause-output_leaves c = output_leaves c.args.x.now c.next_end-a.ensures c.next_end.ensures c.next_end-c.ensures c.next_end-end.ensures c.number_at.ensures c.number_at-2.ensures (worth c.args.index) c.args.o c.output_node-n.result c.output_node-n.ensures (inst_reads_here c.args.scope.kinds.now (names_of c.args.scope.names.now c.args.scope.used) c.args.depth c.args.x.now (summary_at c.args.pairs.words.now c.args.pairs.first c.args.pairs.count) c.args.o c.next_end-a.ensures c.next_end.ensures c.next_end-c.ensures c.next_end-end.ensures c.under.ensures) (is_ok c.conns_read.result) c.args.g.now _ (head_reads _ c.args.g.now c.output_node-n.result c.number_at-2.result c.head.result c.head.new.g c.head.ensures.head_leaves c.in-At.is c.head.auto.g (is_ok c.conns_read.result) _ c.conns_read.ensures.reads_or_cleared)
 
 pub returns-in-Full-clause-output_head : goal.returns-in-Full-clause-output_head
-returns-in-Full-clause-output_head c = output_full c.args.o (worth c.args.index) (summary_at c.args.w.now c.args.first c.args.count) c.args.x.now c.args.depth c.args.kinds.now (names_of c.args.names.now c.args.used) c.args.g.now c.next_end-a.ensures c.next_end.ensures c.next_end-c.ensures c.next_end-end.ensures c.number_at.ensures c.output_node-n.ensures c.number_at-2.ensures c.head.result _ c.head.ensures.headed c.in-Full.is
+returns-in-Full-clause-output_head c = output_full c.args.o (worth c.args.index) (summary_at c.args.pairs.words.now c.args.pairs.first c.args.pairs.count) c.args.x.now c.args.depth c.args.scope.kinds.now (names_of c.args.scope.names.now c.args.scope.used) c.args.g.now c.next_end-a.ensures c.next_end.ensures c.next_end-c.ensures c.next_end-end.ensures c.number_at.ensures c.output_node-n.ensures c.number_at-2.ensures c.head.result _ c.head.ensures.headed c.in-Full.is
 
 pub returns-in-Full-clause-output_leaves : goal.returns-in-Full-clause-output_leaves
-returns-in-Full-clause-output_leaves c = output_leaves c.args.x.now c.next_end-a.ensures c.next_end.ensures c.next_end-c.ensures c.next_end-end.ensures c.number_at.ensures c.number_at-2.ensures (worth c.args.index) c.args.o c.output_node-n.result c.output_node-n.ensures {p = (inst_reads c.args.kinds.now (names_of c.args.names.now c.args.used) (summary_at c.args.w.now c.args.first c.args.count) c.args.depth c.args.x.now c.args.o)} refl false c.args.g.now _ (head_full (inst_reads c.args.kinds.now (names_of c.args.names.now c.args.used) (summary_at c.args.w.now c.args.first c.args.count) c.args.depth c.args.x.now c.args.o) c.args.g.now c.output_node-n.result c.number_at-2.result c.head.result c.head.new.g c.head.ensures.head_leaves c.in-Full.is)
+returns-in-Full-clause-output_leaves c = output_leaves c.args.x.now c.next_end-a.ensures c.next_end.ensures c.next_end-c.ensures c.next_end-end.ensures c.number_at.ensures c.number_at-2.ensures (worth c.args.index) c.args.o c.output_node-n.result c.output_node-n.ensures {p = (inst_reads c.args.scope.kinds.now (names_of c.args.scope.names.now c.args.scope.used) (summary_at c.args.pairs.words.now c.args.pairs.first c.args.pairs.count) c.args.depth c.args.x.now c.args.o)} refl false c.args.g.now _ (head_full (inst_reads c.args.scope.kinds.now (names_of c.args.scope.names.now c.args.scope.used) (summary_at c.args.pairs.words.now c.args.pairs.first c.args.pairs.count) c.args.depth c.args.x.now c.args.o) c.args.g.now c.output_node-n.result c.number_at-2.result c.head.result c.head.new.g c.head.ensures.head_leaves c.in-Full.is)
