@@ -1,8 +1,8 @@
 // What a collected line leaves in the tables, without the items that it holds and the summary that it asks for. Where a line is full, the tables
 // that are lent to it to be written are cleared.
 ghost use Rattle.std.specs.Prelude.{is_ok};
-ghost use Rattle.consteval.specs.Worth.{names_of, worth};
-ghost use Rattle.edges.specs.Lines.{summary_at, InstHeads};
+ghost use Rattle.consteval.specs.Worth.{worth};
+ghost use Rattle.edges.specs.Lines.{summary_at, names_in, InstHeads};
 ghost use Rattle.collect.specs.Plain.{LineHeads, HeadsLeave, PlainLine, PlainLeaves, InstLeaves};
 
 use consteval::Value;
@@ -11,7 +11,7 @@ use lines::parts;
 
 // What the line x heads and reads, by the first byte of its word.
 fn line_heads(x: &[u8], depth: u32, scope: Scope<'_>, g: &mut [u32]) -> Result<(), Stop>
-    ensures line_heads { LineHeads (is_ok result) x.now depth scope.entry.kinds.now (names_of scope.entry.names.now scope.entry.used) g.old g.new }
+    ensures line_heads { LineHeads (is_ok result) x.now depth scope.entry.kinds.now (names_in scope.entry) g.old g.new }
     ensures heads_leave { HeadsLeave (is_ok result) g.old g.new }
 {
     let c = parts::byte(x, 1);
@@ -36,7 +36,7 @@ pub(crate) fn plain_line(
     own: &mut [u32],
     g: &mut [u32],
 ) -> Result<(), Stop>
-    ensures plain_line { PlainLine (is_ok result) x.now from depth scope.entry.kinds.now checking bound (names_of scope.entry.names.now scope.entry.used)
+    ensures plain_line { PlainLine (is_ok result) x.now from depth scope.entry.kinds.now checking bound (names_in scope.entry)
         own.old g.old own.new g.new }
     ensures plain_leaves { PlainLeaves (is_ok result) checking own.old own.new g.old g.new }
 {
@@ -74,8 +74,10 @@ pub(crate) fn inst_line(
     scope: Scope<'_>,
     g: &mut [u32],
 ) -> Result<(), Stop>
-    ensures inst_heads { InstHeads (is_ok result) (worth index) (summary_at k.old first count) x.now depth scope.entry.kinds.now (names_of scope.entry.names.now scope.entry.used) g.old g.new }
-    ensures inst_leaves { InstLeaves (is_ok result) (worth index) (summary_at k.old first count) x.now depth scope.entry.kinds.now (names_of scope.entry.names.now scope.entry.used) g.old g.new k.old k.new }
+    ensures inst_heads { InstHeads (is_ok result) (worth index) (summary_at k.old first count) x.now depth scope.entry.kinds.now
+        (names_in scope.entry) g.old g.new }
+    ensures inst_leaves { InstLeaves (is_ok result) (worth index) (summary_at k.old first count) x.now depth scope.entry.kinds.now
+        (names_in scope.entry) g.old g.new k.old k.new }
 {
     let pairs = Pairs {
         words: k,

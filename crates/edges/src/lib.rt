@@ -10,7 +10,7 @@ ghost use Rattle.graph.specs.Table.{node_of};
 ghost use Rattle.consteval.specs.Worth.{names_of, worth};
 ghost use Rattle.edges.specs.Reads.{kind_word};
 ghost use Rattle.edges.specs.Shows.{opens, name_of, indexed_name, inst_by, NameRead, NodesRead, FieldRead, ExprRead, PartsRead, one_read};
-ghost use Rattle.edges.specs.Lines.{WireHeads, DriveHeads, summary_at, end_behind, number_at, inst_index, inst_module, ConnRead, ConnsRead, OutputHead, InstHeads};
+ghost use Rattle.edges.specs.Lines.{WireHeads, DriveHeads, summary_in, names_in, end_behind, number_at, inst_index, inst_module, ConnRead, ConnsRead, OutputHead, InstHeads};
 ghost use Rattle.edges.specs.Total.{field_by, field_read, expr_read, parts_read, conn_read, conns_read, inst_reads};
 ghost use Rattle.edges.specs.Leaves.{ReadsOrCleared, WireLeaves, DriveLeaves, OutputLeaves, InstLeaves};
 
@@ -163,9 +163,9 @@ fn index_read(
     g: &mut [u32],
     from: u32,
 ) -> Result<(), Stop>
-    ensures nodes_read { NodesRead (is_ok result) (indexed_reads i (value (names_of scope.entry.names.now scope.entry.used) (decode_expr depth e.now)) p)
-        g.old g.new from }
-    ensures reads_or_cleared { ReadsOrCleared (is_ok result) (indexed_reads i (value (names_of scope.entry.names.now scope.entry.used) (decode_expr depth e.now)) p) from g.old g.new }
+    ensures nodes_read { NodesRead (is_ok result) (indexed_reads i (value (names_in scope.entry) (decode_expr depth e.now)) p) g.old g.new from }
+    ensures reads_or_cleared { ReadsOrCleared (is_ok result) (indexed_reads i (value
+        (names_in scope.entry) (decode_expr depth e.now)) p) from g.old g.new }
 {
     match consteval::eval(e, depth, scope.names, scope.used) {
         Value::Known(v) => match graph::read(g, from, Node::OutputAt(i, v, p)) {
@@ -212,8 +212,10 @@ fn under(depth: u32, k: u32) -> u32
 // brackets deep. Where it says false the graph is cleared.
 #[cycle(expr_reads_field_reads_parts_read)]
 fn field_reads(e: &[u8], depth: u32, scope: Scope<'_>, g: &mut [u32], from: u32) -> Result<(), Stop>
-    ensures field_read { FieldRead (is_ok result) e.now depth scope.entry.kinds.now (names_of scope.entry.names.now scope.entry.used) g.old g.new from }
-    ensures reads_or_cleared { ReadsOrCleared (is_ok result) (field_read (expr_read scope.entry.kinds.now (names_of scope.entry.names.now scope.entry.used) depth) scope.entry.kinds.now (names_of scope.entry.names.now scope.entry.used) depth e.now) from g.old g.new }
+    ensures field_read { FieldRead (is_ok result) e.now depth scope.entry.kinds.now (names_in scope.entry) g.old g.new from }
+    ensures reads_or_cleared { ReadsOrCleared (is_ok result) (field_read (expr_read scope.entry.kinds.now
+        (names_in scope.entry) depth) scope.entry.kinds.now (names_in scope.entry) depth
+        e.now) from g.old g.new }
 {
     let a = next_end(e, 2);
     let x = parts::between(e, 2, a);
@@ -233,8 +235,8 @@ fn field_reads(e: &[u8], depth: u32, scope: Scope<'_>, g: &mut [u32], from: u32)
 // the graph is cleared.
 #[cycle(expr_reads_field_reads_parts_read)]
 fn expr_reads(e: &[u8], depth: u32, scope: Scope<'_>, g: &mut [u32], from: u32) -> Result<(), Stop>
-    ensures expr_read { ExprRead (is_ok result) e.now depth scope.entry.kinds.now (names_of scope.entry.names.now scope.entry.used) g.old g.new from }
-    ensures reads_or_cleared { ReadsOrCleared (is_ok result) (expr_read scope.entry.kinds.now (names_of scope.entry.names.now scope.entry.used) depth e.now) from g.old g.new }
+    ensures expr_read { ExprRead (is_ok result) e.now depth scope.entry.kinds.now (names_in scope.entry) g.old g.new from }
+    ensures reads_or_cleared { ReadsOrCleared (is_ok result) (expr_read scope.entry.kinds.now (names_in scope.entry) depth e.now) from g.old g.new }
 {
     if !is_open(parts::byte(e, 0)) {
         return Ok(());
@@ -264,8 +266,9 @@ fn parts_read(
     g: &mut [u32],
     from: u32,
 ) -> Result<(), Stop>
-    ensures parts_read { PartsRead (is_ok result) (drop end e.now) depth scope.entry.kinds.now (names_of scope.entry.names.now scope.entry.used) g.old g.new from }
-    ensures reads_or_cleared { ReadsOrCleared (is_ok result) (parts_read scope.entry.kinds.now (names_of scope.entry.names.now scope.entry.used) depth e.now end) from g.old g.new }
+    ensures parts_read { PartsRead (is_ok result) (drop end e.now) depth scope.entry.kinds.now (names_in scope.entry) g.old g.new from }
+    ensures reads_or_cleared { ReadsOrCleared (is_ok result) (parts_read scope.entry.kinds.now
+        (names_in scope.entry) depth e.now end) from g.old g.new }
 {
     let mut a = end;
     while parts::more(e, a) {
@@ -279,8 +282,8 @@ fn parts_read(
 // The `wire` line x heads its signal, which reads its expression. The name stands behind the 5 bytes of `(wire`, START behind the
 // expression. Where it says false the graph is cleared.
 pub fn wire_heads(x: &[u8], depth: u32, scope: Scope<'_>, g: &mut [u32]) -> Result<(), Stop>
-    ensures wire_leaves { WireLeaves (is_ok result) x.now depth scope.entry.kinds.now (names_of scope.entry.names.now scope.entry.used) g.old g.new }
-    ensures wire_heads { WireHeads (is_ok result) x.now depth scope.entry.kinds.now (names_of scope.entry.names.now scope.entry.used) g.old g.new }
+    ensures wire_leaves { WireLeaves (is_ok result) x.now depth scope.entry.kinds.now (names_in scope.entry) g.old g.new }
+    ensures wire_heads { WireHeads (is_ok result) x.now depth scope.entry.kinds.now (names_in scope.entry) g.old g.new }
     ensures g_len_unchanged { length g.new ≡ length g.old }
 {
     let a = next_end(x, 5);
@@ -297,8 +300,8 @@ pub fn wire_heads(x: &[u8], depth: u32, scope: Scope<'_>, g: &mut [u32]) -> Resu
 // behind the 6 bytes of `(drive`, its name behind the 3 of `(lv`. Where it says false the graph is cleared.
 #[tactic(auto, using(crate::proofs::LeaveLaws::drive_past))]
 pub fn drive_heads(x: &[u8], depth: u32, scope: Scope<'_>, g: &mut [u32]) -> Result<(), Stop>
-    ensures drive_leaves { DriveLeaves (is_ok result) x.now depth scope.entry.kinds.now (names_of scope.entry.names.now scope.entry.used) g.old g.new }
-    ensures drive_heads { DriveHeads (is_ok result) x.now depth scope.entry.kinds.now (names_of scope.entry.names.now scope.entry.used) g.old g.new }
+    ensures drive_leaves { DriveLeaves (is_ok result) x.now depth scope.entry.kinds.now (names_in scope.entry) g.old g.new }
+    ensures drive_heads { DriveHeads (is_ok result) x.now depth scope.entry.kinds.now (names_in scope.entry) g.old g.new }
     ensures g_len_unchanged { length g.new ≡ length g.old }
 {
     let a = next_end(x, 6);
@@ -381,7 +384,7 @@ fn next_pair(w: &[u32], p: usize) -> usize
 
 // Does the output o stand in the summary?
 fn has_output(pairs: Pairs<'_>, o: u32) -> bool
-    ensures { result ≡ has_output o (summary_at pairs.entry.words.now pairs.entry.first pairs.entry.count) }
+    ensures { result ≡ has_output o (summary_in pairs.entry) }
 {
     let mut p = pairs.first;
     for left in (0..pairs.count).rev() {
@@ -395,7 +398,7 @@ fn has_output(pairs: Pairs<'_>, o: u32) -> bool
 
 // Does the output o reach the input i in that summary?
 fn reaches(pairs: Pairs<'_>, o: u32, i: u32) -> bool
-    ensures { result ≡ reaches o i (summary_at pairs.entry.words.now pairs.entry.first pairs.entry.count) }
+    ensures { result ≡ reaches o i (summary_in pairs.entry) }
 {
     let mut p = pairs.first;
     for left in (0..pairs.count).rev() {
@@ -417,8 +420,9 @@ fn conn_read(
     g: &mut [u32],
     from: u32,
 ) -> Result<(), Stop>
-    ensures conn_read { ConnRead (is_ok result) o (summary_at pairs.entry.words.now pairs.entry.first pairs.entry.count) c.now depth scope.entry.kinds.now (names_of scope.entry.names.now scope.entry.used) g.old g.new from }
-    ensures reads_or_cleared { ReadsOrCleared (is_ok result) (conn_read scope.entry.kinds.now (names_of scope.entry.names.now scope.entry.used) (summary_at pairs.entry.words.now pairs.entry.first pairs.entry.count) o depth c.now) from g.old g.new }
+    ensures conn_read { ConnRead (is_ok result) o (summary_in pairs.entry) c.now depth scope.entry.kinds.now (names_in scope.entry) g.old g.new from }
+    ensures reads_or_cleared { ReadsOrCleared (is_ok result) (conn_read scope.entry.kinds.now (names_in scope.entry)
+        (summary_in pairs.entry) o depth c.now) from g.old g.new }
 {
     let a = next_end(c, 5);
     if !reaches(pairs, o, number_at(c, 5, a)) {
@@ -438,8 +442,10 @@ fn conns_read(
     g: &mut [u32],
     from: u32,
 ) -> Result<(), Stop>
-    ensures conns_read { ConnsRead (is_ok result) o (summary_at pairs.entry.words.now pairs.entry.first pairs.entry.count) (drop end x.now) depth scope.entry.kinds.now (names_of scope.entry.names.now scope.entry.used) g.old g.new from }
-    ensures reads_or_cleared { ReadsOrCleared (is_ok result) (conns_read scope.entry.kinds.now (names_of scope.entry.names.now scope.entry.used) (summary_at pairs.entry.words.now pairs.entry.first pairs.entry.count) o depth x.now end) from g.old g.new }
+    ensures conns_read { ConnsRead (is_ok result) o (summary_in pairs.entry) (drop end x.now) depth
+        scope.entry.kinds.now (names_in scope.entry) g.old g.new from }
+    ensures reads_or_cleared { ReadsOrCleared (is_ok result) (conns_read scope.entry.kinds.now (names_in scope.entry)
+        (summary_in pairs.entry) o depth x.now end) from g.old g.new }
 {
     let mut a = end;
     while parts::more(x, a) {
@@ -472,8 +478,10 @@ fn output_head(
     scope: Scope<'_>,
     g: &mut [u32],
 ) -> Result<(), Stop>
-    ensures output_head { OutputHead (is_ok result) o (worth index) (summary_at pairs.entry.words.now pairs.entry.first pairs.entry.count) x.now depth scope.entry.kinds.now (names_of scope.entry.names.now scope.entry.used) g.old g.new }
-    ensures output_leaves { OutputLeaves (is_ok result) (inst_reads scope.entry.kinds.now (names_of scope.entry.names.now scope.entry.used) (summary_at pairs.entry.words.now pairs.entry.first pairs.entry.count) depth x.now o) o (worth index) x.now g.old g.new }
+    ensures output_head { OutputHead (is_ok result) o (worth index) (summary_in pairs.entry)
+        x.now depth scope.entry.kinds.now (names_in scope.entry) g.old g.new }
+    ensures output_leaves { OutputLeaves (is_ok result) (inst_reads scope.entry.kinds.now (names_in scope.entry)
+        (summary_in pairs.entry) depth x.now o) o (worth index) x.now g.old g.new }
 {
     let a = next_end(x, 5);
     let c = next_end(x, next_end(x, a));
@@ -495,8 +503,10 @@ pub fn inst_heads(
     scope: Scope<'_>,
     g: &mut [u32],
 ) -> Result<(), Stop>
-    ensures inst_leaves { InstLeaves (is_ok result) (worth index) (summary_at pairs.entry.words.now pairs.entry.first pairs.entry.count) x.now depth scope.entry.kinds.now (names_of scope.entry.names.now scope.entry.used) g.old g.new }
-    ensures inst_heads { InstHeads (is_ok result) (worth index) (summary_at pairs.entry.words.now pairs.entry.first pairs.entry.count) x.now depth scope.entry.kinds.now (names_of scope.entry.names.now scope.entry.used) g.old g.new }
+    ensures inst_leaves { InstLeaves (is_ok result) (worth index) (summary_in pairs.entry) x.now depth
+        scope.entry.kinds.now (names_in scope.entry) g.old g.new }
+    ensures inst_heads { InstHeads (is_ok result) (worth index) (summary_in pairs.entry) x.now depth
+        scope.entry.kinds.now (names_in scope.entry) g.old g.new }
     ensures g_len_unchanged { length g.new ≡ length g.old }
 {
     let mut p = pairs.first;

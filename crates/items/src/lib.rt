@@ -10,6 +10,7 @@ ghost use Rattle.lines.specs.Parts.{piece};
 ghost use Rattle.sites.specs.Own.{places};
 ghost use Rattle.walk.specs.Walk.{no_own};
 ghost use Rattle.items.specs.Held.{Held};
+ghost use Rattle.edges.specs.Lines.{names_in};
 ghost use Rattle.edges.specs.Total.{parts_behind};
 ghost use Rattle.items.specs.Added.{OwnLeaves, port_added, reg_added, mem_added, output_driven, drive_added, set_added, default_added, stmt_added, all_added, on_added, line_added};
 ghost use Rattle.items.specs.Lines.{emptied, number_at, named_at, ConstantIs, index_at, ExtentIs, says_outside, index_outside, SetAfter, DefaultAfter, StmtAfter, StmtsAfter, PortLine, RegLine, MemLine, DriveOutput, DriveLine, OnLine, OwnLine, drive_outside};
@@ -239,9 +240,9 @@ fn drive_output(
 
 // A driven name: a site of an output, or the misuse of a wire, a register or a memory.
 fn drive(x: &[u8], bound: bool, depth: u32, scope: Scope<'_>, own: &mut [u32]) -> Result<(), Stop>
-    ensures drive_line { DriveLine (is_ok result) x.now bound depth scope.entry.kinds.now (names_of scope.entry.names.now scope.entry.used) own.old own.new }
+    ensures drive_line { DriveLine (is_ok result) x.now bound depth scope.entry.kinds.now (names_in scope.entry) own.old own.new }
     ensures own_len_unchanged { length own.new ≡ length own.old }
-    ensures own_leaves { OwnLeaves (is_ok result) (drive_added x.now bound depth scope.entry.kinds.now (names_of scope.entry.names.now scope.entry.used) own.old) own.new }
+    ensures own_leaves { OwnLeaves (is_ok result) (drive_added x.now bound depth scope.entry.kinds.now (names_in scope.entry) own.old) own.new }
 {
     let lv = parts::between(x, 6, parts::part_end(x, 7));
     let l = named_at(lv, 3);
@@ -384,9 +385,9 @@ pub fn own_line(
     scope: Scope<'_>,
     own: &mut [u32],
 ) -> Result<(), Stop>
-    ensures own_line { OwnLine (is_ok result) x.now base bound depth scope.entry.kinds.now (names_of scope.entry.names.now scope.entry.used) own.old own.new }
+    ensures own_line { OwnLine (is_ok result) x.now base bound depth scope.entry.kinds.now (names_in scope.entry) own.old own.new }
     ensures own_len_unchanged { length own.new ≡ length own.old }
-    ensures own_leaves { OwnLeaves (is_ok result) (line_added x.now base bound depth scope.entry.kinds.now (names_of scope.entry.names.now scope.entry.used) own.old) own.new }
+    ensures own_leaves { OwnLeaves (is_ok result) (line_added x.now base bound depth scope.entry.kinds.now (names_in scope.entry) own.old) own.new }
 {
     let c = parts::byte(x, 1);
     if c == b'd' {
@@ -413,7 +414,7 @@ pub fn own_line(
 // In a summary's walk, which has no own tables: whether the collected line x has a constant outside INT. Only the drive of an output
 // has constants.
 pub fn drive_outside(x: &[u8], depth: u32, scope: Scope<'_>) -> bool
-    ensures { result ≡ drive_outside x.now depth scope.entry.kinds.now (names_of scope.entry.names.now scope.entry.used) }
+    ensures { result ≡ drive_outside x.now depth scope.entry.kinds.now (names_in scope.entry) }
 {
     if parts::byte(x, 1) != b'd' {
         return false;
