@@ -164,8 +164,8 @@ fn index_read(
     from: u32,
 ) -> Result<(), Stop>
     ensures nodes_read { NodesRead (is_ok result) (indexed_reads i (value (names_in scope.entry) (decode_expr depth e.now)) p) g.old g.new from }
-    ensures reads_or_cleared { ReadsOrCleared (is_ok result) (indexed_reads i (value
-        (names_in scope.entry) (decode_expr depth e.now)) p) from g.old g.new }
+    ensures reads_or_cleared { ReadsOrCleared (is_ok result) (indexed_reads i (value (names_in scope.entry) (decode_expr depth e.now)) p)
+        from g.old g.new }
 {
     match consteval::eval(e, depth, scope.names, scope.used) {
         Value::Known(v) => match graph::read(g, from, Node::OutputAt(i, v, p)) {
@@ -213,9 +213,8 @@ fn under(depth: u32, k: u32) -> u32
 #[cycle(expr_reads_field_reads_parts_read)]
 fn field_reads(e: &[u8], depth: u32, scope: Scope<'_>, g: &mut [u32], from: u32) -> Result<(), Stop>
     ensures field_read { FieldRead (is_ok result) e.now depth scope.entry.kinds.now (names_in scope.entry) g.old g.new from }
-    ensures reads_or_cleared { ReadsOrCleared (is_ok result) (field_read (expr_read scope.entry.kinds.now
-        (names_in scope.entry) depth) scope.entry.kinds.now (names_in scope.entry) depth
-        e.now) from g.old g.new }
+    ensures reads_or_cleared { ReadsOrCleared (is_ok result) (field_read (expr_read scope.entry.kinds.now (names_in scope.entry) depth)
+        scope.entry.kinds.now (names_in scope.entry) depth e.now) from g.old g.new }
 {
     let a = next_end(e, 2);
     let x = parts::between(e, 2, a);
@@ -267,8 +266,8 @@ fn parts_read(
     from: u32,
 ) -> Result<(), Stop>
     ensures parts_read { PartsRead (is_ok result) (drop end e.now) depth scope.entry.kinds.now (names_in scope.entry) g.old g.new from }
-    ensures reads_or_cleared { ReadsOrCleared (is_ok result) (parts_read scope.entry.kinds.now
-        (names_in scope.entry) depth e.now end) from g.old g.new }
+    ensures reads_or_cleared { ReadsOrCleared (is_ok result) (parts_read scope.entry.kinds.now (names_in scope.entry) depth e.now end)
+        from g.old g.new }
 {
     let mut a = end;
     while parts::more(e, a) {
