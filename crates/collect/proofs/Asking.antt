@@ -1,5 +1,6 @@
 -- The ways of `inst_edges`, `comb_summary` and `make_summary`.
 -- Assumes nothing.
+use Rattle.std.specs.Prelude.{Result, Ok, Err}
 use mathlib.Core.Path.{◌≡◌, refl, sym, ◌∙◌, ap, subst}
 use mathlib.Core.Bool.{Bool, true, false}
 use mathlib.Core.List.{List, [], ◌∷◌}
@@ -38,13 +39,10 @@ use Rattle.summary.specs.Keeps.{Keeps, state_of, Says, Made, pairs_of, first_of,
 use Rattle.summary.specs.declared.State as S
 use Rattle.summary.specs.declared.State.TheVariants as states
 use Rattle.summary.proofs.Table.{state_says, kept_pairs, began}
-use Rattle.collect.specs.declared.Walked as W
-use Rattle.collect.specs.declared.Walked.TheVariants as walks
-use Rattle.collect.specs.declared.Asked as A
-use Rattle.collect.specs.declared.Asked.TheVariants as asked
 use Rattle.collect.specs.Cycle.{Tabled, PartOf, Mode, mode, World, Single, Given, OneGiven, Ends, Stepped, AskedFor, step_of, walk_of}
 use Rattle.collect.proofs.Turns.{ask_missing, ask_kept, ask_busy, ask_outside, ask_stops, ask_over, ask_made}
 use Rattle.collect.proofs.Ways.{outside_index, unasked_full, heads_done, heads_over}
+use Rattle.edges.specs.declared.Stop.{Stop}
 use Rattle.collect.proofs.Tables.{kinds_here, module_here, run_here, found, missing, few}
 
 -- 20 is the number of a value outside INT
@@ -112,13 +110,13 @@ module _ (fuel : ℕ) (text kinds mods : List ℕ) (count : ℕ) (x : Bytes) (de
                 as_inst
                 ∙ heads_over fuel mo text own w.header w.busy (names_of names used) the w.state G.holding.owned inside_place a answer t alike k' keeps g' h
 
-        pub summary_empty : (k' : List ℕ) → AskedFor asked.Empty k' m w.busy (asks m)
+        pub summary_empty : (k' : List ℕ) → AskedFor (Ok false) k' m w.busy (asks m)
             → (b : Bool) (g' : List ℕ) → InstHeads b v (summary_at k' 0 0) x depth ks (names_of names used) g g' → Stepped b mo text own g' k' w.busy (stepping w.item)
         unfolding summary_at
         summary_empty k' q b g' f =
             heads_made k' q.0 q.1 [] (subst (λ (s : Summary). Alike [] s) (sym q.2) (alike_same [])) q.3 b g' f
 
-        pub summary_kept : (k' : List ℕ) → AskedFor asked.Kept k' m w.busy (asks m)
+        pub summary_kept : (k' : List ℕ) → AskedFor (Ok true) k' m w.busy (asks m)
             → (first pairs : ℕ) → first ≡ first_of k' m → pairs ≡ count_of k' m
             → (b : Bool) (g' : List ℕ) → InstHeads b v (summary_at k' first pairs) x depth ks (names_of names used) g g' → Stepped b mo text own g' k' w.busy (stepping w.item)
         summary_kept k' q first pairs e c b g' f =
@@ -143,23 +141,23 @@ module _ (text kinds mods : List ℕ) (count m : ℕ) (k : List ℕ) (kept : Kep
   abbrev asking : ℕ → Got Answered
   asking fuel = ask_walk fuel (decode text) busy kept m
 
-  pub ask_spent : AskedFor asked.Empty k m busy (asking 0)
+  pub ask_spent : AskedFor (Ok false) k m busy (asking 0)
   unfolding ask_walk
   ask_spent = (answered [] kept, refl, refl, keeps)
 
-  pub spent_at : {fuel : ℕ} → fuel ≡ 0 → AskedFor asked.Empty k m busy (asking fuel)
-  spent_at e = subst (λ (n : ℕ). AskedFor asked.Empty k m busy (asking n)) (sym e) ask_spent
+  pub spent_at : {fuel : ℕ} → fuel ≡ 0 → AskedFor (Ok false) k m busy (asking fuel)
+  spent_at e = subst (λ (n : ℕ). AskedFor (Ok false) k m busy (asking n)) (sym e) ask_spent
 
   module _ (fuel : ℕ) (some_left : 0 < fuel) where
     one_less : fuel ≡ suc (fuel - 1)
     one_less = omega arith
 
-    back : (a : A.Asked) (k' : List ℕ) → AskedFor a k' m busy (asking (suc (fuel - 1))) → AskedFor a k' m busy (asking fuel)
+    back : (a : Result Bool Stop) (k' : List ℕ) → AskedFor a k' m busy (asking (suc (fuel - 1))) → AskedFor a k' m busy (asking fuel)
     back a k' q = subst (λ (n : ℕ). AskedFor a k' m busy (asking n)) (sym one_less) q
 
-    pub ask_past : count ≤ m → AskedFor asked.Empty k m busy (asking fuel)
+    pub ask_past : count ≤ m → AskedFor (Ok false) k m busy (asking fuel)
     ask_past h =
-        back asked.Empty k
+        back (Ok false) k
         (answered [] kept, ask_missing (fuel - 1) (decode text) busy kept m (missing text kinds mods count m t h), refl, keeps)
 
     module _ (there : m < count) (s : S.State) (is : s ≡ state_of k m) where
@@ -172,17 +170,17 @@ module _ (text kinds mods : List ℕ) (count m : ℕ) (k : List ℕ) (kept : Kep
       abbrev it : (x : Module) × (get_elem? (decode text) m ≡ some x)
       it = found text kinds mods count m t there
 
-      pub ask_again : s ≡ states.Kept → AskedFor asked.Kept k m busy (asking fuel)
+      pub ask_again : s ≡ states.Kept → AskedFor (Ok true) k m busy (asking fuel)
       ask_again e =
           let q = said states.Kept e in
-          back asked.Kept k (answered q.0 kept, ask_kept (fuel - 1) (decode text) busy kept m it.0 it.1 q.0 q.1 q.3, q.2, keeps, small)
+          back (Ok true) k (answered q.0 kept, ask_kept (fuel - 1) (decode text) busy kept m it.0 it.1 q.0 q.1 q.3, q.2, keeps, small)
 
-      pub ask_within : s ≡ states.Busy → AskedFor asked.Empty k m busy (asking fuel)
+      pub ask_within : s ≡ states.Busy → AskedFor (Ok false) k m busy (asking fuel)
       ask_within e =
           let q = said states.Busy e in
-          back asked.Empty k (answered [] kept, ask_busy (fuel - 1) (decode text) busy kept m it.0 it.1 q.0 q.1, refl, keeps)
+          back (Ok false) k (answered [] kept, ask_busy (fuel - 1) (decode text) busy kept m it.0 it.1 q.0 q.1, refl, keeps)
 
-      pub ask_new : s ≡ states.New → (a : A.Asked) (k' : List ℕ)
+      pub ask_new : s ≡ states.New → (a : Result Bool Stop) (k' : List ℕ)
           → (m < count → kept_summary kept m ≡ none → has_name m busy ≡ false → AskedFor a k' m busy (asking (suc (fuel - 1))))
           → AskedFor a k' m busy (asking fuel)
       ask_new e a k' f = let q = said states.New e in back a k' (f there q.0 q.1)
@@ -238,7 +236,7 @@ module _ (text kinds mods : List ℕ) (count m : ℕ) (k : List ℕ) (kept : Kep
         abbrev walked_by : Names → Got (Walked State)
         walked_by ns = walk_items this.items (line_step (ask_walk fuel (decode text) (m ∷ busy)) (walking false this)) ns round_limit (begin kept)
 
-        module _ (v : W.Walked) (own' g' k' : List ℕ)
+        module _ (v : Result ℕ Stop) (own' g' k' : List ℕ)
             (ends : (w : World) → Given (mode false false) text kinds mods count run base 32 ks names used own₀ g₀ k₁ w
             → Ends v (mode false false) text own' g' k' w.busy (walk_of fuel text (mode false false) w (names_of names used) 4096)) where
           walks_as : Ends v (mode false false) text own' g' k' (m ∷ busy) (walked_by (name_table (own_vals this) this).names)
@@ -249,16 +247,16 @@ module _ (text kinds mods : List ℕ) (count m : ℕ) (k : List ℕ) (kept : Kep
               (λ j. λ ns i st. unbound (ask_walk fuel (decode text) (m ∷ busy)) this.header false this.bound ns i st j)
               (ends world given))
 
-          pub make_stops : v ≡ walks.Full → asking (suc fuel) ≡ full
+          pub make_stops : {f : Stop} → v ≡ Err f → asking (suc fuel) ≡ full
           make_stops e =
               ask_stops fuel (decode text) busy kept m this is_there new free table_in
-              (subst (λ (y : W.Walked). Ends y (mode false false) text own' g' k' (m ∷ busy) (walked_by (name_table (own_vals this) this).names)) e walks_as)
+              (subst (λ (y : Result ℕ Stop). Ends y (mode false false) text own' g' k' (m ∷ busy) (walked_by (name_table (own_vals this) this).names)) e walks_as)
 
-          module _ (l : ℕ) (left : v ≡ walks.Left l) (b : Bool) (k'' : List ℕ)
+          module _ (l : ℕ) (left : v ≡ Ok l) (b : Bool) (k'' : List ℕ)
               (made : (d : ℕ) (M : Module) (heads : List Head) (kept : Kept) (busy : List ℕ) → RunOf d run M.items → KindsOf ks M.header → Stands g' heads → Keeps k' kept (m ∷ busy) → m < 32
               → has_name m busy ≡ false → Made b k'' m M heads kept busy) where
-            ended : Ends (walks.Left l) (mode false false) text own' g' k' (m ∷ busy) (walked_by (name_table (own_vals this) this).names)
-            ended = subst (λ (y : W.Walked). Ends y (mode false false) text own' g' k' (m ∷ busy) (walked_by (name_table (own_vals this) this).names)) left walks_as
+            ended : Ends (Ok l) (mode false false) text own' g' k' (m ∷ busy) (walked_by (name_table (own_vals this) this).names)
+            ended = subst (λ (y : Result ℕ Stop). Ends y (mode false false) text own' g' k' (m ∷ busy) (walked_by (name_table (own_vals this) this).names)) left walks_as
 
             makes : Made b k'' m this ended.0.heads ended.0.kept busy
             makes = made depth_limit this ended.0.heads ended.0.kept busy run_of kinds_told ended.2.stands ended.2.keeps low free
@@ -268,7 +266,7 @@ module _ (text kinds mods : List ℕ) (count m : ℕ) (k : List ℕ) (kept : Kep
                 ask_over fuel (decode text) busy kept m this is_there new free l ended.0 table_in ended.1
                 (subst (λ (c : Bool). Made c k'' m this ended.0.heads ended.0.kept busy) e makes)
 
-            pub make_kept : b ≡ true → AskedFor asked.Kept k'' m busy (asking (suc fuel))
+            pub make_kept : b ≡ true → AskedFor (Ok true) k'' m busy (asking (suc fuel))
             make_kept e =
                 let q = subst (λ (c : Bool). Made c k'' m this ended.0.heads ended.0.kept busy) e makes in
                 let s = module_summary this ended.0.heads in (

@@ -1,5 +1,6 @@
 -- The ways of `repeat_items`, `repeat_rounds` and `branch_items`: what the body leaves is what the walk over the item gives.
 -- Assumes nothing.
+use Rattle.std.specs.Prelude.{Result, Ok, Err}
 use mathlib.Core.Path.{◌≡◌, refl, sym, ◌∙◌, ap, subst}
 use mathlib.Core.Bool.{Bool, true, false, ◌||◌, true≢false}
 use mathlib.Core.List.{List, ◌∷◌}
@@ -32,14 +33,13 @@ use Rattle.steps.specs.declared.Chosen as C
 use Rattle.steps.specs.declared.Chosen.TheVariants as chosen
 use Rattle.steps.proofs.StepLaws.{is_refused, not_refused, times_are, body_is, branch_is}
 use Rattle.steps.proofs.Ways.{repeat_never, repeat_once, repeat_rounds, inner_repeat, inner_const_if, next_value}
-use Rattle.collect.specs.declared.Walked as W
-use Rattle.collect.specs.declared.Walked.TheVariants as walks
 use Rattle.collect.specs.Cycle.{PartOf, Mode, World, Single, Given, OneGiven, Holding, Ends, RoundsWithin, Framed, walking_of, step_of, walk_of, one_of, turns_of}
 use Rattle.collect.proofs.Turns.{step_outside, repeat_step, const_if_step}
 use Rattle.collect.proofs.Ways.{or_none, fine}
 use Rattle.collect.proofs.Parts.{part_drop, part_piece}
 use Rattle.collect.proofs.Items.{Sized, framed_same, framed_again, sized_again}
 use Rattle.collect.proofs.Leaving.{filled_same}
+use Rattle.edges.specs.declared.Stop.{Stop}
 use Rattle.collect.proofs.Going.{names_framed}
 
 -- ---- the names
@@ -155,7 +155,7 @@ module _ (fuel : ℕ) (mo : Mode) (text kinds mods : List ℕ) (count : ℕ) (x 
         as_item w G
         ∙ repeat_walk fuel mo text own₀ g₀ k₀ w.header w.busy (names_of names₀ used) left₀ w.state G.holding G.head.0 G.head.1 G.head.2 G.head.3 e
 
-    pub no_round : r ≡ times.Never → (w : Single) → Repeated w → Ends (walks.Left left₀) mo text own₀ g₀ k₀ w.busy (one w)
+    pub no_round : r ≡ times.Never → (w : Single) → Repeated w → Ends (Ok left₀) mo text own₀ g₀ k₀ w.busy (one w)
     no_round e w G =
         let t = told_as times.Never e w G in (
           w.state,
@@ -186,7 +186,7 @@ module _ (fuel : ℕ) (mo : Mode) (text kinds mods : List ℕ) (count : ℕ) (x 
             holding = G.holding;
           }
 
-      pub body_once : r ≡ times.Once → (b : W.Walked) (own' g' k' : List ℕ)
+      pub body_once : r ≡ times.Once → (b : Result ℕ Stop) (own' g' k' : List ℕ)
           → ((w : World) → Given mo text kinds mods count body (from + a) (depth - 1) ks names₀ used own₀ g₀ k₀ w
           → Ends b mo text own' g' k' w.busy (walk_of fuel text mo w (names_of names₀ used) left₀))
           → (w : Single) → Repeated w → Ends b mo text own' g' k' w.busy (one w)
@@ -208,7 +208,7 @@ module _ (fuel : ℕ) (mo : Mode) (text kinds mods : List ℕ) (count : ℕ) (x 
         never_wide h w G = let t = told_as (times.Rounds n low total) rounds_told w G in let q = t.1.3 in absurd (omega arith)
 
         -- the rounds are walked, with one name more than are used
-        pub rounds_done : (b : W.Walked) (own' g' k' : List ℕ)
+        pub rounds_done : (b : Result ℕ Stop) (own' g' k' : List ℕ)
             → ((w : World) → Given mo text kinds mods count body (from + a) (depth - 1) ks names₀ (used + 1) own₀ g₀ k₀ w
             → Ends b mo text own' g' k' w.busy (turns_of fuel text mo w n low total (names_of names₀ used) (left₀ - total)))
             → (w : Single) → Repeated w → Ends b mo text own' g' k' w.busy (one w)
@@ -238,7 +238,6 @@ module _ (fuel : ℕ) (mo : Mode) (text kinds mods : List ℕ) (count : ℕ) (s 
 
   -- i rounds are walked
   pub record Rounds (i left : ℕ) (names own g k : List ℕ) : Type 0 where
-    pub inside : i ≤ total
     pub fewer : left ≤ left₀
     pub framed : Framed used names₀ names
     pub sized : Sized mo.own own₀ g₀ k₀ own g k
@@ -247,7 +246,6 @@ module _ (fuel : ℕ) (mo : Mode) (text kinds mods : List ℕ) (count : ℕ) (s 
   pub rounds_start : Rounds 0 left₀ names₀ own₀ g₀ k₀
   rounds_start =
       record {
-        inside = omega arith;
         fewer = omega arith;
         framed = framed_same;
         sized = record { kept = filled_same mo.own own₀ g₀ k₀; own_size = refl; g_size = refl; k_size = refl };
@@ -262,7 +260,7 @@ module _ (fuel : ℕ) (mo : Mode) (text kinds mods : List ℕ) (count : ℕ) (s 
       }
 
   module _ (i left : ℕ) (names own g k : List ℕ) (o : Rounds i left names own g k) where
-    pub rounds_end : total ≤ i → (w : World) → Entered w → Ends (walks.Left left) mo text own g k w.busy (every w)
+    pub rounds_end : total ≤ i → (w : World) → Entered w → Ends (Ok left) mo text own g k w.busy (every w)
     unfolding walk_rounds
     rounds_end h w G =
         let s = o.walking w G in
@@ -313,27 +311,26 @@ module _ (fuel : ℕ) (mo : Mode) (text kinds mods : List ℕ) (count : ℕ) (s 
           ∙ ap (λ (l : Names). then_go (walk_items w.items (step_of fuel text mo w.header w.busy) l left s.0)
           (λ y. walk_rounds (each w) n (signed (low + i) +ℤ pos 1) (total - (i + 1)) (names_of names₀ used) y.left y.state)) (sym (named w G))
 
-      module _ (b : W.Walked) (names' own' g' k' : List ℕ) (f : (w : World) → Given mo text kinds mods count s base depth ks put (used + 1) own g k w
+      module _ (b : Result ℕ Stop) (names' own' g' k' : List ℕ) (f : (w : World) → Given mo text kinds mods count s base depth ks put (used + 1) own g k w
           → Ends b mo text own' g' k' w.busy (walk_of fuel text mo w (names_of put (used + 1)) left)) where
-        as_body : (c : W.Walked) → b ≡ c → (w : World) (G : Entered w) → Ends c mo text own' g' k' w.busy (walk_of fuel text mo (inside_of w G) (names_of put (used + 1)) left)
+        as_body : (c : Result ℕ Stop) → b ≡ c → (w : World) (G : Entered w) → Ends c mo text own' g' k' w.busy (walk_of fuel text mo (inside_of w G) (names_of put (used + 1)) left)
         as_body c e w G =
-            subst (λ (y : W.Walked). Ends y mo text own' g' k' w.busy (walk_of fuel text mo (inside_of w G) (names_of put (used + 1)) left)) e
+            subst (λ (y : Result ℕ Stop). Ends y mo text own' g' k' w.busy (walk_of fuel text mo (inside_of w G) (names_of put (used + 1)) left)) e
             (f (inside_of w G) (given_round w G))
 
         pub rounds_framed : Framed (used + 1) put names' → Framed used names₀ names'
         rounds_framed frame = framed_again push_framed (framed_less frame)
 
-        pub rounds_next : (l : ℕ) → b ≡ walks.Left l → RoundsWithin b left → Framed (used + 1) put names' → Sized mo.own own g k own' g' k' → Rounds (i + 1) l names' own' g' k'
+        pub rounds_next : (l : ℕ) → b ≡ Ok l → RoundsWithin b left → Framed (used + 1) put names' → Sized mo.own own g k own' g' k' → Rounds (i + 1) l names' own' g' k'
         rounds_next l e few' frame size =
-            let c = subst (λ (y : W.Walked). RoundsWithin y left) e few' in
+            let c = subst (λ (y : Result ℕ Stop). RoundsWithin y left) e few' in
             let p = o.fewer in
             record {
-              inside = omega arith;
               fewer = omega arith;
               framed = rounds_framed frame;
               sized = sized_again mo.own o.sized size;
               walking = λ w G.
-                  let E = as_body (walks.Left l) e w G in
+                  let E = as_body (Ok l) e w G in
                   let z : low + i + 1 ≡ low + (i + 1) = omega arith in (
                     E.0,
                     E.2,
@@ -344,10 +341,10 @@ module _ (fuel : ℕ) (mo : Mode) (text kinds mods : List ℕ) (count : ℕ) (s 
                   );
             }
 
-        pub rounds_full : b ≡ walks.Full → (w : World) → Entered w → every w ≡ full
+        pub rounds_full : {f : Stop} → b ≡ Err f → (w : World) → Entered w → every w ≡ full
         rounds_full e w G =
             one_more w G
-            ∙ ap (λ (y : Got (Walked State)). then_go y (λ v. walk_rounds (each w) n (signed (low + i) +ℤ pos 1) (total - (i + 1)) (names_of names₀ used) v.left v.state)) (as_body walks.Full e w G)
+            ∙ ap (λ (y : Got (Walked State)). then_go y (λ v. walk_rounds (each w) n (signed (low + i) +ℤ pos 1) (total - (i + 1)) (names_of names₀ used) v.left v.state)) (as_body _ e w G)
 
 -- ---- `constif`
 
@@ -399,7 +396,7 @@ module _ (fuel : ℕ) (mo : Mode) (text kinds mods : List ℕ) (count : ℕ) (x 
       pub branch_some : length x ≤ a → (w : Single) → Branching w → branches w ≡ full
       branch_some h w G = let p = begins w G in absurd (omega arith)
 
-      pub branch_done : (y : Bytes) → y ≡ piece x a b → (v : W.Walked) (own' g' k' : List ℕ)
+      pub branch_done : (y : Bytes) → y ≡ piece x a b → (v : Result ℕ Stop) (own' g' k' : List ℕ)
           → ((w : World) → Given mo text kinds mods count y (from + a + 1) (depth - 2) ks names₀ used own₀ g₀ k₀ w
           → Ends v mo text own' g' k' w.busy (walk_of fuel text mo w (names_of names₀ used) left₀))
           → (w : Single) → Branching w → Ends v mo text own' g' k' w.busy (branches w)

@@ -1,5 +1,6 @@
 -- The walk of a module's own check: the ways of `walk_module`.
 -- Assumes nothing.
+use Rattle.std.specs.Prelude.{Result, Ok, Err}
 use mathlib.Core.Path.{◌≡◌, refl, sym, ◌∙◌, ap, subst}
 use mathlib.Core.Bool.{Bool, true, false}
 use mathlib.Core.List.{List, []}
@@ -20,10 +21,9 @@ use Rattle.edges.specs.Reads.{KindsOf}
 use Rattle.runs.specs.Run.{RunOf}
 use Rattle.runs.specs.Text.{items_run}
 use Rattle.walk.specs.Walk.{Got, full, Walked, walk_items, State, no_own, over_own, begin, line_step, ask_walk, walk_module, own_walk}
-use Rattle.collect.specs.declared.Walked as W
-use Rattle.collect.specs.declared.Walked.TheVariants as walks
 use Rattle.collect.specs.Cycle.{PartOf, mode, World, Given, walk_number, Ends, walk_of}
 use Rattle.collect.specs.Face.{WalkGiven, Walkable}
+use Rattle.edges.specs.declared.Stop.{Stop}
 use Rattle.collect.proofs.Tables.{few, run_short, kinds_here, run_here, bound_here}
 
 -- the end of a module's run is a word
@@ -35,9 +35,9 @@ run_fits text mods m run base e b h s =
     omega arith
 
 -- within the limits of a text, whatever the walk says
-pub walkable_within : (a : W.Walked) (text : List ℕ) (count : ℕ) → length text ≤ 32768 → count ≤ 32 → Walkable (walk_number a) text count
-walkable_within (walks.Left l) text count h n = (h, n)
-walkable_within walks.Full text count h n = tt
+pub walkable_within : (a : Result ℕ Stop) (text : List ℕ) (count : ℕ) → length text ≤ 32768 → count ≤ 32 → Walkable (walk_number a) text count
+walkable_within (Ok l) text count h n = (h, n)
+walkable_within (Err e) text count h n = tt
 
 -- own tables with no row are within their limits
 none_over : over_own no_own ≡ false
@@ -87,7 +87,7 @@ module _ (text kinds mods : List ℕ) (count m : ℕ) (names : List ℕ) (used :
           holding = record { owned = (C.held, none_over); stands = C.stands; keeps = C.keeps };
         }
 
-    pub module_walked : (r : W.Walked) (own' g' k' : List ℕ)
+    pub module_walked : (r : Result ℕ Stop) (own' g' k' : List ℕ)
         → ((w : World) → Given (mode true bound) text kinds mods count run base 32 ks names used own g k w
         → Ends r (mode true bound) text own' g' k' w.busy (walk_of (count + 1) text (mode true bound) w (names_of names used) 4096))
         → Ends r (mode true x.bound) text own' g' k' [] (own_walk (decode text) x kept)

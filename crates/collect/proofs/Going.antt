@@ -1,5 +1,6 @@
 -- The loop over a run of items: where it stands, and one law for each way of its turn.
 -- Assumes nothing.
+use Rattle.std.specs.Prelude.{Ok}
 use mathlib.Core.Path.{◌≡◌, refl, ◌∙◌, ap}
 use mathlib.Core.Bool.{true}
 use mathlib.Core.List.{List}
@@ -14,7 +15,6 @@ use Rattle.runs.specs.Run.{RunOf}
 use Rattle.runs.proofs.Items.{item_end, FirstOf, end_of_run}
 use Rattle.walk.specs.Walk.{Got, full, going, then_go, Walked, walk_inner, walk_items, State}
 use Rattle.steps.specs.Steps.{plain}
-use Rattle.collect.specs.declared.Walked.TheVariants as walks
 use Rattle.collect.specs.Cycle.{Mode, Single, Holding, Ends, Stepped, Framed, step_of, one_of}
 use Rattle.steps.proofs.Ways.{inner_plain, inner_inst}
 use Rattle.collect.proofs.Turns.{walk_end}
@@ -49,7 +49,7 @@ pub record Going (fuel : ℕ) (mo : Mode) (text s : Bytes) (at depth : ℕ) (nam
 
 module _ (fuel : ℕ) (mo : Mode) (text s : Bytes) (depth : ℕ) (names : Names) (header : List Header) (busy : List ℕ) (x : Got (Walked State)) where
   pub going_end : {at left : ℕ} {own g k : List ℕ} → Going fuel mo text s at depth names left own g k header busy x → length s ≤ at + 1
-      → Ends (walks.Left left) mo text own g k busy x
+      → Ends (Ok left) mo text own g k busy x
   going_end {at} {left} G h =
       let e = end_of_run depth s at G.items G.run h in (
         G.state,
@@ -76,7 +76,7 @@ module _ (fuel : ℕ) (mo : Mode) (text s : Bytes) (depth : ℕ) (names : Names)
         nested full = refl
         nested (going st) = refl
 
-    pub going_next : {l : ℕ} {own' g' k' : List ℕ} → Ends (walks.Left l) mo text own' g' k' busy (one_of fuel text mo one names left)
+    pub going_next : {l : ℕ} {own' g' k' : List ℕ} → Ends (Ok l) mo text own' g' k' busy (one_of fuel text mo one names left)
         → Going fuel mo text s (item_end s at) depth names l own' g' k' header busy x
     going_next {l} E =
         record {
@@ -101,7 +101,7 @@ module _ (fuel : ℕ) (mo : Mode) (text : Bytes) (names : Names) (left : ℕ) (w
 
   -- a line that holds nothing: its step is all
   pub plain_ends : plain w.item ≡ true → {own' g' k' : List ℕ} → Stepped true mo text own' g' k' w.busy stepping
-      → Ends (walks.Left left) mo text own' g' k' w.busy (one_of fuel text mo w names left)
+      → Ends (Ok left) mo text own' g' k' w.busy (one_of fuel text mo w names left)
   plain_ends p S = (
     S.0,
     ap (λ (y : Got State). onward y) S.1 ∙ inner_plain (step_of fuel text mo w.header w.busy) names left S.0 w.item p,
@@ -109,7 +109,7 @@ module _ (fuel : ℕ) (mo : Mode) (text : Bytes) (names : Names) (left : ℕ) (w
   )
 
   pub inst_ends : (i : Inst) → w.item ≡ inst i → {own' g' k' : List ℕ} → Stepped true mo text own' g' k' w.busy stepping
-      → Ends (walks.Left left) mo text own' g' k' w.busy (one_of fuel text mo w names left)
+      → Ends (Ok left) mo text own' g' k' w.busy (one_of fuel text mo w names left)
   inst_ends i q S = (
     S.0,
     ap (λ (y : Got State). onward y) S.1

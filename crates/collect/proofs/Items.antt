@@ -1,5 +1,6 @@
 -- One item, by what it is, and the loop over a run of items: where it stands, and one law for each way of its turn.
 -- Assumes nothing.
+use Rattle.std.specs.Prelude.{Result, Ok, Err}
 use mathlib.Core.Path.{◌≡◌, refl, sym, ◌∙◌, ap, subst}
 use mathlib.Core.Bool.{Bool, true, false}
 use mathlib.Core.List.{List}
@@ -19,12 +20,11 @@ use Rattle.steps.specs.Steps.{head_of, HeadIs}
 use Rattle.steps.specs.declared.Head as H
 use Rattle.steps.specs.declared.Head.TheVariants as head
 use Rattle.steps.proofs.HeadLaws.{head_is}
-use Rattle.collect.specs.declared.Walked as W
-use Rattle.collect.specs.declared.Walked.TheVariants as walks
 use Rattle.collect.specs.Cycle.{PartOf, Mode, World, Single, Given, OneGiven, Ends, RoundsWithin, Stepped, Framed, PlainEnds, step_of, walk_of, one_of}
 use Rattle.collect.specs.Plain.{PlainLine}
 use Rattle.collect.proofs.Parts.{end_within, part_piece, stands_here}
 use Rattle.collect.proofs.Leaving.{Filled, filled_same, filled_again}
+use Rattle.edges.specs.declared.Stop.{Stop}
 use Rattle.collect.proofs.Going.{Going, one, going_end, going_next, going_full, plain_ends, inst_ends, step_full, names_framed}
 
 -- a walk keeps the lengths of the tables; rows, heads and summaries are added
@@ -41,9 +41,9 @@ pub framed_again : {used : ℕ} {a b c : List ℕ} → Framed used a b → Frame
 framed_again p q = record { size = q.size ∙ p.size; same = λ i h. q.same i h ∙ p.same i h }
 
 -- fewer rounds are left than there were before some were spent
-pub within_more : (r : W.Walked) (a b : ℕ) → a ≤ b → RoundsWithin r a → RoundsWithin r b
-within_more (walks.Left l) a b h w = omega arith
-within_more walks.Full a b h w = tt
+pub within_more : (r : Result ℕ Stop) (a b : ℕ) → a ≤ b → RoundsWithin r a → RoundsWithin r b
+within_more (Ok l) a b h w = omega arith
+within_more (Err e) a b h w = tt
 
 pub sized_again : (checking : Bool) {a b c d e f g h i : List ℕ} → Sized checking a b c d e f → Sized checking d e f g h i → Sized checking a b c g h i
 sized_again checking {a} {b} {c} {d} {e} {f} {g} {h} {i} p q = record { kept = filled_again checking a d g b e h c f i p.kept q.kept; own_size = q.own_size ∙ p.own_size; g_size = q.g_size ∙ p.g_size; k_size = q.k_size ∙ p.k_size }
@@ -89,7 +89,7 @@ module _ (fuel : ℕ) (mo : Mode) (text kinds mods : List ℕ) (count : ℕ) (s 
     abbrev walk : World → Got (Walked State)
     walk w = walk_of fuel text mo w (names_of names₀ used) left₀
 
-    pub ended : length s ≤ at + 1 → (w : World) → Entered w → Ends (walks.Left left) mo text own g k w.busy (walk w)
+    pub ended : length s ≤ at + 1 → (w : World) → Entered w → Ends (Ok left) mo text own g k w.busy (walk w)
     ended h w G = going_end fuel mo text s depth (names_of names₀ used) w.header w.busy (walk w) (o.walking w G) h
 
     names_same : names_of names used ≡ names_of names₀ used
@@ -128,7 +128,7 @@ module _ (fuel : ℕ) (mo : Mode) (text kinds mods : List ℕ) (count : ℕ) (s 
 
       -- the item is walked, and those behind it are left
       next : (l : ℕ) (names' own' g' k' : List ℕ) → l ≤ left → Framed used names names' → Sized mo.own own g k own' g' k'
-          → ((w : World) (G : Entered w) → Ends (walks.Left l) mo text own' g' k' w.busy (one_of fuel text mo (single w G) (names_of names₀ used) left))
+          → ((w : World) (G : Entered w) → Ends (Ok l) mo text own' g' k' w.busy (one_of fuel text mo (single w G) (names_of names₀ used) left))
           → On fuel mo text kinds mods count s base depth ks names₀ used left₀ own₀ g₀ k₀ end l names' own' g' k'
       next l names' own' g' k' few frame size ends =
           let f = o.fewer in
@@ -147,30 +147,30 @@ module _ (fuel : ℕ) (mo : Mode) (text kinds mods : List ℕ) (count : ℕ) (s 
       stop e w G = going_full fuel mo text s depth (names_of names₀ used) w.header w.busy (walk w) (o.walking w G) (first w G) (e w G)
 
       -- the item has a head, whichever it is
-      abbrev Answers : W.Walked → (own' g' k' : List ℕ) → Type 0
+      abbrev Answers : Result ℕ Stop → (own' g' k' : List ℕ) → Type 0
       Answers a own' g' k' =
           (h : H.Head) (w : Single) → OneGiven h mo text kinds mods count x (base + at + 1) depth ks names used own g k w
           → Ends a mo text own' g' k' w.busy (one_of fuel text mo w (names_of names used) left)
 
-      answered : (a : W.Walked) (own' g' k' : List ℕ) → Answers a own' g' k'
+      answered : (a : Result ℕ Stop) (own' g' k' : List ℕ) → Answers a own' g' k'
           → (w : World) (G : Entered w) → Ends a mo text own' g' k' w.busy (one_of fuel text mo (single w G) (names_of names₀ used) left)
       answered a own' g' k' f w G =
           let h = some_head (first w G).item in
           subst (λ (ns : Names). Ends a mo text own' g' k' w.busy (one_of fuel text mo (single w G) ns left)) names_same
           (f h.0 (single w G) (given h.0 w G h.1))
 
-      pub item_next : (l : ℕ) (names' own' g' k' : List ℕ) (a : W.Walked) → a ≡ walks.Left l → RoundsWithin a left → Framed used names names' → Sized mo.own own g k own' g' k'
+      pub item_next : (l : ℕ) (names' own' g' k' : List ℕ) (a : Result ℕ Stop) → a ≡ Ok l → RoundsWithin a left → Framed used names names' → Sized mo.own own g k own' g' k'
           → Answers a own' g' k' → On fuel mo text kinds mods count s base depth ks names₀ used left₀ own₀ g₀ k₀ end l names' own' g' k'
       item_next l names' own' g' k' a e few frame size f =
-          next l names' own' g' k' (subst (λ (y : W.Walked). RoundsWithin y left) e few) frame size
+          next l names' own' g' k' (subst (λ (y : Result ℕ Stop). RoundsWithin y left) e few) frame size
           (λ w G.
-          subst (λ (y : W.Walked). Ends y mo text own' g' k' w.busy (one_of fuel text mo (single w G) (names_of names₀ used) left)) e (answered a own' g' k' f w G))
+          subst (λ (y : Result ℕ Stop). Ends y mo text own' g' k' w.busy (one_of fuel text mo (single w G) (names_of names₀ used) left)) e (answered a own' g' k' f w G))
 
-      pub item_full : (own' g' k' : List ℕ) (a : W.Walked) → a ≡ walks.Full → Answers a own' g' k' → (w : World) → Entered w → walk w ≡ full
+      pub item_full : (own' g' k' : List ℕ) (a : Result ℕ Stop) → {f : Stop} → a ≡ Err f → Answers a own' g' k' → (w : World) → Entered w → walk w ≡ full
       item_full own' g' k' a e f =
           stop
           (λ w G.
-          subst (λ (y : W.Walked). Ends y mo text own' g' k' w.busy (one_of fuel text mo (single w G) (names_of names₀ used) left)) e (answered a own' g' k' f w G))
+          subst (λ (y : Result ℕ Stop). Ends y mo text own' g' k' w.busy (one_of fuel text mo (single w G) (names_of names₀ used) left)) e (answered a own' g' k' f w G))
 
 -- ---- one item, by its head
 
@@ -195,7 +195,7 @@ module _ (fuel : ℕ) (mo : Mode) (text kinds mods : List ℕ) (count : ℕ) (x 
       }
 
   -- a `repeat` or a `constif`
-  pub body_walked : (h : H.Head) → r ≡ h → (a : W.Walked) (own' g' k' : List ℕ) → ((w : Single) → Is h w → Ends a mo text own' g' k' w.busy (item_walk w))
+  pub body_walked : (h : H.Head) → r ≡ h → (a : Result ℕ Stop) (own' g' k' : List ℕ) → ((w : Single) → Is h w → Ends a mo text own' g' k' w.busy (item_walk w))
       → (h' : H.Head) (w : Single) → Is h' w → Ends a mo text own' g' k' w.busy (item_walk w)
   body_walked h e a own' g' k' f h' w G = f w (taken_for h e h' w G)
 
@@ -210,7 +210,7 @@ module _ (fuel : ℕ) (mo : Mode) (text kinds mods : List ℕ) (count : ℕ) (x 
     inst_stepped c was h w G =
         subst (λ (y : Bool). Stepped y mo text own g' k' w.busy (item_step w)) was (steps mo own from w (taken_for head.Inst is h w G))
 
-    pub inst_walked : b ≡ true → (h : H.Head) (w : Single) → Is h w → Ends (walks.Left left) mo text own g' k' w.busy (item_walk w)
+    pub inst_walked : b ≡ true → (h : H.Head) (w : Single) → Is h w → Ends (Ok left) mo text own g' k' w.busy (item_walk w)
     inst_walked was h w G =
         let i = (taken_for head.Inst is h w G).head in
         inst_ends fuel mo text (names_of names used) left w i.0 i.1 (inst_stepped true was h w G)
@@ -227,7 +227,7 @@ module _ (fuel : ℕ) (mo : Mode) (text kinds mods : List ℕ) (count : ℕ) (x 
         (line text w.item G.shows (taken_for head.Plain is h w G).head (stands_here text from x G.part kinds mods count G.tabled) w.header G.told w.state.own
         G.holding.owned w.state.heads G.holding.stands)
 
-    pub plain_walked : b ≡ true → (h : H.Head) (w : Single) → Is h w → Ends (walks.Left left) mo text own' g' k w.busy (item_walk w)
+    pub plain_walked : b ≡ true → (h : H.Head) (w : Single) → Is h w → Ends (Ok left) mo text own' g' k w.busy (item_walk w)
     plain_walked was h w G =
         let e = plain_stepped true was h w G in
         plain_ends fuel mo text (names_of names used) left w (taken_for head.Plain is h w G).head (

@@ -1,4 +1,5 @@
 -- What a call left of the tables that were lent to it. Assumes nothing.
+use Rattle.std.specs.Prelude.{Result, Ok, Err, is_ok}
 use mathlib.Core.Path.{◌≡◌, refl, sym, ◌∙◌, subst}
 use mathlib.Core.Bool.{Bool, true, false}
 use mathlib.Core.Logic.{inl, inr}
@@ -19,12 +20,14 @@ use Rattle.edges.proofs.LeaveLaws.{wire_cleared, drive_cleared}
 use Rattle.summary.specs.Keeps.{first_of, count_of}
 use Rattle.summary.specs.Pairs.{Leaves}
 use Rattle.walk.specs.Walk.{Got, State}
-use Rattle.collect.specs.declared.Walked as W
-use Rattle.collect.specs.declared.Walked.TheVariants as walks
-use Rattle.collect.specs.declared.Asked as A
-use Rattle.collect.specs.declared.Asked.TheVariants as asked
 use Rattle.collect.specs.Cycle.{Mode, Stepped, LinesAdded, OwnKept, KnownOf, HeadsAdded, WalkLeaves, AskLeaves, EdgesLeave}
+use Rattle.edges.specs.declared.Stop.{Stop}
 use Rattle.collect.specs.Plain.{HeadsLeave, PlainLeaves, InstLeaves}
+
+-- what is no refusal passed
+pub passed : {T E : Type 0} (r : Result T E) → ((e : E) → r ≡ Err e → ⊥) → is_ok r ≡ true
+passed (Ok x) h = refl
+passed (Err e) h = absurd (h e refl)
 
 -- ---- the words in the place of own tables
 
@@ -88,10 +91,10 @@ heads_cleared r g g' e h = rw e at h
 
 -- ---- a walk, a line, a summary that was asked for, by what it said
 
-pub walk_kept : (a : W.Walked) (checking : Bool) (own own' g g' k k' : List ℕ) {l : ℕ} → a ≡ walks.Left l → WalkLeaves a checking own own' g g' k k' → Filled checking own own' g g' k k'
+pub walk_kept : (a : Result ℕ Stop) (checking : Bool) (own own' g g' k k' : List ℕ) {l : ℕ} → a ≡ Ok l → WalkLeaves a checking own own' g g' k k' → Filled checking own own' g g' k k'
 walk_kept a checking own own' g g' k k' e h = rw e at h
 
-pub walk_cleared : (a : W.Walked) (checking : Bool) (own own' g g' k k' : List ℕ) → a ≡ walks.Full → WalkLeaves a checking own own' g g' k k' → Cleared own' × Cleared g' × Cleared k'
+pub walk_cleared : (a : Result ℕ Stop) (checking : Bool) (own own' g g' k k' : List ℕ) → {f : Stop} → a ≡ Err f → WalkLeaves a checking own own' g g' k k' → Cleared own' × Cleared g' × Cleared k'
 walk_cleared a checking own own' g g' k k' e h = rw e at h
 
 pub line_kept : (b checking : Bool) (own own' g g' : List ℕ) → b ≡ true → PlainLeaves b checking own own' g g' → OwnKept checking own own' × HeadsLeave true g g'
@@ -106,13 +109,13 @@ edges_kept b g g' k k' e h = rw e at h
 pub edges_cleared : (b : Bool) (g g' k k' : List ℕ) → b ≡ false → EdgesLeave b g g' k k' → Cleared g' × Cleared k'
 edges_cleared b g g' k k' e h = rw e at h
 
-pub ask_empty : (a : A.Asked) (k k' : List ℕ) → a ≡ asked.Empty → AskLeaves a k k' → (g : List ℕ) → HeadsAdded g k g k'
+pub ask_empty : (a : Result Bool Stop) (k k' : List ℕ) → a ≡ (Ok false) → AskLeaves a k k' → (g : List ℕ) → HeadsAdded g k g k'
 ask_empty a k k' e h = rw e at h
 
-pub ask_kept : (a : A.Asked) (k k' : List ℕ) → a ≡ asked.Kept → AskLeaves a k k' → (g : List ℕ) → HeadsAdded g k g k'
+pub ask_kept : (a : Result Bool Stop) (k k' : List ℕ) → a ≡ (Ok true) → AskLeaves a k k' → (g : List ℕ) → HeadsAdded g k g k'
 ask_kept a k k' e h = rw e at h
 
-pub ask_cleared : (a : A.Asked) (k k' : List ℕ) → a ≡ asked.Full → AskLeaves a k k' → Cleared k'
+pub ask_cleared : (a : Result Bool Stop) (k k' : List ℕ) → {f : Stop} → a ≡ Err f → AskLeaves a k k' → Cleared k'
 ask_cleared a k k' e h = rw e at h
 
 -- a summary that is made

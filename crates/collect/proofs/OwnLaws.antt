@@ -1,4 +1,5 @@
 -- A module's own walk from the slices as they are lent: its tables emptied, one law for each way of the code. Assumes nothing.
+use Rattle.std.specs.Prelude.{Result, Ok, Err}
 use mathlib.Core.Path.{◌≡◌, sym, ◌∙◌, subst}
 use mathlib.Core.Bool.{true}
 use mathlib.Core.List.{List, []}
@@ -23,19 +24,17 @@ use Rattle.steps.specs.declared.modules.Named.TheVariants as named
 use Rattle.steps.proofs.StepLaws.{is_refused, not_refused}
 use Rattle.items.specs.Held.{Held}
 use Rattle.items.specs.Lines.{emptied}
-use Rattle.collect.specs.declared.Walked as W
-use Rattle.collect.specs.declared.Walked.TheVariants as walks
-use Rattle.collect.specs.declared.Collected.TheVariants as collected
 use Rattle.collect.specs.Cycle.{mode, walk_number, Ends, LinesAdded, HeadsAdded, Framed, RoundsWithin}
 use Rattle.collect.specs.Face.{WalkGiven, ModuleGiven, Collects, Walkable, LentAfter}
 use Rattle.collect.proofs.Going.{names_framed}
+use Rattle.edges.specs.declared.Stop.{Stop}
 use Rattle.collect.proofs.Leaving.{Filled}
 
 -- ---- a module
 
 -- the rounds left
-pub few_left : (a : W.Walked) {left : ℕ} → RoundsWithin a 4096 → a ≡ walks.Left left → left ≤ 4096
-few_left a h e = subst (λ (b : W.Walked). RoundsWithin b 4096) e h
+pub few_left : (a : Result ℕ Stop) {left : ℕ} → RoundsWithin a 4096 → a ≡ Ok left → left ≤ 4096
+few_left a h e = subst (λ (b : Result ℕ Stop). RoundsWithin b 4096) e h
 
 module _ {text kinds mods : List ℕ} {count m : ℕ} {names own g k : List ℕ} {x : Module} {kept : Kept} (C : ModuleGiven text kinds mods count m names own g k x kept) where
   abbrev T : Table
@@ -72,16 +71,16 @@ module _ {text kinds mods : List ℕ} {count m : ℕ} {names own g k : List ℕ}
           }
 
       -- what the walk leaves
-      module _ (own'' g'' k'' : List ℕ) (a : W.Walked) (walk : (j : Module) (kept' : Kept) → WalkGiven text kinds mods count m names' used own' g' k j kept'
+      module _ (own'' g'' k'' : List ℕ) (a : Result ℕ Stop) (walk : (j : Module) (kept' : Kept) → WalkGiven text kinds mods count m names' used own' g' k j kept'
           → Ends a (mode true j.bound) text own'' g'' k'' [] (own_walk (decode text) j kept')) where
-        pub own_full : a ≡ walks.Full → own_walk (decode text) x kept ≡ full
-        own_full q = subst (λ (b : W.Walked). Ends b (mode true x.bound) text own'' g'' k'' [] (own_walk (decode text) x kept)) q (walk x kept given)
+        pub own_full : {f : Stop} → a ≡ Err f → own_walk (decode text) x kept ≡ full
+        own_full q = subst (λ (b : Result ℕ Stop). Ends b (mode true x.bound) text own'' g'' k'' [] (own_walk (decode text) x kept)) q (walk x kept given)
 
-        pub own_left : {left : ℕ} → a ≡ walks.Left left → (names'' : List ℕ) → Framed used names' names''
-            → Collects (collected.Left used left) text names'' own'' g'' k'' x (own_walk (decode text) x kept)
+        pub own_left : {left : ℕ} → a ≡ Ok left → (names'' : List ℕ) → Framed used names' names''
+            → Collects (Ok (record { used = used; left = left })) text names'' own'' g'' k'' x (own_walk (decode text) x kept)
         own_left {left} q names'' framed =
-            let ends : Ends (walks.Left left) (mode true x.bound) text own'' g'' k'' [] (own_walk (decode text) x kept) =
-            subst (λ (y : W.Walked). Ends y (mode true x.bound) text own'' g'' k'' [] (own_walk (decode text) x kept)) q (walk x kept given) in
+            let ends : Ends (Ok left) (mode true x.bound) text own'' g'' k'' [] (own_walk (decode text) x kept) =
+            subst (λ (y : Result ℕ Stop). Ends y (mode true x.bound) text own'' g'' k'' [] (own_walk (decode text) x kept)) q (walk x kept given) in
             (ends.0, ends.1, ends.2, names_framed used names' names'' framed ∙ filled.1.0)
 
 -- ---- what the slices become
@@ -91,10 +90,10 @@ Sizes names own g k names' own' g' k' = (length names' ≡ length names) × (len
 
 module _ (text mods : List ℕ) (count m : ℕ) (names own g k names' own' g' k' : List ℕ) (s : Sizes names own g k names' own' g' k') where
   pub lent_left : (used left : ℕ) (r : Named) (table : List ℕ) → r ≡ named_by text mods m names → table ≡ table_by text mods m names → r ≡ named.Used used
-      → Framed used table names' → (a : W.Walked) → a ≡ walks.Left left → Walkable (walk_number a) text count → (v : List ℕ) → v ≡ emptied own → (u : List ℕ) → u ≡ graphs.emptied g → Filled true v own' u g' k k'
-      → LentAfter (collected.Left used left) text mods count m names own g k names' own' g' k'
+      → Framed used table names' → (a : Result ℕ Stop) → a ≡ Ok left → Walkable (walk_number a) text count → (v : List ℕ) → v ≡ emptied own → (u : List ℕ) → u ≡ graphs.emptied g → Filled true v own' u g' k k'
+      → LentAfter (Ok (record { used = used; left = left })) text mods count m names own g k names' own' g' k'
   lent_left used left r table a t e f w q h v z u y l =
       record { sizes = s; named = (sym a ∙ e, subst (λ (y : List ℕ). Framed used y names') t f); cleared = λ z. absurd (omega arith); owned = λ _. subst (λ (y : List ℕ). LinesAdded y own') z l.0; headed = λ _. subst (λ (y : List ℕ). HeadsAdded y k g' k') y l.1; walkable = rw q at h }
 
-  pub lent_full : Cleared names' → Cleared own' × Cleared g' × Cleared k' → LentAfter collected.Full text mods count m names own g k names' own' g' k'
+  pub lent_full : {f : Stop} → Cleared names' → Cleared own' × Cleared g' × Cleared k' → LentAfter (Err f) text mods count m names own g k names' own' g' k'
   lent_full n z = record { sizes = s; named = n; cleared = λ _. z; owned = λ e. absurd (omega arith); headed = λ e. absurd (omega arith); walkable = tt }

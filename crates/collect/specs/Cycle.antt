@@ -1,7 +1,7 @@
 -- What the walk over a module's items needs of the text, and what it leaves. 01: The line; The collected item; The site; The block; The edge; The walk;
 -- Refused because of the state; Worthless checks.
 -- To a reader: definitions that contracts of this and other crates cite; each such contract is proved; check_drivers' own promise cites none of them.
-use Rattle.std.specs.Prelude.{◌≡◌, Bool, true, false, ◌⊎◌, List, [], ℕ, ◌+◌, ◌/◌, ◌≤◌, ◌<◌, length, take, drop, get_or, set, replicate}
+use Rattle.std.specs.Prelude.{◌≡◌, Bool, true, false, ◌⊎◌, List, [], ℕ, ◌+◌, ◌/◌, ◌≤◌, ◌<◌, length, take, drop, get_or, set, replicate, Result, Ok, Err}
 use Rattle.spec.specs.Bytes.{Bytes}
 use Rattle.spec.specs.Syntax.{Item, Items, Header}
 use Rattle.spec.specs.Refusal.{refusal, well_formed, decode}
@@ -25,11 +25,8 @@ use Rattle.items.specs.Added.{line_added}
 use Rattle.summary.specs.Keeps.{Keeps, pairs_of}
 use Rattle.summary.specs.Pairs.{Leaves}
 use Rattle.steps.specs.Steps.{HeadIs}
+use Rattle.edges.specs.declared.Stop.{Stop}
 use Rattle.steps.specs.declared.Head as H
-use Rattle.collect.specs.declared.Walked as W
-use Rattle.collect.specs.declared.Walked.TheVariants as walks
-use Rattle.collect.specs.declared.Asked as A
-use Rattle.collect.specs.declared.Asked.TheVariants as asked
 
 -- 01, The line: the text is accepted, and the tables are those that its reader leaves
 pub record Tabled (text kinds mods : List ℕ) (count : ℕ) : Type 0 where
@@ -123,24 +120,24 @@ turns_of fuel text mo w n low rounds names left =
     walk_rounds (λ names' left' st. walk_items w.items (step_of fuel text mo w.header w.busy) names' left' st) n (signed low) rounds names left w.state
 
 -- 01, Refused because of the state: the number that the whole check gives where a walk is full; 0 where it goes on
-abbrev pub walk_number : W.Walked → ℕ
-walk_number (walks.Left l) = 0
-walk_number walks.Full = 20
+abbrev pub walk_number : Result ℕ Stop → ℕ
+walk_number (Ok l) = 0
+walk_number (Err e) = 20
 
 -- 01, The collected item: of the rounds, those that a walk leaves; 0 where it is full
-abbrev pub rounds_left : W.Walked → ℕ
-rounds_left (walks.Left l) = l
-rounds_left walks.Full = 0
+abbrev pub rounds_left : Result ℕ Stop → ℕ
+rounds_left (Ok l) = l
+rounds_left (Err e) = 0
 
 -- 01, The collected item; Refused because of the state: what a walk leaves: the rounds left and the state, or it is full
-abbrev pub Ends : W.Walked → Mode → (text own g k : List ℕ) → List ℕ → Got (Walked State) → Type 0
+abbrev pub Ends : Result ℕ Stop → Mode → (text own g k : List ℕ) → List ℕ → Got (Walked State) → Type 0
 Ends r mo text own g k busy x =
     ByNumber (walk_number r) ((st : State) × (x ≡ going (walked (rounds_left r) st)) × Holding mo text own g k busy st) (x ≡ full)
 
 -- 01, The collected item: the rounds left never grow
-abbrev pub RoundsWithin : W.Walked → ℕ → Type 0
-RoundsWithin (walks.Left l) left = l ≤ left
-RoundsWithin walks.Full left = Unit {0}
+abbrev pub RoundsWithin : Result ℕ Stop → ℕ → Type 0
+RoundsWithin (Ok l) left = l ≤ left
+RoundsWithin (Err e) left = Unit {0}
 
 -- 01, The site; The block; Worthless checks: own' comes of own by rows added as lines add them, of whatever bytes, kinds and values, one after the
 -- other; every other word stays
@@ -175,7 +172,7 @@ pub data HeadsAdded : (g k g' k' : List ℕ) → Type 0 where
 
 -- 01, Refused because of the state; Worthless checks: the tables that a walk fills, whatever was lent: where it is full every place is 0; where it is
 -- not, `OwnKept` and `HeadsAdded` are what is said with no condition, and `Ends` says the rest
-abbrev pub WalkLeaves : W.Walked → Bool → (own own' g g' k k' : List ℕ) → Type 0
+abbrev pub WalkLeaves : Result ℕ Stop → Bool → (own own' g g' k k' : List ℕ) → Type 0
 WalkLeaves r checking own own' g g' k k' = ByNumber (walk_number r) (OwnKept checking own own' × HeadsAdded g k g' k') (Cleared own' × Cleared g' × Cleared k')
 
 -- 01, The collected item: the variable's old value returns afterwards: the names that are used stay as they are, full or not; what stands behind them
@@ -203,21 +200,20 @@ PlainEnds false mo text own g header names i o hs = (ask : Asking) (kept : Kept)
 
 -- 01, The edge; Refused because of the state: what asking for the summary of module m leaves: it is empty and not kept, its pairs stand in the table,
 -- or a limit is passed or a constant is outside INT
-abbrev pub AskedFor : A.Asked → List ℕ → ℕ → List ℕ → Got Answered → Type 0
-AskedFor asked.Empty k m busy x = (a : Answered) × (x ≡ going a) × (a.summary ≡ []) × Keeps k a.kept busy
-AskedFor asked.Kept k m busy x = (a : Answered) × (x ≡ going a) × Alike (pairs_of k m) a.summary × Keeps k a.kept busy × (m < 32)
-AskedFor asked.Full k m busy x = x ≡ full
+abbrev pub AskedFor : Result Bool Stop → List ℕ → ℕ → List ℕ → Got Answered → Type 0
+AskedFor (Ok false) k m busy x = (a : Answered) × (x ≡ going a) × (a.summary ≡ []) × Keeps k a.kept busy
+AskedFor (Ok true) k m busy x = (a : Answered) × (x ≡ going a) × Alike (pairs_of k m) a.summary × Keeps k a.kept busy × (m < 32)
+AskedFor (Err e) k m busy x = x ≡ full
 
 -- 01, Refused because of the state: the number that the whole check gives where a summary asked for is not made, since a limit is passed or a constant is
 -- outside INT; else 0
-abbrev pub asked_number : A.Asked → ℕ
-asked_number asked.Empty = 0
-asked_number asked.Kept = 0
-asked_number asked.Full = 20
+abbrev pub asked_number : Result Bool Stop → ℕ
+asked_number (Ok b) = 0
+asked_number (Err e) = 20
 
 -- 01, The edge; Refused because of the state; Worthless checks: the table of summaries, whatever was lent: where a limit is passed or a constant is
 -- outside INT every place is 0; else summaries are made, which leaves the graph of the one who asks as it is
-abbrev pub AskLeaves : A.Asked → (k k' : List ℕ) → Type 0
+abbrev pub AskLeaves : Result Bool Stop → (k k' : List ℕ) → Type 0
 AskLeaves r k k' = ByNumber (asked_number r) ((g : List ℕ) → HeadsAdded g k g k') (Cleared k')
 
 -- 01, The edge; The walk; Refused because of the state; Worthless checks: what an instance line leaves in the same way: where a limit is passed or a

@@ -1,7 +1,7 @@
 -- What collecting a module in its own check needs, and what it leaves. 01: Refused because of the text; Refused because of the state; The value; The
 -- collected item; The site; The block; The edge; Worthless checks.
 -- To a reader: definitions that the contracts of this crate cite; each such contract is proved; check_drivers' own promise cites none of them.
-use Rattle.std.specs.Prelude.{◌≡◌, true, false, List, [], ℕ, ◌+◌, ◌/◌, ◌≤◌, length}
+use Rattle.std.specs.Prelude.{◌≡◌, true, false, List, [], ℕ, ◌+◌, ◌/◌, ◌≤◌, length, Result, Ok, Err}
 use Rattle.std.proofs.Math.Option.{some}
 use Rattle.std.proofs.Math.ListN.{get_elem?}
 use Rattle.spec.specs.Syntax.{Module}
@@ -21,7 +21,7 @@ use Rattle.items.specs.Held.{Held}
 use Rattle.items.specs.Lines.{emptied}
 use Rattle.summary.specs.Keeps.{Keeps}
 use Rattle.collect.specs.declared.Collected.{Collected}
-use Rattle.collect.specs.declared.Collected.TheVariants as collected
+use Rattle.edges.specs.declared.Stop.{Stop}
 use Rattle.collect.specs.Cycle.{Tabled, Holding, mode, LinesAdded, HeadsAdded, Framed}
 
 -- 01, Refused because of the state: module x is number m of an accepted text; `own` has just the places of its tables, and names, graph and
@@ -35,26 +35,26 @@ pub record ModuleGiven (text kinds mods : List ℕ) (count m : ℕ) (names own g
   pub keeps : Keeps k kept []
 
 -- 01, Refused because of the state: the number that the whole check gives where a module is full; 0 where there is none yet
-abbrev pub number_of : Collected → ℕ
-number_of (collected.Left used left) = 0
-number_of collected.Full = 20
+abbrev pub number_of : Result Collected Stop → ℕ
+number_of (Ok r) = 0
+number_of (Err e) = 20
 
 -- 01, The collected item: of the 4,096 rounds, those that are left; 0 where the module is full
-abbrev pub left_of : Collected → ℕ
-left_of (collected.Left used left) = left
-left_of collected.Full = 0
+abbrev pub left_of : Result Collected Stop → ℕ
+left_of (Ok r) = r.left
+left_of (Err e) = 0
 
 -- 01, The value: how many names the module's table has; 0 where the module is full
-abbrev pub used_of : Collected → ℕ
-used_of (collected.Left used left) = used
-used_of collected.Full = 0
+abbrev pub used_of : Result Collected Stop → ℕ
+used_of (Ok r) = r.used
+used_of (Err e) = 0
 
 -- 01, The value; The collected item; The site; The block; The edge: the module's name table, the rounds left, and the state of the walk, which the
 -- words hold: own tables, graph and summaries; or the walk is full. Free are which number a node has, the order of edges and of the pairs of a
 -- summary, and the words that stand for nothing: behind the names in use; of the graph behind its nodes and edges, and what a node has no use for; of
 -- the summaries behind the pairs, and of modules that are not kept. Where the number is 0 `LentAfter` says more of them: those of the own tables behind
 -- their counts, and in the table of conflicts, stay as they were, and those of graph and summaries are only written as lines write them.
-abbrev pub Collects : Collected → (text names own g k : List ℕ) → Module → Got (Walked State) → Type 0
+abbrev pub Collects : Result Collected Stop → (text names own g k : List ℕ) → Module → Got (Walked State) → Type 0
 Collects r text names own g k x y =
     ByNumber (number_of r)
     ((st : State) × (y ≡ going (walked (left_of r) st)) × Holding (mode true x.bound) text own g k [] st × (names_of names (used_of r) ≡ (name_table (own_vals x) x).names))
@@ -62,7 +62,7 @@ Collects r text names own g k x y =
 
 -- 01, The value; Refused because of the state: where the number is not 20 the names in use are those that filling the table from the lines of module m
 -- gives; else every place is 0
-abbrev pub NamesAfter : Collected → (text mods : List ℕ) → ℕ → (names names' : List ℕ) → Type 0
+abbrev pub NamesAfter : Result Collected Stop → (text mods : List ℕ) → ℕ → (names names' : List ℕ) → Type 0
 NamesAfter r text mods m names names' =
     ByNumber (number_of r) ((named_by text mods m names ≡ named.Used (used_of r)) × Framed (used_of r) (table_by text mods m names) names') (Cleared names')
 
@@ -76,7 +76,7 @@ Walkable number text count = ByNumber number ((length text ≤ 32768) × (count 
 -- whether the number is 20, but for what `NamesAfter` and `Walkable` say; the rounds left, 4,096 at most; which lines these are, that is their bytes,
 -- kinds, names, depth, place in the text and whether the module is bound; which modules are summarised or not known, by any number. Where it holds,
 -- `Collects` says these. The words behind the names in use are always free.
-pub record LentAfter (r : Collected) (text mods : List ℕ) (count m : ℕ) (names own g k names' own' g' k' : List ℕ) : Type 0 where
+pub record LentAfter (r : Result Collected Stop) (text mods : List ℕ) (count m : ℕ) (names own g k names' own' g' k' : List ℕ) : Type 0 where
   pub sizes : (length names' ≡ length names) × (length own' ≡ length own) × (length g' ≡ length g) × (length k' ≡ length k)
   pub named : NamesAfter r text mods m names names'
   pub cleared : number_of r ≡ 20 → Cleared own' × Cleared g' × Cleared k'

@@ -1,70 +1,69 @@
 // What a collected line leaves in the tables, without the items that it holds and the summary that it asks for. Where a line is full, the tables
 // that are lent to it to be written are cleared.
-ghost use Rattle.consteval.specs.Worth.{names_of, worth};
-ghost use Rattle.edges.specs.Lines.{summary_at, InstHeads};
+ghost use Rattle.std.specs.Prelude.{is_ok};
+ghost use Rattle.consteval.specs.Worth.{worth};
+ghost use Rattle.edges.specs.Lines.{summary_at, names_in, InstHeads};
 ghost use Rattle.collect.specs.Plain.{LineHeads, HeadsLeave, PlainLine, PlainLeaves, InstLeaves};
 
 use consteval::Value;
+use edges::{Pairs, Scope, Stop};
 use lines::parts;
 
 // What the line x heads and reads, by the first byte of its word.
-fn line_heads(x: &[u8], depth: u32, ks: &[u8], names: &[u32], used: usize, g: &mut [u32]) -> bool
-    ensures line_heads { LineHeads result x.now depth ks.now (names_of names.now used) g.old g.new }
-    ensures heads_leave { HeadsLeave result g.old g.new }
+fn line_heads(x: &[u8], depth: u32, scope: Scope<'_>, g: &mut [u32]) -> Result<(), Stop>
+    ensures line_heads { LineHeads (is_ok result) x.now depth scope.entry.kinds.now (names_in scope.entry) g.old g.new }
+    ensures heads_leave { HeadsLeave (is_ok result) g.old g.new }
 {
     let c = parts::byte(x, 1);
     if c == b'w' {
-        return edges::wire_heads(x, depth, ks, names, used, g);
+        return edges::wire_heads(x, depth, scope, g);
     }
     if c == b'd' {
-        return edges::drive_heads(x, depth, ks, names, used, g);
+        return edges::drive_heads(x, depth, scope, g);
     }
-    true
+    Ok(())
 }
 
 // The line x, which holds no items, asks for no summary and begins at `from` of the text: its entries in the own tables, then what it heads and
-// reads. False where a constant is outside INT or a limit is passed. Only a module's own check has own tables.
+// reads. Only a module's own check has own tables.
 pub(crate) fn plain_line(
     x: &[u8],
     from: u32,
     depth: u32,
-    ks: &[u8],
+    scope: Scope<'_>,
     checking: bool,
     bound: bool,
-    names: &[u32],
-    used: usize,
     own: &mut [u32],
     g: &mut [u32],
-) -> bool
-    ensures plain_line { PlainLine result x.now from depth ks.now checking bound (names_of names.now used)
+) -> Result<(), Stop>
+    ensures plain_line { PlainLine (is_ok result) x.now from depth scope.entry.kinds.now checking bound (names_in scope.entry)
         own.old g.old own.new g.new }
-    ensures plain_leaves { PlainLeaves result checking own.old own.new g.old g.new }
+    ensures plain_leaves { PlainLeaves (is_ok result) checking own.old own.new g.old g.new }
 {
     if checking {
-        if !items::own_line(x, from, bound, depth, ks, names, used, own) {
+        if let Err(e) = items::own_line(x, from, bound, depth, scope, own) {
             graph::clear(g);
-            return false;
+            return Err(e);
         }
-        if !line_heads(x, depth, ks, names, used, g) {
+        if let Err(e) = line_heads(x, depth, scope, g) {
             graph::clear(own);
-            return false;
+            return Err(e);
         }
-        return true;
+        return Ok(());
     }
-    if items::drive_outside(x, depth, ks, names, used) {
+    if items::drive_outside(x, depth, scope) {
         graph::clear(own);
         graph::clear(g);
-        return false;
+        return Err(Stop);
     }
-    if line_heads(x, depth, ks, names, used, g) {
-        return true;
+    if let Err(e) = line_heads(x, depth, scope, g) {
+        graph::clear(own);
+        return Err(e);
     }
-    graph::clear(own);
-    false
+    Ok(())
 }
 
-// The `inst` line x heads the outputs in the summary of its module, `count` pairs of k from `first` on: false where an index is outside INT or a
-// limit is passed.
+// The `inst` line x heads the outputs in the summary of its module, `count` pairs of k from `first` on.
 pub(crate) fn inst_line(
     x: &[u8],
     depth: u32,
@@ -72,17 +71,22 @@ pub(crate) fn inst_line(
     k: &mut [u32],
     first: usize,
     count: usize,
-    ks: &[u8],
-    names: &[u32],
-    used: usize,
+    scope: Scope<'_>,
     g: &mut [u32],
-) -> bool
-    ensures inst_heads { InstHeads result (worth index) (summary_at k.old first count) x.now depth ks.now (names_of names.now used) g.old g.new }
-    ensures inst_leaves { InstLeaves result (worth index) (summary_at k.old first count) x.now depth ks.now (names_of names.now used) g.old g.new k.old k.new }
+) -> Result<(), Stop>
+    ensures inst_heads { InstHeads (is_ok result) (worth index) (summary_at k.old first count) x.now depth scope.entry.kinds.now
+        (names_in scope.entry) g.old g.new }
+    ensures inst_leaves { InstLeaves (is_ok result) (worth index) (summary_at k.old first count) x.now depth scope.entry.kinds.now
+        (names_in scope.entry) g.old g.new k.old k.new }
 {
-    if edges::inst_heads(x, depth, index, k, first, count, ks, names, used, g) {
-        return true;
+    let pairs = Pairs {
+        words: k,
+        first,
+        count,
+    };
+    if let Err(e) = edges::inst_heads(x, depth, index, pairs, scope, g) {
+        graph::clear(k);
+        return Err(e);
     }
-    graph::clear(k);
-    false
+    Ok(())
 }

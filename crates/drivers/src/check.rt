@@ -13,8 +13,7 @@ ghost use Rattle.drivers.specs.Check.{Enough, Checking, Tallied, FewRounds, firs
 
 use crate::emit::Place;
 use crate::groups;
-use crate::groups::Outside;
-use collect::Collected;
+use edges::Stop;
 use lines::tables::ReadError;
 use lines::{reader, tables};
 use steps::modules;
@@ -33,18 +32,6 @@ struct Source<'a> {
 struct Checked {
     next: Place,
     rounds: u32,
-}
-
-// A limit is passed or a constant is outside INT: the answer is 20.
-#[derive(Clone, Copy, Debug, PartialEq, Eq)]
-struct Stop;
-
-impl From<Outside> for Stop {
-    ghost from_gives = { λ _ e. e ≡ record {} };
-
-    fn from(_: Outside) -> Stop {
-        Stop
-    }
 }
 
 // What is answered of an accepted text: the bytes written, the reports, the rounds.
@@ -101,7 +88,7 @@ fn check_module_drivers(
         → Tallied result write buf.old p buf.new k.new (check_one (decode source.now.text.now) kept m x) }
     ensures few_rounds { FewRounds result }
 {
-    match collect::collect_module(
+    let c = collect::collect_module(
         source.text,
         source.kinds,
         source.mods,
@@ -111,27 +98,23 @@ fn check_module_drivers(
         own,
         g,
         k,
-    ) {
-        Collected::Full => Err(Stop),
-        Collected::Left(used, left) => {
-            let next = groups::report_module(
-                source.text,
-                names,
-                used,
-                own,
-                g,
-                w,
-                m,
-                buf,
-                p,
-                write,
-            )?;
-            Ok(Checked {
-                next,
-                rounds: 4096 - left,
-            })
-        }
-    }
+    )?;
+    let next = groups::report_module(
+        source.text,
+        names,
+        c.used,
+        own,
+        g,
+        w,
+        m,
+        buf,
+        p,
+        write,
+    )?;
+    Ok(Checked {
+        next,
+        rounds: 4096 - c.left,
+    })
 }
 
 // Every module of an accepted text in order, to the first that is full, from the summaries that are kept already.

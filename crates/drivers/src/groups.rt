@@ -21,15 +21,11 @@ ghost use Rattle.drivers.specs.Groups.{Reported, said_by, report_by, table_by, s
 
 use crate::emit::{Piece, Place};
 use crate::{emit, loops};
-use consteval::{Value, arith};
+use consteval::{Outside, Value, arith};
 use lines::bytes::is_open;
 use lines::parts;
 use report::{Detail, Report};
 use sites::{Blocks, Cover, Line, Misuse, OutputLine};
-
-// A width that decides coverage is outside INT.
-#[derive(Clone, Copy, Debug, PartialEq, Eq)]
-pub(crate) struct Outside;
 
 // What is reported of a module, number m: the text, the names and values of its widths, and its own tables.
 #[derive(Clone, Copy)]

@@ -1,5 +1,6 @@
 -- What an expression is, by the first bytes that show it, and what its parts read.
 -- Assumes nothing.
+use Rattle.std.specs.Prelude.{Some, None}
 use mathlib.Core.Path.{◌≡◌, refl, sym, ◌∙◌, ap}
 use mathlib.Core.Bool.{Bool, true, false, ◌&&◌, or-false, true≢false}
 use mathlib.Core.List.{List, [], ◌∷◌, ◌++◌, append-nil}
@@ -25,7 +26,6 @@ use Rattle.edges.specs.Reads.{kind_word, KindsOf, ReadAll}
 use Rattle.edges.specs.Shows.{ShowsExpr, NameRead, opens, begins, as_name, name_of, NamedBy}
 use Rattle.edges.proofs.ReadLaws.{read_none, read_one}
 use Rattle.runs.proofs.Inside.{placed}
-use Rattle.edges.specs.declared.Named.TheVariants as named
 use Rattle.lines.specs.Parts.{part_end, piece, next_end}
 use borrow.Author.Tests.{ltb-true, eqb-true, eq-eqb, ne_eqb, lt-ltb, le-ltb}
 
@@ -173,14 +173,14 @@ module _ (x : Bytes) (a b : ℕ) where
 
 -- ---- one law for each way of `name_of`
 
-name_large : (n : ℕ) → 4294967295 < n → as_name n ≡ named.Not
+name_large : (n : ℕ) → 4294967295 < n → as_name n ≡ None
 name_large n l = rw (lt-ltb 4294967295 n l, as_name)
 
-name_small : (n : ℕ) → n ≤ 4294967295 → as_name n ≡ named.Is n
+name_small : (n : ℕ) → n ≤ 4294967295 → as_name n ≡ Some n
 name_small n l = rw (le-ltb 4294967295 n l, as_name)
 
 module _ (x : Bytes) {b : Bool} (qb : b ≡ begins x 110 32) where
-  pub no_name : b ≡ false → named.Not ≡ name_of x
+  pub no_name : b ≡ false → None ≡ name_of x
   unfolding name_of
   no_name e = rw (sym qb ∙ e, name_of)
 
@@ -189,11 +189,11 @@ module _ (x : Bytes) {b : Bool} (qb : b ≡ begins x 110 32) where
     unfolding name_of
     by_number = rw (sym qb ∙ e, qt, qa, name_of)
 
-    pub no_word : 4294967295 < v → named.Not ≡ name_of x
+    pub no_word : 4294967295 < v → None ≡ name_of x
     no_word l = sym (by_number ∙ name_large (number t) (omega arith))
 
-    pub a_word : v ≤ 4294967295 → named.Is v ≡ name_of x
-    a_word l = let h : v ≡ number t = omega arith in ap named.Is h ∙ sym (by_number ∙ name_small (number t) (omega arith))
+    pub a_word : v ≤ 4294967295 → Some v ≡ name_of x
+    a_word l = let h : v ≡ number t = omega arith in ap Some h ∙ sym (by_number ∙ name_small (number t) (omega arith))
 
 -- the name that bytes show
 name_begins : (m : ℕ) → begins (show_expr (name m)) 110 32 ≡ true
@@ -209,7 +209,7 @@ name_here x d m p =
 
 pub name_is : (x : Bytes) (d : ℕ) (y : Expr) → ShowsExpr x d y → NamedBy (name_of x) y
 unfolding name_of
-name_is x d y p = if_case (λ v. NamedBy v y) (begins x 110 32) (as_name (number (piece x 2 (part_end x 3)))) named.Not yes no
+name_is x d y p = if_case (λ v. NamedBy v y) (begins x 110 32) (as_name (number (piece x 2 (part_end x 3)))) None yes no
   where
     shows : (m : ℕ) → y ≡ name m → ShowsExpr x d (name m)
     shows m q = record { shown = p.shown ∙ ap show_expr q; deep = rw q at p.deep; ranged = rw q at p.ranged }

@@ -1,5 +1,6 @@
 -- What an `f` is of: one law for each way of `indexed_name` and `field_of`.
 -- Assumes nothing.
+use Rattle.std.specs.Prelude.{Option, Some, None}
 use mathlib.Core.Path.{◌≡◌, refl, sym, ◌∙◌, ap, subst}
 use mathlib.Core.Bool.{Bool, true, false, true≢false}
 use mathlib.Core.List.{List, [], ◌∷◌}
@@ -16,8 +17,6 @@ use Rattle.spec.proofs.Nodes.{and_parts}
 use Rattle.spec.proofs.Numbers.{if_case}
 use Rattle.spec.proofs.Shown.{expr_shown}
 use Rattle.lines.specs.Parts.{part_end, piece, next_end}
-use Rattle.edges.specs.declared.Named as N
-use Rattle.edges.specs.declared.Named.TheVariants as named
 use Rattle.edges.specs.declared.FieldOf as F
 use Rattle.edges.specs.declared.FieldOf.TheVariants as of
 use Rattle.edges.specs.Reads.{KindsOf}
@@ -68,7 +67,7 @@ first_part : {a b c d : Expr} → index a b ≡ index c d → a ≡ c
 first_part e = cc
 
 -- what the answer of `name_of` says of an expression that is shown
-pub named_as : (x : Bytes) (v u : N.Named) → v ≡ name_of x → v ≡ u → (d : ℕ) (y : Expr) → ShowsExpr x d y → NamedBy u y
+pub named_as : (x : Bytes) (v u : Option ℕ) → v ≡ name_of x → v ≡ u → (d : ℕ) (y : Expr) → ShowsExpr x d y → NamedBy u y
 named_as x v u q e d y s = subst (λ z. NamedBy z y) (sym q ∙ e) (name_is x d y s)
 
 -- ---- an index that is shown
@@ -93,24 +92,24 @@ index_parts x d qa y z s =
 -- ---- one law for each way of `indexed_name`
 
 module _ (x : Bytes) {b : Bool} (qb : b ≡ begins x 105 120) where
-  pub no_index : b ≡ false → named.Not ≡ indexed_name x
+  pub no_index : b ≡ false → None ≡ indexed_name x
   unfolding indexed_name
   no_index e = rw (sym qb ∙ e, indexed_name)
 
-  pub index_name : b ≡ true → {a : ℕ} → a ≡ part_end x 4 → {u : Bytes} → u ≡ piece x 3 a → {v : N.Named} → v ≡ name_of u → v ≡ indexed_name x
+  pub index_name : b ≡ true → {a : ℕ} → a ≡ part_end x 4 → {u : Bytes} → u ≡ piece x 3 a → {v : Option ℕ} → v ≡ name_of u → v ≡ indexed_name x
   unfolding indexed_name
   index_name e qa qu qv = qv ∙ rw (sym qb ∙ e, qu, qa, indexed_name)
 
 -- the same by the bytes that are read
 module _ (x : Bytes) {r : Bool} (q : r ≡ opens x 105) where
-  pub no_form : r ≡ false → named.Not ≡ indexed_name x
+  pub no_form : r ≡ false → None ≡ indexed_name x
   no_form f = no_index x (begins_not x 105 120 q f) refl
 
   module _ (f : r ≡ true) {c : ℕ} (qc : c ≡ get_or x 2 0) where
-    pub no_x : (c ≡ 120 → ⊥) → named.Not ≡ indexed_name x
+    pub no_x : (c ≡ 120 → ⊥) → None ≡ indexed_name x
     no_x h = no_index x (begins_by x 105 120 q f qc (sym (ne_eqb c 120 h))) refl
 
-    pub index_here : c ≡ 120 → {a : ℕ} → a ≡ part_end x 4 → {u : Bytes} → u ≡ piece x 3 a → {v : N.Named} → v ≡ name_of u → v ≡ indexed_name x
+    pub index_here : c ≡ 120 → {a : ℕ} → a ≡ part_end x 4 → {u : Bytes} → u ≡ piece x 3 a → {v : Option ℕ} → v ≡ name_of u → v ≡ indexed_name x
     index_here h qa qu qv = index_name x (begins_by x 105 120 q f qc (sym (eq-eqb c 120 h))) refl qa qu qv
 
 -- the name that bytes show an index of
@@ -120,7 +119,7 @@ index_begins a b = refl
 
 pub indexed_is : (x : Bytes) (d : ℕ) (y : Expr) → ShowsExpr x d y → IndexedBy (indexed_name x) y
 unfolding indexed_name
-indexed_is x d y s = if_case (λ v. IndexedBy v y) (begins x 105 120) (name_of (piece x 3 (part_end x 4))) named.Not yes no
+indexed_is x d y s = if_case (λ v. IndexedBy v y) (begins x 105 120) (name_of (piece x 3 (part_end x 4))) None yes no
   where
     no : begins x 105 120 ≡ false → (n : ℕ) (e : Expr) → y ≡ index (name n) e → ⊥
     no f n e q = true≢false (sym (index_begins (name n) e) ∙ ap (λ (z : Bytes). begins z 105 120) (sym (s.shown ∙ ap show_expr q)) ∙ f)
@@ -137,9 +136,9 @@ indexed_is x d y s = if_case (λ v. IndexedBy v y) (begins x 105 120) (name_of (
         t : (a : Expr) × (b : Expr) × (y ≡ index a b)
         t = ix_told y (here 0 ∙ b.0) (here 1 ∙ b.1) (here 2 ∙ b.2)
 
-        go : (v : N.Named) → NamedBy v t.0 → IndexedBy v y
-        go (named.Is i) h = (t.1, t.2 ∙ ap (λ (z : Expr). index z t.1) h)
-        go named.Not h = λ n e q. h n (first_part (sym t.2 ∙ q))
+        go : (v : Option ℕ) → NamedBy v t.0 → IndexedBy v y
+        go (Some i) h = (t.1, t.2 ∙ ap (λ (z : Expr). index z t.1) h)
+        go None h = λ n e q. h n (first_part (sym t.2 ∙ q))
 
 -- ---- one law for each way of `field_of`
 
@@ -168,11 +167,11 @@ no_inst_of (all es) f g hs = refl
 abbrev if_inst : Bool → FieldOf → FieldOf
 if_inst b f = elim b as (λ _. FieldOf) [ true ↦ f | false ↦ no_inst ]
 
-module _ (x : Bytes) (kinds : List ℕ) (v : N.Named) (is : v ≡ name_of x) where
-  module _ {i : ℕ} (e : v ≡ named.Is i) (b : Bool) (h : b ≡ inst_by kinds i) where
+module _ (x : Bytes) (kinds : List ℕ) (v : Option ℕ) (is : v ≡ name_of x) where
+  module _ {i : ℕ} (e : v ≡ Some i) (b : Bool) (h : b ≡ inst_by kinds i) where
     of_name : {c : Bool} → b ≡ c → (y : Expr) (d : ℕ) → ShowsExpr x d y → (header : List Header) → KindsOf kinds header → field_of header y ≡ if_inst c (an_inst i)
     unfolding field_of
-    of_name q y d s header w = rw (named_as x v (named.Is i) is e d y s) (ap (λ (z : Bool). if_inst z (an_inst i)) (ap is_inst (sym (w i)) ∙ sym h ∙ q))
+    of_name q y d s header w = rw (named_as x v (Some i) is e d y s) (ap (λ (z : Bool). if_inst z (an_inst i)) (ap is_inst (sym (w i)) ∙ sym h ∙ q))
 
     pub of_inst : b ≡ true → FieldOfIs (of.Inst i) x kinds
     of_inst q = of_name q
@@ -180,13 +179,13 @@ module _ (x : Bytes) (kinds : List ℕ) (v : N.Named) (is : v ≡ name_of x) whe
     pub of_signal : b ≡ false → FieldOfIs of.Other x kinds
     of_signal q = of_name q
 
-  module _ (u : N.Named) (indexes : u ≡ indexed_name x) where
-    indexed_as : (z : N.Named) → u ≡ z → (d : ℕ) (y : Expr) → ShowsExpr x d y → IndexedBy z y
+  module _ (u : Option ℕ) (indexes : u ≡ indexed_name x) where
+    indexed_as : (z : Option ℕ) → u ≡ z → (d : ℕ) (y : Expr) → ShowsExpr x d y → IndexedBy z y
     indexed_as z e d y s = subst (λ w. IndexedBy w y) (sym indexes ∙ e) (indexed_is x d y s)
 
-    module _ {i : ℕ} (e : u ≡ named.Is i) (b : Bool) (h : b ≡ inst_by kinds i) where
+    module _ {i : ℕ} (e : u ≡ Some i) (b : Bool) (h : b ≡ inst_by kinds i) where
       indexed : (y : Expr) (d : ℕ) → ShowsExpr x d y → (z : Expr) × (y ≡ index (name i) z)
-      indexed y d s = indexed_as (named.Is i) e d y s
+      indexed y d s = indexed_as (Some i) e d y s
 
       of_index : {c : Bool} → b ≡ c → (y z : Expr) → y ≡ index (name i) z → (header : List Header) → KindsOf kinds header → field_of header y ≡ if_inst c (an_inst_at i z)
       unfolding field_of
@@ -198,29 +197,29 @@ module _ (x : Bytes) (kinds : List ℕ) (v : N.Named) (is : v ≡ name_of x) whe
       pub of_signal_at : b ≡ false → FieldOfIs of.Other x kinds
       of_signal_at q y d s header w = let t = indexed y d s in of_index q y t.0 t.1 header w
 
-    pub of_other : v ≡ named.Not → u ≡ named.Not → FieldOfIs of.Other x kinds
-    of_other e f y d s header w = no_inst_of y (named_as x v named.Not is e d y s) (indexed_as named.Not f d y s) header
+    pub of_other : v ≡ None → u ≡ None → FieldOfIs of.Other x kinds
+    of_other e f y d s header w = no_inst_of y (named_as x v None is e d y s) (indexed_as None f d y s) header
 
 -- what the bytes x say of an `f` of the expression that they show
 pub field_is : (x : Bytes) (kinds : List ℕ) → FieldOfIs (field_by kinds x) x kinds
 unfolding field_by
 field_is x kinds = go (name_of x) refl
   where
-    inst : (i : ℕ) → name_of x ≡ named.Is i → (b : Bool) → inst_by kinds i ≡ b → FieldOfIs (elim b as (λ _. F.FieldOf) [ true ↦ of.Inst i | false ↦ of.Other ]) x kinds
+    inst : (i : ℕ) → name_of x ≡ Some i → (b : Bool) → inst_by kinds i ≡ b → FieldOfIs (elim b as (λ _. F.FieldOf) [ true ↦ of.Inst i | false ↦ of.Other ]) x kinds
     inst i e true f = of_inst x kinds (name_of x) refl e (inst_by kinds i) refl f
     inst i e false f = of_signal x kinds (name_of x) refl e (inst_by kinds i) refl f
 
-    inst_at : (i : ℕ) → indexed_name x ≡ named.Is i → (b : Bool) → inst_by kinds i ≡ b → FieldOfIs (elim b as (λ _. F.FieldOf) [ true ↦ of.InstAt i | false ↦ of.Other ]) x kinds
+    inst_at : (i : ℕ) → indexed_name x ≡ Some i → (b : Bool) → inst_by kinds i ≡ b → FieldOfIs (elim b as (λ _. F.FieldOf) [ true ↦ of.InstAt i | false ↦ of.Other ]) x kinds
     inst_at i e true f = of_inst_at x kinds (name_of x) refl (indexed_name x) refl e (inst_by kinds i) refl f
     inst_at i e false f = of_signal_at x kinds (name_of x) refl (indexed_name x) refl e (inst_by kinds i) refl f
 
-    indexed : name_of x ≡ named.Not → (u : N.Named) → indexed_name x ≡ u → FieldOfIs (index_by kinds u) x kinds
-    indexed n (named.Is i) e = inst_at i e (inst_by kinds i) refl
-    indexed n named.Not e = of_other x kinds (name_of x) refl (indexed_name x) refl n e
+    indexed : name_of x ≡ None → (u : Option ℕ) → indexed_name x ≡ u → FieldOfIs (index_by kinds u) x kinds
+    indexed n (Some i) e = inst_at i e (inst_by kinds i) refl
+    indexed n None e = of_other x kinds (name_of x) refl (indexed_name x) refl n e
 
-    go : (v : N.Named) → name_of x ≡ v → FieldOfIs (inner_by kinds v (indexed_name x)) x kinds
-    go (named.Is i) e = inst i e (inst_by kinds i) refl
-    go named.Not e = indexed e (indexed_name x) refl
+    go : (v : Option ℕ) → name_of x ≡ v → FieldOfIs (inner_by kinds v (indexed_name x)) x kinds
+    go (Some i) e = inst i e (inst_by kinds i) refl
+    go None e = indexed e (indexed_name x) refl
 
 pub field_says : (x : Bytes) (kinds : List ℕ) {v : F.FieldOf} → v ≡ field_by kinds x → FieldOfIs v x kinds
 field_says x kinds e = subst (λ z. FieldOfIs z x kinds) (sym e) (field_is x kinds)

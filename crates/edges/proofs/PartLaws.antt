@@ -1,6 +1,7 @@
 -- Where the parts of a shown form end, and what they read: one law for each way of `next_end`, `number_at`, `field_reads`, `expr_reads` and
 -- `parts_read`.
 -- Assumes nothing.
+use Rattle.std.specs.Prelude.{Option, Some, None}
 use mathlib.Core.Path.{◌≡◌, refl, sym, ◌∙◌, ap, subst}
 use mathlib.Core.Bool.{Bool, true, false, ◌&&◌, true≢false}
 use mathlib.Core.List.{List, [], ◌∷◌, ◌++◌}
@@ -23,8 +24,6 @@ use Rattle.spec.proofs.Parts.{Part, number_part}
 use Rattle.spec.proofs.Shown.{expr_shown}
 use Rattle.lines.specs.Parts.{part_end, piece, next_end, follows}
 use Rattle.runs.proofs.Inside.{placed}
-use Rattle.edges.specs.declared.Named as N
-use Rattle.edges.specs.declared.Named.TheVariants as named
 use Rattle.edges.specs.Reads.{ReadAll}
 use Rattle.edges.specs.declared.FieldOf as F
 use Rattle.edges.specs.declared.FieldOf.TheVariants as of
@@ -188,15 +187,15 @@ module _ (e : Bytes) (d : ℕ) (kinds : List ℕ) (names : Names) (g : List ℕ)
       go (a_field y m q z u v) = absurd (no z)
       go (a_form c p q h i l r) = absurd (no (ap (λ (z : Bytes). get_or z 0 0) q))
 
-  module _ (v : N.Named) (is : v ≡ name_of e) where
+  module _ (v : Option ℕ) (is : v ≡ name_of e) where
     -- a name
-    pub expr_name : {m : ℕ} → v ≡ named.Is m → (r : Bool) (g' : List ℕ) → NameRead r m kinds g g' from → ExprRead r e d kinds names g g' from
+    pub expr_name : {m : ℕ} → v ≡ Some m → (r : Bool) (g' : List ℕ) → NameRead r m kinds g g' from → ExprRead r e d kinds names g g' from
     unfolding expr_reads
-    expr_name {m} q r g' f x s header w hs n start rs k = rw (named_as e v (named.Is m) is q d x s) (f header w hs n start rs k)
+    expr_name {m} q r g' f x s header w hs n start rs k = rw (named_as e v (Some m) is q d x s) (f header w hs n start rs k)
 
-    module _ (o : get_or e 0 0 ≡ 40) (q : v ≡ named.Not) where
+    module _ (o : get_or e 0 0 ≡ 40) (q : v ≡ None) where
       no_name : (x : Expr) → ShowsExpr e d x → (m : ℕ) → x ≡ name m → ⊥
-      no_name x s = named_as e v named.Not is q d x s
+      no_name x s = named_as e v None is q d x s
 
       deeper : (x : Expr) → ShowsExpr e d x → 0 < d
       unfolding expr_depth

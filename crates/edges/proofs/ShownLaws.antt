@@ -1,13 +1,14 @@
 -- What bytes read that show an expression or a line is what that reads. Assumes nothing.
+use Rattle.std.specs.Prelude.{Option, Some, None}
 use mathlib.Core.Path.{◌≡◌, refl, sym, ◌∙◌, ap, subst}
 use mathlib.Core.Bool.{Bool, true, false}
 use mathlib.Core.List.{List, [], ◌∷◌}
-use mathlib.Core.Option.{Option, none}
+use mathlib.Core.Option.{none}
 use Prim.Native.Nat.{ℕ, zero, suc, ◌+◌, ◌-◌, ◌≤◌, ◌<◌, max}
 use native.Mathlib.Omega.{arith}
 use lib.ListN.{drop, get_or}
 use Rattle.spec.specs.Bytes.{Bytes, show_rest, show_form}
-use Rattle.spec.specs.Syntax.{Kind, Expr, Exprs, name, field, Conn, Header}
+use Rattle.spec.specs.Syntax.{Expr, Exprs, name, field, Conn, Header}
 use Rattle.spec.specs.Show.{show_expr, show_exprs, show_index, show_conns}
 use Rattle.spec.specs.Refusal.{expr_in_range, expr_depth, item_depth, place_depth, conns_depth}
 use Rattle.spec.specs.Decode.{decode_expr}
@@ -18,8 +19,6 @@ use Rattle.spec.proofs.Parts.{number_part}
 use Rattle.spec.proofs.Shown.{expr_shown}
 use Rattle.lines.specs.Parts.{part_end, piece, next_end}
 use Rattle.runs.proofs.Inside.{placed}
-use Rattle.edges.specs.declared.Named as N
-use Rattle.edges.specs.declared.Named.TheVariants as named
 use Rattle.edges.specs.declared.FieldOf as F
 use Rattle.edges.specs.declared.FieldOf.TheVariants as of
 use Rattle.edges.specs.Reads.{KindsOf}
@@ -99,9 +98,9 @@ module _ (kinds : List ℕ) (names : Names) (header : List Header) (w : KindsOf 
       byte_here : (i : ℕ) → get_or e i 0 ≡ get_or (show_expr x) i 0
       byte_here i = ap (λ (z : Bytes). get_or z i 0) s.shown
 
-      go : name_of e ≡ named.Not → Told x → expr_read kinds names d e ≡ expr_reads x header names
+      go : name_of e ≡ None → Told x → expr_read kinds names d e ≡ expr_reads x header names
       go n (an_atom h q) = sym (reads_atom e kinds names d (λ z. h (sym (byte_here 0) ∙ z))) ∙ sym (q header names)
-      go n (a_name m p z u t) = absurd (named_as e (name_of e) named.Not refl n d x s m p)
+      go n (a_name m p z u t) = absurd (named_as e (name_of e) None refl n d x s m p)
       go n (a_field y m p z u t) =
           let h : suc (expr_depth y) ≤ d = subst (λ k. expr_depth k ≤ d) p s.deep in
           let l : d ≡ suc (d - 1) = omega arith in
@@ -118,11 +117,11 @@ module _ (kinds : List ℕ) (names : Names) (header : List Header) (w : KindsOf 
           ∙ parts_shown (expr_read kinds names (d - 1)) (d - 1) (less (d - 1) q) (children x) e (part_end e 1) o
           ∙ sym (j header names)
 
-      by_name : (v : N.Named) → name_of e ≡ v → expr_read kinds names d e ≡ expr_reads x header names
-      by_name (named.Is n) q =
-          let p : x ≡ name n = named_as e (name_of e) (named.Is n) refl q d x s in
-          sym (reads_name e kinds names (byte_here 0 ∙ name_opens x n p) (name_of e) refl d q) ∙ ap (λ (z : Option Kind). name_reads z n) (w n) ∙ name_right x n p
-      by_name named.Not q = go q (told x)
+      by_name : (v : Option ℕ) → name_of e ≡ v → expr_read kinds names d e ≡ expr_reads x header names
+      by_name (Some n) q =
+          let p : x ≡ name n = named_as e (name_of e) (Some n) refl q d x s in
+          sym (reads_name e kinds names (byte_here 0 ∙ name_opens x n p) (name_of e) refl d q) ∙ ap (λ z. name_reads z n) (w n) ∙ name_right x n p
+      by_name None q = go q (told x)
 
   pub read_right : (d : ℕ) → Right (expr_read kinds names d) d
   read_right zero = whole zero (λ n q. absurd (omega (arith, q)))

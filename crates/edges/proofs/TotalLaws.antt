@@ -1,5 +1,6 @@
 -- What any bytes read: one law for each way of `name_read`, `field_of`, `field_reads`, `expr_reads`, `parts_read` and `conn_read`, and for the lines.
 -- Assumes nothing.
+use Rattle.std.specs.Prelude.{Option, Some, None}
 use mathlib.Core.Path.{◌≡◌, refl, sym, ◌∙◌, ap}
 use mathlib.Core.Bool.{Bool, true, false}
 use mathlib.Core.List.{List, ◌∷◌}
@@ -15,8 +16,6 @@ use Rattle.spec.specs.Value.{Names, value}
 use Rattle.spec.specs.Edge.{signal, inst_out, Reads, no_reads, and_reads, name_reads, indexed_reads, Summary, reaches}
 use Rattle.lines.specs.Parts.{part_end, piece, follows, next_end}
 use Rattle.lines.proofs.PartLaws as lines
-use Rattle.edges.specs.declared.Named as N
-use Rattle.edges.specs.declared.Named.TheVariants as named
 use Rattle.edges.specs.declared.FieldOf as F
 use Rattle.edges.specs.declared.FieldOf.TheVariants as of
 use Rattle.edges.specs.Reads.{kind_word}
@@ -66,11 +65,11 @@ module _ (kinds : List ℕ) (m : ℕ) {k : ℕ} (q : k ≡ get_or kinds m 0) whe
 
 -- ---- what an `f` is of
 
-module _ (x : Bytes) (kinds : List ℕ) (v : N.Named) (qv : v ≡ name_of x) where
-  module _ {i : ℕ} (e : v ≡ named.Is i) (b : Bool) (qb : b ≡ inst_by kinds i) where
+module _ (x : Bytes) (kinds : List ℕ) (v : Option ℕ) (qv : v ≡ name_of x) where
+  module _ {i : ℕ} (e : v ≡ Some i) (b : Bool) (qb : b ≡ inst_by kinds i) where
     by_name : (c : Bool) → b ≡ c → elim c as (λ _. F.FieldOf) [ true ↦ of.Inst i | false ↦ of.Other ] ≡ field_by kinds x
     unfolding field_by
-    by_name c f = ap (λ (z : Bool). elim z as (λ _. F.FieldOf) [ true ↦ of.Inst i | false ↦ of.Other ]) (sym f ∙ qb) ∙ ap (λ (z : N.Named). inner_by kinds z (indexed_name x)) (sym e ∙ qv)
+    by_name c f = ap (λ (z : Bool). elim z as (λ _. F.FieldOf) [ true ↦ of.Inst i | false ↦ of.Other ]) (sym f ∙ qb) ∙ ap (λ (z : Option ℕ). inner_by kinds z (indexed_name x)) (sym e ∙ qv)
 
     pub field_inst : b ≡ true → of.Inst i ≡ field_by kinds x
     field_inst f = by_name true f
@@ -78,14 +77,14 @@ module _ (x : Bytes) (kinds : List ℕ) (v : N.Named) (qv : v ≡ name_of x) whe
     pub field_signal : b ≡ false → of.Other ≡ field_by kinds x
     field_signal f = by_name false f
 
-  module _ (u : N.Named) (qu : u ≡ indexed_name x) (n : v ≡ named.Not) where
-    by_index : (w : N.Named) → u ≡ w → index_by kinds w ≡ field_by kinds x
+  module _ (u : Option ℕ) (qu : u ≡ indexed_name x) (n : v ≡ None) where
+    by_index : (w : Option ℕ) → u ≡ w → index_by kinds w ≡ field_by kinds x
     unfolding field_by
-    by_index w f = ap (λ (z : N.Named). index_by kinds z) (sym f ∙ qu) ∙ ap (λ (z : N.Named). inner_by kinds z (indexed_name x)) (sym n ∙ qv)
+    by_index w f = ap (λ (z : Option ℕ). index_by kinds z) (sym f ∙ qu) ∙ ap (λ (z : Option ℕ). inner_by kinds z (indexed_name x)) (sym n ∙ qv)
 
-    module _ {i : ℕ} (e : u ≡ named.Is i) (b : Bool) (qb : b ≡ inst_by kinds i) where
+    module _ {i : ℕ} (e : u ≡ Some i) (b : Bool) (qb : b ≡ inst_by kinds i) where
       by_indexed : (c : Bool) → b ≡ c → elim c as (λ _. F.FieldOf) [ true ↦ of.InstAt i | false ↦ of.Other ] ≡ field_by kinds x
-      by_indexed c f = ap (λ (z : Bool). elim z as (λ _. F.FieldOf) [ true ↦ of.InstAt i | false ↦ of.Other ]) (sym f ∙ qb) ∙ by_index (named.Is i) e
+      by_indexed c f = ap (λ (z : Bool). elim z as (λ _. F.FieldOf) [ true ↦ of.InstAt i | false ↦ of.Other ]) (sym f ∙ qb) ∙ by_index (Some i) e
 
       pub field_inst_at : b ≡ true → of.InstAt i ≡ field_by kinds x
       field_inst_at f = by_indexed true f
@@ -93,8 +92,8 @@ module _ (x : Bytes) (kinds : List ℕ) (v : N.Named) (qv : v ≡ name_of x) whe
       pub field_signal_at : b ≡ false → of.Other ≡ field_by kinds x
       field_signal_at f = by_indexed false f
 
-    pub field_none : u ≡ named.Not → of.Other ≡ field_by kinds x
-    field_none f = by_index named.Not f
+    pub field_none : u ≡ None → of.Other ≡ field_by kinds x
+    field_none f = by_index None f
 
 -- ---- an `f`
 
@@ -142,21 +141,21 @@ module _ (e : Bytes) (kinds : List ℕ) (names : Names) where
   pub reads_atom : (d : ℕ) → (get_or e 0 0 ≡ 40 → ⊥) → no_reads ≡ expr_read kinds names d e
   reads_atom d f = by_bracket d false (ne_eqb (get_or e 0 0) 40 f)
 
-  module _ (o : get_or e 0 0 ≡ 40) (v : N.Named) (qv : v ≡ name_of e) where
-    by_named : (d : ℕ) (w : N.Named) → v ≡ w → name_or kinds w (no_name_reads d) ≡ expr_read kinds names d e
-    by_named d w f = ap (λ (z : N.Named). name_or kinds z (no_name_reads d)) (sym f ∙ qv) ∙ by_bracket d true (eq-eqb (get_or e 0 0) 40 o)
+  module _ (o : get_or e 0 0 ≡ 40) (v : Option ℕ) (qv : v ≡ name_of e) where
+    by_named : (d : ℕ) (w : Option ℕ) → v ≡ w → name_or kinds w (no_name_reads d) ≡ expr_read kinds names d e
+    by_named d w f = ap (λ (z : Option ℕ). name_or kinds z (no_name_reads d)) (sym f ∙ qv) ∙ by_bracket d true (eq-eqb (get_or e 0 0) 40 o)
 
-    pub reads_name : (d : ℕ) {m : ℕ} → v ≡ named.Is m → name_reads (kind_word (get_or kinds m 0)) m ≡ expr_read kinds names d e
-    reads_name d {m} f = by_named d (named.Is m) f
+    pub reads_name : (d : ℕ) {m : ℕ} → v ≡ Some m → name_reads (kind_word (get_or kinds m 0)) m ≡ expr_read kinds names d e
+    reads_name d {m} f = by_named d (Some m) f
 
-    module _ (n : v ≡ named.Not) where
+    module _ (n : v ≡ None) where
       pub reads_shut : (d : ℕ) → d ≡ 0 → no_reads ≡ expr_read kinds names d e
-      reads_shut zero z = by_named 0 named.Not n
+      reads_shut zero z = by_named 0 None n
       reads_shut (suc d) z = absurd (omega arith)
 
       by_form : (d : ℕ) → (d ≡ 0 → ⊥) → form_read (expr_read kinds names (d - 1)) kinds names (d - 1) e ≡ expr_read kinds names d e
       by_form zero z = absurd (z refl)
-      by_form (suc d) z = let h : suc d - 1 ≡ d = omega arith in ap (λ (k : ℕ). form_read (expr_read kinds names k) kinds names k e) h ∙ by_named (suc d) named.Not n
+      by_form (suc d) z = let h : suc d - 1 ≡ d = omega arith in ap (λ (k : ℕ). form_read (expr_read kinds names k) kinds names k e) h ∙ by_named (suc d) None n
 
       pub reads_field : (d : ℕ) → (d ≡ 0 → ⊥) → get_or e 1 0 ≡ 102 → field_read (expr_read kinds names (d - 1)) kinds names (d - 1) e ≡ expr_read kinds names d e
       unfolding form_read

@@ -9,6 +9,9 @@ use Rattle.spec.specs.Refusal.{expr_depth, conns_in_range, conns_depth}
 use Rattle.spec.specs.Decode.{decode_expr}
 use Rattle.spec.specs.Value.{Names, Value, missing, value}
 use Rattle.spec.specs.Edge.{Node, inst_out, Head, one_head, Summary, conn_reads, index_of, place_value, line_heads, inst_edges}
+use Rattle.consteval.specs.Worth.{names_of}
+use Rattle.edges.specs.declared.Pairs.{Pairs}
+use Rattle.edges.specs.declared.Scope.{Scope}
 use Rattle.lines.specs.Parts.{piece, next_end}
 use Rattle.runs.specs.Run.{ShowsItem}
 use Rattle.graph.specs.Stands.{Stands, Heading}
@@ -31,6 +34,14 @@ DriveHeads r x d kinds names g g' =
 unfoldable pub summary_at : List ℕ → ℕ → ℕ → Summary
 summary_at w first zero = []
 summary_at w first (suc count) = (get_or w first 0, get_or w (first + 1) 0) ∷ summary_at w (first + 2) count
+
+-- 01, The edge: the same, by the code's struct
+abbrev pub summary_in : Pairs → Summary
+summary_in p = summary_at p.words.now p.first p.count
+
+-- 01, The value: the names with a value that a line is read by
+abbrev pub names_in : Scope → Names
+names_in s = names_of s.names.now s.used
 
 -- 01, The line: the end of the part behind the byte at `before`, whatever the bytes are: past their end `before` itself
 unfoldable pub end_behind : Bytes → ℕ → ℕ

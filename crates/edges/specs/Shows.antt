@@ -2,7 +2,7 @@
 -- state.
 -- To a reader: definitions that the contracts of this crate cite; each such contract is proved; NamedBy, IndexedBy and FieldOfIs are
 -- statements, proved in proofs/ExprLaws (name_is) and proofs/FieldLaws (indexed_is, field_is); check_drivers' own promise cites none of them.
-use Rattle.std.specs.Prelude.{◌≡◌, Bool, true, false, ◌&&◌, List, [], ◌∷◌, ℕ, suc, ◌≤◌, get_or, eqb, ltb}
+use Rattle.std.specs.Prelude.{◌≡◌, Bool, true, false, ◌&&◌, List, [], ◌∷◌, ℕ, suc, ◌≤◌, get_or, eqb, ltb, Option, Some, None}
 use Rattle.spec.specs.Bytes.{Bytes, number, show_rest}
 use Rattle.spec.specs.Syntax.{Expr, Exprs, name, field, index, Header}
 use Rattle.spec.specs.Show.{show_expr, show_exprs}
@@ -12,8 +12,6 @@ use Rattle.spec.specs.Site.{kind_of}
 use Rattle.spec.specs.Edge.{Node, Reads, name_reads, is_inst, an_inst, an_inst_at, no_inst, field_of, expr_reads, exprs_reads, Head}
 use Rattle.lines.specs.Parts.{part_end, piece}
 use Rattle.graph.specs.Stands.{Heading}
-use Rattle.edges.specs.declared.Named as N
-use Rattle.edges.specs.declared.Named.TheVariants as named
 use Rattle.edges.specs.declared.FieldOf as F
 use Rattle.edges.specs.declared.FieldOf.TheVariants as of
 use Rattle.edges.specs.Reads.{kind_word, KindsOf, ReadAll}
@@ -49,30 +47,30 @@ unfoldable pub begins : Bytes → ℕ → ℕ → Bool
 begins x a b = opens x a && eqb (get_or x 2 0) b
 
 -- 01, The edge: a number as a name, none where it is no word of 32 bits
-abbrev pub as_name : ℕ → N.Named
-as_name n = elim (ltb 4294967295 n) [ true ↦ named.Not | false ↦ named.Is n ]
+abbrev pub as_name : ℕ → Option ℕ
+as_name n = elim (ltb 4294967295 n) [ true ↦ None | false ↦ Some n ]
 
 -- 01, The edge: the name that the bytes x are, whatever they show: `(n ` and its number, or none
-unfoldable pub name_of : Bytes → N.Named
-name_of x = elim (begins x 110 32) [ true ↦ as_name (number (piece x 2 (part_end x 3))) | false ↦ named.Not ]
+unfoldable pub name_of : Bytes → Option ℕ
+name_of x = elim (begins x 110 32) [ true ↦ as_name (number (piece x 2 (part_end x 3))) | false ↦ None ]
 
 -- 01, The edge: the name that the bytes x are an index of, whatever they show: `(ix` and the name that its first part is, or none
-unfoldable pub indexed_name : Bytes → N.Named
-indexed_name x = elim (begins x 105 120) [ true ↦ name_of (piece x 3 (part_end x 4)) | false ↦ named.Not ]
+unfoldable pub indexed_name : Bytes → Option ℕ
+indexed_name x = elim (begins x 105 120) [ true ↦ name_of (piece x 3 (part_end x 4)) | false ↦ None ]
 
 -- 01, The edge: whether the name i is an inst, whatever the bytes of the table of kinds are
 abbrev pub inst_by : List ℕ → ℕ → Bool
 inst_by kinds i = is_inst (kind_word (get_or kinds i 0))
 
 -- 01, The edge: what looking for a name says of an expression: it is that name, or it is none
-abbrev pub NamedBy : N.Named → Expr → Type 0
-NamedBy (named.Is n) x = x ≡ name n
-NamedBy named.Not x = (n : ℕ) → x ≡ name n → ⊥
+abbrev pub NamedBy : Option ℕ → Expr → Type 0
+NamedBy (Some n) x = x ≡ name n
+NamedBy None x = (n : ℕ) → x ≡ name n → ⊥
 
 -- 01, The edge: what looking for an index of a name says of an expression: it is one of that name, or it is none
-abbrev pub IndexedBy : N.Named → Expr → Type 0
-IndexedBy (named.Is n) x = (e : Expr) × (x ≡ index (name n) e)
-IndexedBy named.Not x = (n : ℕ) (e : Expr) → x ≡ index (name n) e → ⊥
+abbrev pub IndexedBy : Option ℕ → Expr → Type 0
+IndexedBy (Some n) x = (e : Expr) × (x ≡ index (name n) e)
+IndexedBy None x = (n : ℕ) (e : Expr) → x ≡ index (name n) e → ⊥
 
 -- 01, The edge: what the code says of an `f` of x
 abbrev pub SaysOf : F.FieldOf → List Header → Expr → Type 0

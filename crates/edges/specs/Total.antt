@@ -2,7 +2,7 @@
 -- 01: The line; The edge.
 -- To a reader: definitions that contracts of this and other crates cite; each such contract is proved; ReadAsShown, WireAsShown, DriveAsShown and
 -- InstAsShown are statements, proved in proofs/ShownLaws (read_shown, wire_shown, drive_shown, inst_shown); check_drivers' own promise cites none of them.
-use Rattle.std.specs.Prelude.{◌≡◌, true, false, List, [], ◌∷◌, ℕ, zero, suc, ◌+◌, ◌-◌, drop, get_or, eqb}
+use Rattle.std.specs.Prelude.{◌≡◌, true, false, List, [], ◌∷◌, ℕ, zero, suc, ◌+◌, ◌-◌, drop, get_or, eqb, Option, Some, None}
 use Rattle.std.proofs.Math.Option.{none}
 use Rattle.spec.specs.Bytes.{Bytes, parts_from}
 use Rattle.spec.specs.Syntax.{Expr, LValue, Inst, wire, drive, inst, Header}
@@ -11,8 +11,6 @@ use Rattle.spec.specs.Value.{Names, value}
 use Rattle.spec.specs.Edge.{inst_out, Reads, no_reads, and_reads, name_reads, indexed_reads, expr_reads, index_reads, Summary, reaches, conn_reads}
 use Rattle.runs.specs.Run.{ShowsItem}
 use Rattle.lines.specs.Parts.{part_end, piece, follows}
-use Rattle.edges.specs.declared.Named as N
-use Rattle.edges.specs.declared.Named.TheVariants as named
 use Rattle.edges.specs.declared.FieldOf as F
 use Rattle.edges.specs.declared.FieldOf.TheVariants as of
 use Rattle.edges.specs.Reads.{kind_word, KindsOf}
@@ -29,14 +27,14 @@ reads_in_order f [] = no_reads
 reads_in_order f (e ∷ es) = and_reads (f e) (reads_in_order f es)
 
 -- 01, The edge: what an `f` is of, by the name that its inner bytes are an index of, if any: an inst with an index, or anything else
-abbrev pub index_by : List ℕ → N.Named → F.FieldOf
-index_by kinds (named.Is i) = elim (inst_by kinds i) [ true ↦ of.InstAt i | false ↦ of.Other ]
-index_by kinds named.Not = of.Other
+abbrev pub index_by : List ℕ → Option ℕ → F.FieldOf
+index_by kinds (Some i) = elim (inst_by kinds i) [ true ↦ of.InstAt i | false ↦ of.Other ]
+index_by kinds None = of.Other
 
 -- 01, The edge: the same by the name that they are, if any: an inst, or anything else; where they are no name, by what they are an index of
-abbrev pub inner_by : List ℕ → N.Named → (indexed : N.Named) → F.FieldOf
-inner_by kinds (named.Is i) u = elim (inst_by kinds i) [ true ↦ of.Inst i | false ↦ of.Other ]
-inner_by kinds named.Not u = index_by kinds u
+abbrev pub inner_by : List ℕ → Option ℕ → (indexed : Option ℕ) → F.FieldOf
+inner_by kinds (Some i) u = elim (inst_by kinds i) [ true ↦ of.Inst i | false ↦ of.Other ]
+inner_by kinds None u = index_by kinds u
 
 -- 01, The edge: what an `f` of the bytes x is of, whatever they show
 unfoldable pub field_by : List ℕ → Bytes → F.FieldOf
@@ -70,9 +68,9 @@ unfoldable pub form_read : (f : Bytes → Reads) → (kinds : List ℕ) → Name
 form_read f kinds names d e = elim (eqb (get_or e 1 0) 102) [ true ↦ field_read f kinds names d e | false ↦ reads_in_order f (parts_behind e (part_end e 1)) ]
 
 -- 01, The edge: what a name reads, by its kind; what is no name reads q
-abbrev pub name_or : (kinds : List ℕ) → N.Named → (q : Reads) → Reads
-name_or kinds (named.Is n) q = name_reads (kind_word (get_or kinds n 0)) n
-name_or kinds named.Not q = q
+abbrev pub name_or : (kinds : List ℕ) → Option ℕ → (q : Reads) → Reads
+name_or kinds (Some n) q = name_reads (kind_word (get_or kinds n 0)) n
+name_or kinds None q = q
 
 -- 01, The edge: what any bytes read as an expression at most d brackets deep: nothing where no bracket stands first; a name is read by its kind; a form
 -- reads nothing at depth 0

@@ -1,7 +1,7 @@
 // What an expression reads, and what a line heads: into the graph of a module.
 #![tactic(auto)]
 
-ghost use Rattle.std.specs.Prelude.{◌≡◌, ◌+◌, ◌-◌, length, drop, get_or, eqb, ◌&&◌};
+ghost use Rattle.std.specs.Prelude.{◌≡◌, ◌+◌, ◌-◌, length, drop, get_or, eqb, ◌&&◌, is_ok};
 ghost use Rattle.std.proofs.Math.Option.{none};
 ghost use Rattle.spec.specs.Decode.{decode_expr};
 ghost use Rattle.spec.specs.Value.{value};
@@ -10,38 +10,67 @@ ghost use Rattle.graph.specs.Table.{node_of};
 ghost use Rattle.consteval.specs.Worth.{names_of, worth};
 ghost use Rattle.edges.specs.Reads.{kind_word};
 ghost use Rattle.edges.specs.Shows.{opens, name_of, indexed_name, inst_by, NameRead, NodesRead, FieldRead, ExprRead, PartsRead, one_read};
-ghost use Rattle.edges.specs.Lines.{WireHeads, DriveHeads, summary_at, end_behind, number_at, inst_index, inst_module, ConnRead, ConnsRead, OutputHead, InstHeads};
+ghost use Rattle.edges.specs.Lines.{WireHeads, DriveHeads, summary_in, names_in, end_behind, number_at, inst_index, inst_module, ConnRead, ConnsRead, OutputHead, InstHeads};
 ghost use Rattle.edges.specs.Total.{field_by, field_read, expr_read, parts_read, conn_read, conns_read, inst_reads};
 ghost use Rattle.edges.specs.Leaves.{ReadsOrCleared, WireLeaves, DriveLeaves, OutputLeaves, InstLeaves};
 
-use consteval::Value;
-use graph::Node;
+use consteval::{Outside, Value};
+use graph::{Full, Node};
 use lines::bytes::{is_minus, is_open, is_space};
 use lines::{numbers, parts};
 
-// The node `from`, which the last line headed, reads the name n, by its kind: false where a limit is passed, and then the graph is cleared.
-fn name_read(kinds: &[u8], n: u32, g: &mut [u32], from: u32) -> bool
-    ensures name_read { NameRead result n kinds.now g.old g.new from }
-    ensures reads_or_cleared { ReadsOrCleared result (name_reads (kind_word (get_or kinds.now n 0)) n) from g.old g.new }
-{
-    let k = parts::byte(kinds, n as usize);
-    if k == 0 {
-        return true;
-    }
-    if 3 < k {
-        return true;
-    }
-    match graph::read(g, from, Node::Signal(n)) {
-        Ok(_) => true,
-        Err(_) => false,
+// A limit is passed, or a constant is outside INT: the text is refused by the number 20.
+#[derive(Clone, Copy, Debug, PartialEq, Eq)]
+pub struct Stop;
+
+impl From<Full> for Stop {
+    ghost from_gives = { λ _ e. e ≡ record {} };
+
+    fn from(_: Full) -> Stop {
+        Stop
     }
 }
 
-// The name that an expression is, if it is one.
+impl From<Outside> for Stop {
+    ghost from_gives = { λ _ e. e ≡ record {} };
+
+    fn from(_: Outside) -> Stop {
+        Stop
+    }
+}
+
+// What a line of a module is read by: the kinds of the module's names, and the table of names that have a value, of which `used` are in use.
 #[derive(Clone, Copy)]
-enum Named {
-    Is(u32),
-    Not,
+pub struct Scope<'a> {
+    pub kinds: &'a [u8],
+    pub names: &'a [u32],
+    pub used: usize,
+}
+
+// The pairs of output and input of a summary: `count` of them in `words` from `first` on.
+#[derive(Clone, Copy)]
+pub struct Pairs<'a> {
+    pub words: &'a [u32],
+    pub first: usize,
+    pub count: usize,
+}
+
+// The node `from`, which the last line headed, reads the name n, by its kind: false where a limit is passed, and then the graph is cleared.
+fn name_read(kinds: &[u8], n: u32, g: &mut [u32], from: u32) -> Result<(), Stop>
+    ensures name_read { NameRead (is_ok result) n kinds.now g.old g.new from }
+    ensures reads_or_cleared { ReadsOrCleared (is_ok result) (name_reads (kind_word (get_or kinds.now n 0)) n) from g.old g.new }
+{
+    let k = parts::byte(kinds, n as usize);
+    if k == 0 {
+        return Ok(());
+    }
+    if 3 < k {
+        return Ok(());
+    }
+    match graph::read(g, from, Node::Signal(n)) {
+        Ok(_) => Ok(()),
+        Err(_) => Err(Stop),
+    }
 }
 
 // Does x begin with a bracket and then the letter a?
@@ -54,34 +83,34 @@ fn opens(x: &[u8], a: u8) -> bool
     parts::byte(x, 1) == a
 }
 
-// Is the expression x a name? By the first bytes of a form.
-fn name_of(x: &[u8]) -> Named
+// The name that the expression x is, if it is one. By the first bytes of a form.
+fn name_of(x: &[u8]) -> Option<u32>
     ensures { result ≡ name_of x.now }
 {
     if !opens(x, b'n') {
-        return Named::Not;
+        return None;
     }
     if !is_space(parts::byte(x, 2)) {
-        return Named::Not;
+        return None;
     }
     let a = parts::part_end(x, 3);
     let v = numbers::value(parts::between(x, 2, a));
     if 4294967295 < v {
-        return Named::Not;
+        return None;
     }
-    Named::Is(v as u32)
+    Some(v as u32)
 }
 
 // The name that the expression x is an index of, if it is one of a name. By the first bytes of a form.
 #[tactic(auto, using(crate::proofs::FieldLaws::no_form, crate::proofs::FieldLaws::no_x, crate::proofs::FieldLaws::index_here))]
-fn indexed_name(x: &[u8]) -> Named
+fn indexed_name(x: &[u8]) -> Option<u32>
     ensures { result ≡ indexed_name x.now }
 {
     if !opens(x, b'i') {
-        return Named::Not;
+        return None;
     }
     if parts::byte(x, 2) != b'x' {
-        return Named::Not;
+        return None;
     }
     let a = parts::part_end(x, 4);
     name_of(parts::between(x, 3, a))
@@ -111,32 +140,32 @@ fn field_of(x: &[u8], kinds: &[u8]) -> FieldOf
     ensures { result ≡ field_by kinds.now x.now }
 {
     match name_of(x) {
-        Named::Is(i) => {
+        Some(i) => {
             if is_inst(kinds, i) {
                 return FieldOf::Inst(i);
             }
             FieldOf::Other
         }
-        Named::Not => match indexed_name(x) {
-            Named::Is(i) => {
+        None => match indexed_name(x) {
+            Some(i) => {
                 if is_inst(kinds, i) {
                     return FieldOf::InstAt(i);
                 }
                 FieldOf::Other
             }
-            Named::Not => FieldOf::Other,
+            None => FieldOf::Other,
         },
     }
 }
 
 // The node `from` reads the output p of the instance i. At a limit the graph is cleared.
-fn output_read(i: u32, p: u32, g: &mut [u32], from: u32) -> bool
-    ensures nodes_read { NodesRead result (one_read (inst_out i none p)) g.old g.new from }
-    ensures reads_or_cleared { ReadsOrCleared result (one_read (inst_out i none p)) from g.old g.new }
+fn output_read(i: u32, p: u32, g: &mut [u32], from: u32) -> Result<(), Stop>
+    ensures nodes_read { NodesRead (is_ok result) (one_read (inst_out i none p)) g.old g.new from }
+    ensures reads_or_cleared { ReadsOrCleared (is_ok result) (one_read (inst_out i none p)) from g.old g.new }
 {
     match graph::read(g, from, Node::Output(i, p)) {
-        Ok(_) => true,
-        Err(_) => false,
+        Ok(_) => Ok(()),
+        Err(_) => Err(Stop),
     }
 }
 
@@ -146,24 +175,23 @@ fn index_read(
     p: u32,
     e: &[u8],
     depth: u32,
-    names: &[u32],
-    used: usize,
+    scope: Scope<'_>,
     g: &mut [u32],
     from: u32,
-) -> bool
-    ensures nodes_read { NodesRead result (indexed_reads i (value (names_of names.now used) (decode_expr depth e.now)) p)
-        g.old g.new from }
-    ensures reads_or_cleared { ReadsOrCleared result (indexed_reads i (value (names_of names.now used) (decode_expr depth e.now)) p) from g.old g.new }
+) -> Result<(), Stop>
+    ensures nodes_read { NodesRead (is_ok result) (indexed_reads i (value (names_in scope.entry) (decode_expr depth e.now)) p) g.old g.new from }
+    ensures reads_or_cleared { ReadsOrCleared (is_ok result) (indexed_reads i (value (names_in scope.entry) (decode_expr depth e.now)) p)
+        from g.old g.new }
 {
-    match consteval::eval(e, depth, names, used) {
+    match consteval::eval(e, depth, scope.names, scope.used) {
         Ok(Some(v)) => match graph::read(g, from, Node::OutputAt(i, v, p)) {
-            Ok(_) => true,
-            Err(_) => false,
+            Ok(_) => Ok(()),
+            Err(_) => Err(Stop),
         },
-        Ok(None) => true,
+        Ok(None) => Ok(()),
         Err(_) => {
             graph::clear(g);
-            false
+            Err(Stop)
         }
     }
 }
@@ -199,61 +227,46 @@ fn under(depth: u32, k: u32) -> u32
 // The node `from` reads the `f` that e is: an output of an instance, or what the expression under it reads, which is at most `depth`
 // brackets deep. Where it says false the graph is cleared.
 #[cycle(expr_reads_field_reads_parts_read)]
-fn field_reads(
-    e: &[u8],
-    depth: u32,
-    kinds: &[u8],
-    names: &[u32],
-    used: usize,
-    g: &mut [u32],
-    from: u32,
-) -> bool
-    ensures field_read { FieldRead result e.now depth kinds.now (names_of names.now used) g.old g.new from }
-    ensures reads_or_cleared { ReadsOrCleared result (field_read (expr_read kinds.now (names_of names.now used) depth) kinds.now (names_of names.now used) depth e.now) from g.old g.new }
+fn field_reads(e: &[u8], depth: u32, scope: Scope<'_>, g: &mut [u32], from: u32) -> Result<(), Stop>
+    ensures field_read { FieldRead (is_ok result) e.now depth scope.entry.kinds.now (names_in scope.entry) g.old g.new from }
+    ensures reads_or_cleared { ReadsOrCleared (is_ok result) (field_read (expr_read scope.entry.kinds.now (names_in scope.entry) depth)
+        scope.entry.kinds.now (names_in scope.entry) depth e.now) from g.old g.new }
 {
     let a = next_end(e, 2);
     let x = parts::between(e, 2, a);
     let p = number_at(e, a, next_end(e, a));
-    match field_of(x, kinds) {
+    match field_of(x, scope.kinds) {
         FieldOf::Inst(i) => output_read(i, p, g, from),
         FieldOf::InstAt(i) => {
             let b = parts::part_end(x, 4);
             let index = parts::between(x, b, next_end(x, b));
-            index_read(i, p, index, under(depth, 1), names, used, g, from)
+            index_read(i, p, index, under(depth, 1), scope, g, from)
         }
-        FieldOf::Other => expr_reads(x, depth, kinds, names, used, g, from),
+        FieldOf::Other => expr_reads(x, depth, scope, g, from),
     }
 }
 
 // The node `from` reads what the expression e reads: false where a limit is passed or an index is outside INT, and then
 // the graph is cleared.
 #[cycle(expr_reads_field_reads_parts_read)]
-fn expr_reads(
-    e: &[u8],
-    depth: u32,
-    kinds: &[u8],
-    names: &[u32],
-    used: usize,
-    g: &mut [u32],
-    from: u32,
-) -> bool
-    ensures expr_read { ExprRead result e.now depth kinds.now (names_of names.now used) g.old g.new from }
-    ensures reads_or_cleared { ReadsOrCleared result (expr_read kinds.now (names_of names.now used) depth e.now) from g.old g.new }
+fn expr_reads(e: &[u8], depth: u32, scope: Scope<'_>, g: &mut [u32], from: u32) -> Result<(), Stop>
+    ensures expr_read { ExprRead (is_ok result) e.now depth scope.entry.kinds.now (names_in scope.entry) g.old g.new from }
+    ensures reads_or_cleared { ReadsOrCleared (is_ok result) (expr_read scope.entry.kinds.now (names_in scope.entry) depth e.now) from g.old g.new }
 {
     if !is_open(parts::byte(e, 0)) {
-        return true;
+        return Ok(());
     }
     match name_of(e) {
-        Named::Is(n) => name_read(kinds, n, g, from),
-        Named::Not => {
+        Some(n) => name_read(scope.kinds, n, g, from),
+        None => {
             if depth == 0 {
-                return true;
+                return Ok(());
             }
             if parts::byte(e, 1) == b'f' {
-                return field_reads(e, depth - 1, kinds, names, used, g, from);
+                return field_reads(e, depth - 1, scope, g, from);
             }
             let a = parts::part_end(e, 1);
-            parts_read(e, a, depth - 1, kinds, names, used, g, from)
+            parts_read(e, a, depth - 1, scope, g, from)
         }
     }
 }
@@ -264,38 +277,28 @@ fn parts_read(
     e: &[u8],
     end: usize,
     depth: u32,
-    kinds: &[u8],
-    names: &[u32],
-    used: usize,
+    scope: Scope<'_>,
     g: &mut [u32],
     from: u32,
-) -> bool
-    ensures parts_read { PartsRead result (drop end e.now) depth kinds.now (names_of names.now used) g.old g.new from }
-    ensures reads_or_cleared { ReadsOrCleared result (parts_read kinds.now (names_of names.now used) depth e.now end) from g.old g.new }
+) -> Result<(), Stop>
+    ensures parts_read { PartsRead (is_ok result) (drop end e.now) depth scope.entry.kinds.now (names_in scope.entry) g.old g.new from }
+    ensures reads_or_cleared { ReadsOrCleared (is_ok result) (parts_read scope.entry.kinds.now (names_in scope.entry) depth e.now end)
+        from g.old g.new }
 {
     let mut a = end;
     while parts::more(e, a) {
         let b = parts::part_end(e, a + 1);
-        if !expr_reads(parts::between(e, a, b), depth, kinds, names, used, g, from) {
-            return false;
-        }
+        expr_reads(parts::between(e, a, b), depth, scope, g, from)?;
         a = b;
     }
-    true
+    Ok(())
 }
 
 // The `wire` line x heads its signal, which reads its expression. The name stands behind the 5 bytes of `(wire`, START behind the
 // expression. Where it says false the graph is cleared.
-pub fn wire_heads(
-    x: &[u8],
-    depth: u32,
-    kinds: &[u8],
-    names: &[u32],
-    used: usize,
-    g: &mut [u32],
-) -> bool
-    ensures wire_leaves { WireLeaves result x.now depth kinds.now (names_of names.now used) g.old g.new }
-    ensures wire_heads { WireHeads result x.now depth kinds.now (names_of names.now used) g.old g.new }
+pub fn wire_heads(x: &[u8], depth: u32, scope: Scope<'_>, g: &mut [u32]) -> Result<(), Stop>
+    ensures wire_leaves { WireLeaves (is_ok result) x.now depth scope.entry.kinds.now (names_in scope.entry) g.old g.new }
+    ensures wire_heads { WireHeads (is_ok result) x.now depth scope.entry.kinds.now (names_in scope.entry) g.old g.new }
     ensures g_len_unchanged { length g.new ≡ length g.old }
 {
     let a = next_end(x, 5);
@@ -303,58 +306,39 @@ pub fn wire_heads(
     let n = number_at(x, 5, a);
     let start = number_at(x, b, next_end(x, b));
     match graph::head(g, Node::Signal(n), start) {
-        Ok(i) => {
-            expr_reads(
-                parts::between(x, a, b),
-                under(depth, 1),
-                kinds,
-                names,
-                used,
-                g,
-                i,
-            )
-        }
-        Err(_) => false,
+        Ok(i) => expr_reads(parts::between(x, a, b), under(depth, 1), scope, g, i),
+        Err(_) => Err(Stop),
     }
 }
 
 // The `drive` line x heads its signal, an output or a wire by its kind (2, 3): it reads the expression, then the indexes. The LV stands
 // behind the 6 bytes of `(drive`, its name behind the 3 of `(lv`. Where it says false the graph is cleared.
 #[tactic(auto, using(crate::proofs::LeaveLaws::drive_past))]
-pub fn drive_heads(
-    x: &[u8],
-    depth: u32,
-    kinds: &[u8],
-    names: &[u32],
-    used: usize,
-    g: &mut [u32],
-) -> bool
-    ensures drive_leaves { DriveLeaves result x.now depth kinds.now (names_of names.now used) g.old g.new }
-    ensures drive_heads { DriveHeads result x.now depth kinds.now (names_of names.now used) g.old g.new }
+pub fn drive_heads(x: &[u8], depth: u32, scope: Scope<'_>, g: &mut [u32]) -> Result<(), Stop>
+    ensures drive_leaves { DriveLeaves (is_ok result) x.now depth scope.entry.kinds.now (names_in scope.entry) g.old g.new }
+    ensures drive_heads { DriveHeads (is_ok result) x.now depth scope.entry.kinds.now (names_in scope.entry) g.old g.new }
     ensures g_len_unchanged { length g.new ≡ length g.old }
 {
     let a = next_end(x, 6);
     let lv = parts::between(x, 6, a);
     let b = next_end(lv, 3);
     let n = number_at(lv, 3, b);
-    let kind = parts::byte(kinds, n as usize);
+    let kind = parts::byte(scope.kinds, n as usize);
     if kind < 2 {
-        return true;
+        return Ok(());
     }
     if 3 < kind {
-        return true;
+        return Ok(());
     }
     let c = next_end(lv, b);
     let start = number_at(lv, b, c);
     match graph::head(g, Node::Signal(n), start) {
         Ok(i) => {
             let e = parts::between(x, a, next_end(x, a));
-            if !expr_reads(e, under(depth, 1), kinds, names, used, g, i) {
-                return false;
-            }
-            parts_read(lv, c, under(depth, 2), kinds, names, used, g, i)
+            expr_reads(e, under(depth, 1), scope, g, i)?;
+            parts_read(lv, c, under(depth, 2), scope, g, i)
         }
-        Err(_) => false,
+        Err(_) => Err(Stop),
     }
 }
 
@@ -413,34 +397,30 @@ fn next_pair(w: &[u32], p: usize) -> usize
     q + 1
 }
 
-// Does the output o stand in the summary of `count` pairs from `first` on?
-fn has_output(w: &[u32], first: usize, count: usize, o: u32) -> bool
-    ensures { result ≡ has_output o (summary_at w.now first count) }
+// Does the output o stand in the summary?
+fn has_output(pairs: Pairs<'_>, o: u32) -> bool
+    ensures { result ≡ has_output o (summary_in pairs.entry) }
 {
-    let mut p = first;
-    let mut left = count;
-    while 0 < left {
-        if o == word(w, p) {
+    let mut p = pairs.first;
+    for left in (0..pairs.count).rev() {
+        if o == word(pairs.words, p) {
             return true;
         }
-        p = next_pair(w, p);
-        left -= 1;
+        p = next_pair(pairs.words, p);
     }
     false
 }
 
 // Does the output o reach the input i in that summary?
-fn reaches(w: &[u32], first: usize, count: usize, o: u32, i: u32) -> bool
-    ensures { result ≡ reaches o i (summary_at w.now first count) }
+fn reaches(pairs: Pairs<'_>, o: u32, i: u32) -> bool
+    ensures { result ≡ reaches o i (summary_in pairs.entry) }
 {
-    let mut p = first;
-    let mut left = count;
-    while 0 < left {
-        if is_pair(w, p, o, i) {
+    let mut p = pairs.first;
+    for left in (0..pairs.count).rev() {
+        if is_pair(pairs.words, p, o, i) {
             return true;
         }
-        p = next_pair(w, p);
-        left -= 1;
+        p = next_pair(pairs.words, p);
     }
     false
 }
@@ -450,31 +430,20 @@ fn conn_read(
     c: &[u8],
     depth: u32,
     o: u32,
-    w: &[u32],
-    first: usize,
-    count: usize,
-    kinds: &[u8],
-    names: &[u32],
-    used: usize,
+    pairs: Pairs<'_>,
+    scope: Scope<'_>,
     g: &mut [u32],
     from: u32,
-) -> bool
-    ensures conn_read { ConnRead result o (summary_at w.now first count) c.now depth kinds.now (names_of names.now used) g.old g.new from }
-    ensures reads_or_cleared { ReadsOrCleared result (conn_read kinds.now (names_of names.now used) (summary_at w.now first count) o depth c.now) from g.old g.new }
+) -> Result<(), Stop>
+    ensures conn_read { ConnRead (is_ok result) o (summary_in pairs.entry) c.now depth scope.entry.kinds.now (names_in scope.entry) g.old g.new from }
+    ensures reads_or_cleared { ReadsOrCleared (is_ok result) (conn_read scope.entry.kinds.now (names_in scope.entry)
+        (summary_in pairs.entry) o depth c.now) from g.old g.new }
 {
     let a = next_end(c, 5);
-    if !reaches(w, first, count, o, number_at(c, 5, a)) {
-        return true;
+    if !reaches(pairs, o, number_at(c, 5, a)) {
+        return Ok(());
     }
-    expr_reads(
-        parts::between(c, a, next_end(c, a)),
-        depth,
-        kinds,
-        names,
-        used,
-        g,
-        from,
-    )
+    expr_reads(parts::between(c, a, next_end(c, a)), depth, scope, g, from)
 }
 
 // It reads so all the connections behind the part of x that ends at `end`.
@@ -483,28 +452,24 @@ fn conns_read(
     end: usize,
     depth: u32,
     o: u32,
-    w: &[u32],
-    first: usize,
-    count: usize,
-    kinds: &[u8],
-    names: &[u32],
-    used: usize,
+    pairs: Pairs<'_>,
+    scope: Scope<'_>,
     g: &mut [u32],
     from: u32,
-) -> bool
-    ensures conns_read { ConnsRead result o (summary_at w.now first count) (drop end x.now) depth kinds.now (names_of names.now used) g.old g.new from }
-    ensures reads_or_cleared { ReadsOrCleared result (conns_read kinds.now (names_of names.now used) (summary_at w.now first count) o depth x.now end) from g.old g.new }
+) -> Result<(), Stop>
+    ensures conns_read { ConnsRead (is_ok result) o (summary_in pairs.entry) (drop end x.now) depth
+        scope.entry.kinds.now (names_in scope.entry) g.old g.new from }
+    ensures reads_or_cleared { ReadsOrCleared (is_ok result) (conns_read scope.entry.kinds.now (names_in scope.entry)
+        (summary_in pairs.entry) o depth x.now end) from g.old g.new }
 {
     let mut a = end;
     while parts::more(x, a) {
         let b = parts::part_end(x, a + 1);
         let c = parts::between(x, a, b);
-        if !conn_read(c, depth, o, w, first, count, kinds, names, used, g, from) {
-            return false;
-        }
+        conn_read(c, depth, o, pairs, scope, g, from)?;
         a = b;
     }
-    true
+    Ok(())
 }
 
 // The node of the output o of the instance i with that index, one without value being none.
@@ -523,70 +488,54 @@ fn output_head(
     depth: u32,
     index: Value,
     o: u32,
-    w: &[u32],
-    first: usize,
-    count: usize,
-    kinds: &[u8],
-    names: &[u32],
-    used: usize,
+    pairs: Pairs<'_>,
+    scope: Scope<'_>,
     g: &mut [u32],
-) -> bool
-    ensures output_head { OutputHead result o (worth index) (summary_at w.now first count) x.now depth kinds.now (names_of names.now used) g.old g.new }
-    ensures output_leaves { OutputLeaves result (inst_reads kinds.now (names_of names.now used) (summary_at w.now first count) depth x.now o) o (worth index) x.now g.old g.new }
+) -> Result<(), Stop>
+    ensures output_head { OutputHead (is_ok result) o (worth index) (summary_in pairs.entry)
+        x.now depth scope.entry.kinds.now (names_in scope.entry) g.old g.new }
+    ensures output_leaves { OutputLeaves (is_ok result) (inst_reads scope.entry.kinds.now (names_in scope.entry)
+        (summary_in pairs.entry) depth x.now o) o (worth index) x.now g.old g.new }
 {
     let a = next_end(x, 5);
     let c = next_end(x, next_end(x, a));
     let end = next_end(x, c);
     let n = output_node(number_at(x, 5, a), index, o);
     match graph::head(g, n, number_at(x, c, end)) {
-        Ok(i) => conns_read(
-            x,
-            end,
-            under(depth, 2),
-            o,
-            w,
-            first,
-            count,
-            kinds,
-            names,
-            used,
-            g,
-            i,
-        ),
-        Err(_) => false,
+        Ok(i) => conns_read(x, end, under(depth, 2), o, pairs, scope, g, i),
+        Err(_) => Err(Stop),
     }
 }
 
-// The `inst` line x heads every output in the summary of its module, `count` pairs of w from `first` on: an output with its last pair.
+// The `inst` line x heads every output in the summary of its module: an output with its last pair.
 // Where it says false the graph is cleared.
 pub fn inst_heads(
     x: &[u8],
     depth: u32,
     index: Value,
-    w: &[u32],
-    first: usize,
-    count: usize,
-    kinds: &[u8],
-    names: &[u32],
-    used: usize,
+    pairs: Pairs<'_>,
+    scope: Scope<'_>,
     g: &mut [u32],
-) -> bool
-    ensures inst_leaves { InstLeaves result (worth index) (summary_at w.now first count) x.now depth kinds.now (names_of names.now used) g.old g.new }
-    ensures inst_heads { InstHeads result (worth index) (summary_at w.now first count) x.now depth kinds.now (names_of names.now used) g.old g.new }
+) -> Result<(), Stop>
+    ensures inst_leaves { InstLeaves (is_ok result) (worth index) (summary_in pairs.entry) x.now depth
+        scope.entry.kinds.now (names_in scope.entry) g.old g.new }
+    ensures inst_heads { InstHeads (is_ok result) (worth index) (summary_in pairs.entry) x.now depth
+        scope.entry.kinds.now (names_in scope.entry) g.old g.new }
     ensures g_len_unchanged { length g.new ≡ length g.old }
 {
-    let mut p = first;
-    let mut left = count;
-    while 0 < left {
-        let o = word(w, p);
-        p = next_pair(w, p);
-        left -= 1;
-        if has_output(w, p, left, o) {
+    let mut p = pairs.first;
+    for left in (0..pairs.count).rev() {
+        let o = word(pairs.words, p);
+        p = next_pair(pairs.words, p);
+        let later = Pairs {
+            words: pairs.words,
+            first: p,
+            count: left,
+        };
+        if has_output(later, o) {
             continue;
         }
-        if !output_head(x, depth, index, o, w, first, count, kinds, names, used, g) {
-            return false;
-        }
+        output_head(x, depth, index, o, pairs, scope, g)?;
     }
-    true
+    Ok(())
 }

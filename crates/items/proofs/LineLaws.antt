@@ -4,11 +4,11 @@
 use mathlib.Core.Path.{◌≡◌, refl, sym, ◌∙◌, ap, subst}
 use mathlib.Core.Bool.{Bool, true, false, true≢false}
 use mathlib.Core.List.Memᴰ
-use mathlib.Core.List.{List, [], append-nil}
+use mathlib.Core.List.{List, [], ◌++◌, append-nil}
 use Prim.Native.Nat.{ℕ, zero, suc, ◌+◌, ◌-◌, ◌≤◌, ◌<◌, min}
 use native.Mathlib.Omega.{arith}
-use lib.ListN.{length, get_or, set, replicate, length-set, get_or-eq_default}
-use lib.Seq.{get_or-set_same, get_or-set_other, set_out, sets, length-sets}
+use lib.ListN.{length, get_or, set, take, drop, replicate, length-set, length-take, length-replicate, get_or-eq_default}
+use lib.Seq.{get_or-set_same, get_or-set_other, set_out, sets, sets-eq, length-sets, take-append_seam}
 use lib.Dec.{eqb, ltb}
 use native.Mathlib.Decide.{ℕ_discrete}
 use borrow.Author.Tests.{ltb-true, ltb-false, eqb-true, eqb-false}
@@ -45,11 +45,6 @@ zeros_more l j (suc i) =
 zeros_next : (l : List ℕ) (i : ℕ) → set (sets l 0 (replicate i 0)) i 0 ≡ sets l 0 (replicate (suc i) 0)
 zeros_next l i = let e : i ≡ 0 + i = omega arith in ap (λ (n : ℕ). set (sets l 0 (replicate i 0)) n 0) e ∙ zeros_more l 0 i
 
-pub zeros_step : (l : List ℕ) (i : ℕ) {w : List ℕ} → w ≡ sets l 0 (replicate i 0) → set w i 0 ≡ sets l 0 (replicate (i + 1) 0)
-zeros_step l i e =
-    let z : suc i ≡ i + 1 = omega arith in
-    ap (λ (x : List ℕ). set x i 0) e ∙ zeros_next l i ∙ ap (λ (n : ℕ). sets l 0 (replicate n 0)) z
-
 -- past the end there is none
 zeros_past : (l : List ℕ) (i : ℕ) → length l ≤ i → (n k : ℕ) → n ≡ k + i → sets l 0 (replicate n 0) ≡ sets l 0 (replicate i 0)
 zeros_past l i h n zero e = let z : n ≡ i = omega arith in ap (λ (m : ℕ). sets l 0 (replicate m 0)) z
@@ -58,11 +53,26 @@ zeros_past l i h n (suc k) e =
     ap (λ (m : ℕ). sets l 0 (replicate m 0)) z ∙ sym (zeros_next l (k + i))
     ∙ set_out (sets l 0 (replicate (k + i) 0)) (k + i) 0 (omega (arith, length-sets l 0 (replicate (k + i) 0))) ∙ zeros_past l i h (k + i) k refl
 
-pub zeros_seven : (l : List ℕ) (i : ℕ) → i ≤ 7 → 7 ≤ i → {w : List ℕ} → w ≡ sets l 0 (replicate i 0) → w ≡ emptied l
-zeros_seven l i a b e = let z : i ≡ 7 = omega arith in e ∙ ap (λ (n : ℕ). sets l 0 (replicate n 0)) z
+-- the first n words filled with 0
+filled : (l : List ℕ) (n : ℕ) → n ≤ length l → replicate n 0 ++ drop n l ≡ sets l 0 (replicate n 0)
+filled l n h =
+    let e : length (replicate {A = ℕ} n 0) ≡ n = length-replicate n 0 in
+    let z : 0 + length (replicate {A = ℕ} n 0) ≡ n = omega (arith, e) in
+    sym (
+    sets-eq (replicate n 0) l 0 (omega (arith, e))
+    ∙ ap (λ (t : List ℕ). t ++ replicate n 0 ++ drop (0 + length (replicate {A = ℕ} n 0)) l) (take-append_seam [] l)
+    ∙ ap (λ (m : ℕ). replicate n 0 ++ drop m l) z
+    )
 
-pub zeros_short : (l : List ℕ) (i : ℕ) → i ≤ 7 → {w : List ℕ} → length w ≤ i → w ≡ sets l 0 (replicate i 0) → w ≡ emptied l
-zeros_short l i a h e = e ∙ sym (zeros_past l i (omega (arith, ap length e, length-sets l 0 (replicate i 0))) 7 (7 - i) (omega arith))
+-- the first seven, or all where there are fewer
+pub zeros_filled : (l : List ℕ) {n : ℕ} → n ≡ min (length l) 7 → {w : List ℕ} → w ≡ replicate (length (take n l)) 0 → w ++ drop n l ≡ emptied l
+zeros_filled l {n} q e =
+    ap (λ (w : List ℕ). w ++ drop n l) (e ∙ ap (λ (m : ℕ). replicate m 0) (let h : length (take n l) ≡ n = omega (arith, q, length-take n l) in h))
+    ∙ filled l n (omega (arith, q)) ∙ go (ltb (length l) 7) refl
+  where
+    go : (b : Bool) → ltb (length l) 7 ≡ b → sets l 0 (replicate n 0) ≡ emptied l
+    go true h = sym (zeros_past l n (omega (arith, q, ltb-true (length l) 7 h)) 7 (7 - n) (omega (arith, q)))
+    go false h = let z : n ≡ 7 = omega (arith, q, ltb-false (length l) 7 h) in ap (λ (m : ℕ). sets l 0 (replicate m 0)) z
 
 -- the counts are 0
 set_zero : (l : List ℕ) (n : ℕ) → get_or (set l n 0) n 0 ≡ 0

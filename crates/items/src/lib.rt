@@ -1,7 +1,7 @@
 // What a collected line adds to the tables of its module's own check.
 #![tactic(auto)]
 
-ghost use Rattle.std.specs.Prelude.{◌≡◌, true, length};
+ghost use Rattle.std.specs.Prelude.{◌≡◌, true, length, is_ok};
 ghost use Rattle.spec.specs.Bytes.{Bytes};
 ghost use Rattle.spec.specs.Decode.{decode_expr};
 ghost use Rattle.spec.specs.Value.{value};
@@ -10,11 +10,13 @@ ghost use Rattle.lines.specs.Parts.{piece};
 ghost use Rattle.sites.specs.Own.{places};
 ghost use Rattle.walk.specs.Walk.{no_own};
 ghost use Rattle.items.specs.Held.{Held};
+ghost use Rattle.edges.specs.Lines.{names_in};
 ghost use Rattle.edges.specs.Total.{parts_behind};
 ghost use Rattle.items.specs.Added.{OwnLeaves, port_added, reg_added, mem_added, output_driven, drive_added, set_added, default_added, stmt_added, all_added, on_added, line_added};
 ghost use Rattle.items.specs.Lines.{emptied, number_at, named_at, index_at, ExtentIs, says_outside, index_outside, SetAfter, DefaultAfter, StmtAfter, StmtsAfter, PortLine, RegLine, MemLine, DriveOutput, DriveLine, OnLine, OwnLine, drive_outside};
 
 use consteval::{Outside, Value};
+use edges::{Scope, Stop};
 use lines::{numbers, parts};
 use sites::{Extent, Full, Misuse, Site};
 
@@ -23,14 +25,8 @@ pub fn reset(own: &mut [u32])
     ensures own_after { own.new ≡ emptied own.old }
     ensures held { length own.old ≡ places → (text : Bytes) → Held text own.new no_own }
 {
-    let mut i: usize = 0;
-    while i < own.len() {
-        if 7 <= i {
-            return;
-        }
-        own[i] = 0;
-        i += 1;
-    }
+    let n = own.len().min(7);
+    own[..n].fill(0);
 }
 
 // The number behind the byte at `before`, up to `end`.
@@ -177,10 +173,10 @@ fn drive_output(
     names: &[u32],
     used: usize,
     own: &mut [u32],
-) -> bool
-    ensures drive_output { DriveOutput result lv.now l bound depth (names_of names.now used) own.old own.new }
+) -> Result<(), Stop>
+    ensures drive_output { DriveOutput (is_ok result) lv.now l bound depth (names_of names.now used) own.old own.new }
     ensures own_len_unchanged { length own.new ≡ length own.old }
-    ensures own_leaves { OwnLeaves result (output_driven lv.now l bound depth (names_of names.now used) own.old) own.new }
+    ensures own_leaves { OwnLeaves (is_ok result) (output_driven lv.now l bound depth (names_of names.now used) own.old) own.new }
 {
     let end = l.end;
     match lvalue_extent(lv, end, bound, depth, names, used) {
@@ -192,109 +188,101 @@ fn drive_output(
                 start: l.start,
             },
         ) {
-            Ok(()) => true,
+            Ok(()) => Ok(()),
             Err(Full) => {
                 sites::clear(own);
-                false
+                Err(Stop)
             }
         },
         Err(_) => {
             sites::clear(own);
-            false
+            Err(Stop)
         }
     }
 }
 
 // A driven name: a site of an output, or the misuse of a wire, a register or a memory.
-fn drive(
-    x: &[u8],
-    bound: bool,
-    depth: u32,
-    kinds: &[u8],
-    names: &[u32],
-    used: usize,
-    own: &mut [u32],
-) -> bool
-    ensures drive_line { DriveLine result x.now bound depth kinds.now (names_of names.now used) own.old own.new }
+fn drive(x: &[u8], bound: bool, depth: u32, scope: Scope<'_>, own: &mut [u32]) -> Result<(), Stop>
+    ensures drive_line { DriveLine (is_ok result) x.now bound depth scope.entry.kinds.now (names_in scope.entry) own.old own.new }
     ensures own_len_unchanged { length own.new ≡ length own.old }
-    ensures own_leaves { OwnLeaves result (drive_added x.now bound depth kinds.now (names_of names.now used) own.old) own.new }
+    ensures own_leaves { OwnLeaves (is_ok result) (drive_added x.now bound depth scope.entry.kinds.now (names_in scope.entry) own.old) own.new }
 {
     let lv = parts::between(x, 6, parts::part_end(x, 7));
     let l = named_at(lv, 3);
-    let k = parts::byte(kinds, l.name as usize);
+    let k = parts::byte(scope.kinds, l.name as usize);
     if k == 2 {
-        return drive_output(lv, l, bound, depth, names, used, own);
+        return drive_output(lv, l, bound, depth, scope.names, scope.used, own);
     }
     if k == 3 {
         sites::add_misuse(own, l.name, l.start, Misuse::Wire);
-        return true;
+        return Ok(());
     }
     if k == 4 {
         sites::add_misuse(own, l.name, l.start, Misuse::Reg);
-        return true;
+        return Ok(());
     }
     if k == 5 {
         sites::add_misuse(own, l.name, l.start, Misuse::Mem);
-        return true;
+        return Ok(());
     }
-    true
+    Ok(())
 }
 
 // `set`: a block of a register or a memory; an arrow to a wire or an output.
-fn set_stmt(s: &[u8], block: u32, kinds: &[u8], own: &mut [u32]) -> bool
-    ensures set_after { SetAfter result s.now block kinds.now own.old own.new }
+fn set_stmt(s: &[u8], block: u32, kinds: &[u8], own: &mut [u32]) -> Result<(), Stop>
+    ensures set_after { SetAfter (is_ok result) s.now block kinds.now own.old own.new }
     ensures own_len_unchanged { length own.new ≡ length own.old }
-    ensures own_leaves { OwnLeaves result (set_added block kinds.now s.now own.old) own.new }
+    ensures own_leaves { OwnLeaves (is_ok result) (set_added block kinds.now s.now own.old) own.new }
 {
     let l = named_at(s, 4);
     let k = parts::byte(kinds, l.name as usize);
     if k < 2 {
-        return true;
+        return Ok(());
     }
     if k < 4 {
         sites::add_misuse(own, l.name, l.start, Misuse::Arrow);
-        return true;
+        return Ok(());
     }
     if 5 < k {
-        return true;
+        return Ok(());
     }
     match sites::add_pair(own, l.name, block) {
-        Ok(()) => true,
+        Ok(()) => Ok(()),
         Err(Full) => {
             sites::clear(own);
-            false
+            Err(Stop)
         }
     }
 }
 
 // `default`: a block of a register.
-fn default_stmt(s: &[u8], block: u32, kinds: &[u8], own: &mut [u32]) -> bool
-    ensures default_after { DefaultAfter result s.now block kinds.now own.old own.new }
+fn default_stmt(s: &[u8], block: u32, kinds: &[u8], own: &mut [u32]) -> Result<(), Stop>
+    ensures default_after { DefaultAfter (is_ok result) s.now block kinds.now own.old own.new }
     ensures own_len_unchanged { length own.new ≡ length own.old }
-    ensures own_leaves { OwnLeaves result (default_added block kinds.now s.now own.old) own.new }
+    ensures own_leaves { OwnLeaves (is_ok result) (default_added block kinds.now s.now own.old) own.new }
 {
     let n = number(s, 8, parts::part_end(s, 9));
     if parts::byte(kinds, n as usize) != 4 {
-        return true;
+        return Ok(());
     }
     match sites::add_pair(own, n, block) {
-        Ok(()) => true,
+        Ok(()) => Ok(()),
         Err(Full) => {
             sites::clear(own);
-            false
+            Err(Stop)
         }
     }
 }
 
 // One statement of a block, by the first byte of its word.
 #[cycle(block_stmt_block_stmts)]
-fn block_stmt(s: &[u8], block: u32, depth: u32, kinds: &[u8], own: &mut [u32]) -> bool
-    ensures stmt_after { StmtAfter result s.now block depth kinds.now own.old own.new }
+fn block_stmt(s: &[u8], block: u32, depth: u32, kinds: &[u8], own: &mut [u32]) -> Result<(), Stop>
+    ensures stmt_after { StmtAfter (is_ok result) s.now block depth kinds.now own.old own.new }
     ensures own_len_unchanged { length own.new ≡ length own.old }
-    ensures own_leaves { OwnLeaves result (stmt_added block kinds.now depth s.now own.old) own.new }
+    ensures own_leaves { OwnLeaves (is_ok result) (stmt_added block kinds.now depth s.now own.old) own.new }
 {
     if depth == 0 {
-        return true;
+        return Ok(());
     }
     let c = parts::byte(s, 1);
     if c == b's' {
@@ -308,38 +296,41 @@ fn block_stmt(s: &[u8], block: u32, depth: u32, kinds: &[u8], own: &mut [u32]) -
     }
     let a = parts::part_end(s, 6);
     if !parts::more(s, a) {
-        return true;
+        return Ok(());
     }
-    if !block_stmts(parts::between(s, 5, a), 5, block, depth - 1, kinds, own) {
-        return false;
-    }
+    block_stmts(parts::between(s, 5, a), 5, block, depth - 1, kinds, own)?;
     let b = parts::part_end(s, a + 1);
     block_stmts(parts::between(s, a, b), 5, block, depth - 1, kinds, own)
 }
 
 // The statements behind the part that ends at `end`, in order.
 #[cycle(block_stmt_block_stmts)]
-fn block_stmts(s: &[u8], end: usize, block: u32, depth: u32, kinds: &[u8], own: &mut [u32]) -> bool
-    ensures stmts_after { StmtsAfter result s.now end block depth kinds.now own.old own.new }
+fn block_stmts(
+    s: &[u8],
+    end: usize,
+    block: u32,
+    depth: u32,
+    kinds: &[u8],
+    own: &mut [u32],
+) -> Result<(), Stop>
+    ensures stmts_after { StmtsAfter (is_ok result) s.now end block depth kinds.now own.old own.new }
     ensures own_len_unchanged { length own.new ≡ length own.old }
-    ensures own_leaves { OwnLeaves result (all_added (stmt_added block kinds.now depth) (parts_behind s.now end) own.old) own.new }
+    ensures own_leaves { OwnLeaves (is_ok result) (all_added (stmt_added block kinds.now depth) (parts_behind s.now end) own.old) own.new }
 {
     let mut e = end;
     while parts::more(s, e) {
         let a = parts::part_end(s, e + 1);
-        if !block_stmt(parts::between(s, e, a), block, depth, kinds, own) {
-            return false;
-        }
+        block_stmt(parts::between(s, e, a), block, depth, kinds, own)?;
         e = a;
     }
-    true
+    Ok(())
 }
 
 // The statements of an `on` line: pairs of name and block, and arrows to what is no register or memory.
-fn on_block(x: &[u8], depth: u32, kinds: &[u8], own: &mut [u32]) -> bool
-    ensures on_line { OnLine result x.now depth kinds.now own.old own.new }
+fn on_block(x: &[u8], depth: u32, kinds: &[u8], own: &mut [u32]) -> Result<(), Stop>
+    ensures on_line { OnLine (is_ok result) x.now depth kinds.now own.old own.new }
     ensures own_len_unchanged { length own.new ≡ length own.old }
-    ensures own_leaves { OwnLeaves result (on_added x.now depth kinds.now own.old) own.new }
+    ensures own_leaves { OwnLeaves (is_ok result) (on_added x.now depth kinds.now own.old) own.new }
 {
     let a = parts::part_end(x, 4);
     let block = number(x, 3, a);
@@ -354,50 +345,48 @@ pub fn own_line(
     base: u32,
     bound: bool,
     depth: u32,
-    kinds: &[u8],
-    names: &[u32],
-    used: usize,
+    scope: Scope<'_>,
     own: &mut [u32],
-) -> bool
-    ensures own_line { OwnLine result x.now base bound depth kinds.now (names_of names.now used) own.old own.new }
+) -> Result<(), Stop>
+    ensures own_line { OwnLine (is_ok result) x.now base bound depth scope.entry.kinds.now (names_in scope.entry) own.old own.new }
     ensures own_len_unchanged { length own.new ≡ length own.old }
-    ensures own_leaves { OwnLeaves result (line_added x.now base bound depth kinds.now (names_of names.now used) own.old) own.new }
+    ensures own_leaves { OwnLeaves (is_ok result) (line_added x.now base bound depth scope.entry.kinds.now (names_in scope.entry) own.old) own.new }
 {
     let c = parts::byte(x, 1);
     if c == b'd' {
-        return drive(x, bound, depth, kinds, names, used, own);
+        return drive(x, bound, depth, scope, own);
     }
     if c == b'o' {
-        return on_block(x, depth, kinds, own);
+        return on_block(x, depth, scope.kinds, own);
     }
     if c == b'p' {
         port_line(x, base, own);
-        return true;
+        return Ok(());
     }
     if c == b'r' {
         reg_line(x, own);
-        return true;
+        return Ok(());
     }
     if c == b'm' {
         mem_line(x, own);
-        return true;
+        return Ok(());
     }
-    true
+    Ok(())
 }
 
 // In a summary's walk, which has no own tables: whether the collected line x has a constant outside INT. Only the drive of an output
 // has constants.
-pub fn drive_outside(x: &[u8], depth: u32, kinds: &[u8], names: &[u32], used: usize) -> bool
-    ensures { result ≡ drive_outside x.now depth kinds.now (names_of names.now used) }
+pub fn drive_outside(x: &[u8], depth: u32, scope: Scope<'_>) -> bool
+    ensures { result ≡ drive_outside x.now depth scope.entry.kinds.now (names_in scope.entry) }
 {
     if parts::byte(x, 1) != b'd' {
         return false;
     }
     let lv = parts::between(x, 6, parts::part_end(x, 7));
     let l = named_at(lv, 3);
-    if parts::byte(kinds, l.name as usize) != 2 {
+    if parts::byte(scope.kinds, l.name as usize) != 2 {
         return false;
     }
     let end = l.end;
-    lvalue_extent(lv, end, true, depth, names, used).is_err()
+    lvalue_extent(lv, end, true, depth, scope.names, scope.used).is_err()
 }

@@ -15,7 +15,7 @@ abbrev pub decreases-collect_items : goal.decreases-collect_items
 decreases-collect_items l = l.pass.fuel * 256 + l.pass.depth * 4 + 6
 
 abbrev pub invariant-collect_items-loop-at : goal.invariant-collect_items-loop-at
-invariant-collect_items-loop-at l = On l.pass.fuel (mode l.pass.checking l.pass.bound) l.text l.kinds l.mods l.pass.count l.s l.base l.pass.depth l.ks l.initial.names l.pass.used l.left-2 l.initial.own l.initial.g l.initial.k l.at l.left l.names l.own l.g l.k
+invariant-collect_items-loop-at l = On l.pass.fuel (mode l.pass.checking l.pass.bound) l.source.text.now l.source.kinds.now l.source.mods.now l.source.count l.s l.base l.pass.depth l.ks l.initial.names l.pass.used l.left-2 l.initial.own l.initial.g l.initial.k l.at l.left l.names l.own l.g l.k
 
 abbrev pub decreases-collect_items-loop-at : goal.decreases-collect_items-loop-at
 decreases-collect_items-loop-at l = length l.s - l.at
@@ -36,7 +36,4 @@ abbrev pub decreases-repeat_rounds : goal.decreases-repeat_rounds
 decreases-repeat_rounds l = l.pass.fuel * 256 + l.pass.depth * 4 + 7
 
 abbrev pub invariant-repeat_rounds-loop-i : goal.invariant-repeat_rounds-loop-i
-invariant-repeat_rounds-loop-i l = Rounds l.pass.fuel (mode l.pass.checking l.pass.bound) l.text l.kinds l.mods l.pass.count l.s l.base l.pass.depth l.ks l.initial.names l.pass.used l.turn.name l.turn.low l.turn.rounds l.turn.left l.initial.own l.initial.g l.initial.k l.i l.left l.names l.own l.g l.k
-
-abbrev pub decreases-repeat_rounds-loop-i : goal.decreases-repeat_rounds-loop-i
-decreases-repeat_rounds-loop-i l = l.turn.rounds - l.i
+invariant-repeat_rounds-loop-i l = Rounds l.pass.fuel (mode l.pass.checking l.pass.bound) l.source.text.now l.source.kinds.now l.source.mods.now l.source.count l.s l.base l.pass.depth l.ks l.initial.names l.pass.used l.turn.name l.turn.low l.turn.rounds l.turn.left l.initial.own l.initial.g l.initial.k l.i l.left l.names l.own l.g l.k

@@ -1,6 +1,6 @@
 use Rattle.consteval.specs.Worth.{names_of}
 use Rattle.graph.specs.declared.Node.TheVariants as nodes
-use mathlib.Core.Path.{refl}
+use mathlib.Core.Path.{refl, ap}
 use native.Mathlib.Omega.{arith}
 use Prim.Native.Nat.{◌-◌}
 use mathlib.Core.Bool.{false}
@@ -10,31 +10,33 @@ use Rattle.spec.specs.Edge.{and_reads}
 use Rattle.edges.specs.Total.{parts_behind, reads_in_order, expr_read, drive_reads}
 use Rattle.edges.proofs.TotalLaws.{drive_reads_here}
 use Rattle.edges.proofs.LeaveLaws.{reads_stop, reads_both, head_full, head_reads, drive_stays, drive_leaves}
+use Rattle.std.specs.Prelude.{is_ok}
+use Rattle.std.proofs.lemmas.Result.{err_from_is_err_and}
 use Rattle.edges.proofs.drive_heads.Goals as goal
 
 pub returns-then-kind-lt2-clause-drive_leaves : goal.returns-then-kind-lt2-clause-drive_leaves
-returns-then-kind-lt2-clause-drive_leaves c = drive_stays c.args.x.now c.next_end-a.ensures c.between-lv.ensures c.next_end-b.ensures c.number_at-n.ensures c.args.kinds.now c.byte-kind.ensures c.args.depth (names_of c.args.names.now c.args.used) c.args.g.now (inl c.if-kind-lt2.true)
+returns-then-kind-lt2-clause-drive_leaves c = drive_stays c.args.x.now c.next_end-a.ensures c.between-lv.ensures c.next_end-b.ensures c.number_at-n.ensures c.args.scope.kinds.now c.byte-kind.ensures c.args.depth (names_of c.args.scope.names.now c.args.scope.used) c.args.g.now (inl c.if-kind-lt2.true)
 
 pub returns-then-kind-lt2-clause-drive_heads : goal.returns-then-kind-lt2-clause-drive_heads
-returns-then-kind-lt2-clause-drive_heads c = drive_low c.args.x.now c.args.depth c.next_end-a.ensures c.between-lv.ensures c.next_end-b.ensures c.number_at-n.ensures c.args.kinds.now c.byte-kind.ensures (names_of c.args.names.now c.args.used) c.args.g.now c.if-kind-lt2.true
+returns-then-kind-lt2-clause-drive_heads c = drive_low c.args.x.now c.args.depth c.next_end-a.ensures c.between-lv.ensures c.next_end-b.ensures c.number_at-n.ensures c.args.scope.kinds.now c.byte-kind.ensures (names_of c.args.scope.names.now c.args.scope.used) c.args.g.now c.if-kind-lt2.true
 
 pub returns-then-kind-gt3-clause-drive_heads : goal.returns-then-kind-gt3-clause-drive_heads
-returns-then-kind-gt3-clause-drive_heads c = drive_high c.args.x.now c.args.depth c.next_end-a.ensures c.between-lv.ensures c.next_end-b.ensures c.number_at-n.ensures c.args.kinds.now c.byte-kind.ensures (names_of c.args.names.now c.args.used) c.args.g.now c.if-kind-gt3.true
+returns-then-kind-gt3-clause-drive_heads c = drive_high c.args.x.now c.args.depth c.next_end-a.ensures c.between-lv.ensures c.next_end-b.ensures c.number_at-n.ensures c.args.scope.kinds.now c.byte-kind.ensures (names_of c.args.scope.names.now c.args.scope.used) c.args.g.now c.if-kind-gt3.true
 
-pub returns-then-not-expr_reads-clause-drive_leaves : goal.returns-then-not-expr_reads-clause-drive_leaves
-returns-then-not-expr_reads-clause-drive_leaves c = drive_leaves c.args.x.now c.next_end-a.ensures c.between-lv.ensures c.next_end-b.ensures c.number_at-n.ensures c.args.kinds.now c.byte-kind.ensures c.args.depth (names_of c.args.names.now c.args.used) c.args.g.now c.if-kind-lt2.false (omega arith) c.next_end-c.ensures c.number_at-start.ensures (drive_reads_here c.args.kinds.now (names_of c.args.names.now c.args.used) c.args.depth c.args.x.now c.next_end-a.ensures c.between-lv.ensures c.next_end-b.ensures c.next_end-c.ensures c.next_end.ensures c.between-e.ensures c.under.ensures refl) false _ (head_reads (and_reads (expr_read c.args.kinds.now (names_of c.args.names.now c.args.used) c.under.result c.between-e.result.now) (reads_in_order (expr_read c.args.kinds.now (names_of c.args.names.now c.args.used) (c.args.depth - 2)) (parts_behind c.between-lv.result.now c.next_end-c.result))) c.args.g.now (nodes.Signal c.number_at-n.result) c.number_at-start.result c.head.result c.head.new.g c.head.ensures.head_leaves c.in-Ok.is c.head.auto.g false _ (reads_stop c.in-Ok.i c.head.new.g (expr_read c.args.kinds.now (names_of c.args.names.now c.args.used) c.under.result c.between-e.result.now) (reads_in_order (expr_read c.args.kinds.now (names_of c.args.names.now c.args.used) (c.args.depth - 2)) (parts_behind c.between-lv.result.now c.next_end-c.result)) _ c.expr_reads.result c.if-not-expr_reads.true c.expr_reads.ensures.reads_or_cleared))
+pub returns-in_err-expr_reads-in-Ok-clause-drive_leaves : goal.returns-in_err-expr_reads-in-Ok-clause-drive_leaves
+returns-in_err-expr_reads-in-Ok-clause-drive_leaves c = rw (err_from_is_err_and c.from_residual.result c.from_residual.ensures.1).1 (drive_leaves c.args.x.now c.next_end-a.ensures c.between-lv.ensures c.next_end-b.ensures c.number_at-n.ensures c.args.scope.kinds.now c.byte-kind.ensures c.args.depth (names_of c.args.scope.names.now c.args.scope.used) c.args.g.now c.if-kind-lt2.false (omega arith) c.next_end-c.ensures c.number_at-start.ensures (drive_reads_here c.args.scope.kinds.now (names_of c.args.scope.names.now c.args.scope.used) c.args.depth c.args.x.now c.next_end-a.ensures c.between-lv.ensures c.next_end-b.ensures c.next_end-c.ensures c.next_end.ensures c.between-e.ensures c.under.ensures refl) false _ (head_reads (and_reads (expr_read c.args.scope.kinds.now (names_of c.args.scope.names.now c.args.scope.used) c.under.result c.between-e.result.now) (reads_in_order (expr_read c.args.scope.kinds.now (names_of c.args.scope.names.now c.args.scope.used) (c.args.depth - 2)) (parts_behind c.between-lv.result.now c.next_end-c.result))) c.args.g.now (nodes.Signal c.number_at-n.result) c.number_at-start.result c.head.result c.head.new.g c.head.ensures.head_leaves c.in-Ok.is c.head.auto.g false _ (reads_stop c.in-Ok.i c.head.new.g (expr_read c.args.scope.kinds.now (names_of c.args.scope.names.now c.args.scope.used) c.under.result c.between-e.result.now) (reads_in_order (expr_read c.args.scope.kinds.now (names_of c.args.scope.names.now c.args.scope.used) (c.args.depth - 2)) (parts_behind c.between-lv.result.now c.next_end-c.result)) _ (is_ok c.expr_reads.result) (ap is_ok c.in_err-expr_reads-in-Ok.was) c.expr_reads.ensures.reads_or_cleared)))
 
-pub returns-then-not-expr_reads-clause-drive_heads : goal.returns-then-not-expr_reads-clause-drive_heads
-returns-then-not-expr_reads-clause-drive_heads c = drive_stop c.args.x.now c.args.depth c.next_end-a.ensures c.between-lv.ensures c.next_end-b.ensures c.number_at-n.ensures c.args.kinds.now c.byte-kind.ensures (names_of c.args.names.now c.args.used) c.args.g.now c.if-kind-lt2.false (omega arith) c.next_end-c.ensures c.number_at-start.ensures c.head.result _ c.head.ensures.headed c.in-Ok.is c.next_end.ensures c.between-e.ensures c.under.ensures c.expr_reads.result _ c.expr_reads.ensures.expr_read c.if-not-expr_reads.true
+pub returns-in_err-expr_reads-in-Ok-clause-drive_heads : goal.returns-in_err-expr_reads-in-Ok-clause-drive_heads
+returns-in_err-expr_reads-in-Ok-clause-drive_heads c = rw (err_from_is_err_and c.from_residual.result c.from_residual.ensures.1).1 (drive_stop c.args.x.now c.args.depth c.next_end-a.ensures c.between-lv.ensures c.next_end-b.ensures c.number_at-n.ensures c.args.scope.kinds.now c.byte-kind.ensures (names_of c.args.scope.names.now c.args.scope.used) c.args.g.now c.if-kind-lt2.false (omega arith) c.next_end-c.ensures c.number_at-start.ensures c.head.result _ c.head.ensures.headed c.in-Ok.is c.next_end.ensures c.between-e.ensures c.under.ensures (is_ok c.expr_reads.result) _ c.expr_reads.ensures.expr_read (ap is_ok c.in_err-expr_reads-in-Ok.was))
 
-pub returns-else-not-expr_reads-clause-drive_leaves : goal.returns-else-not-expr_reads-clause-drive_leaves
-returns-else-not-expr_reads-clause-drive_leaves c = drive_leaves c.args.x.now c.next_end-a.ensures c.between-lv.ensures c.next_end-b.ensures c.number_at-n.ensures c.args.kinds.now c.byte-kind.ensures c.args.depth (names_of c.args.names.now c.args.used) c.args.g.now c.if-kind-lt2.false (omega arith) c.next_end-c.ensures c.number_at-start.ensures (drive_reads_here c.args.kinds.now (names_of c.args.names.now c.args.used) c.args.depth c.args.x.now c.next_end-a.ensures c.between-lv.ensures c.next_end-b.ensures c.next_end-c.ensures c.next_end.ensures c.between-e.ensures c.under.ensures c.under-in-Ok.ensures) c.parts_read.result _ (head_reads (and_reads (expr_read c.args.kinds.now (names_of c.args.names.now c.args.used) c.under.result c.between-e.result.now) (reads_in_order (expr_read c.args.kinds.now (names_of c.args.names.now c.args.used) c.under-in-Ok.result) (parts_behind c.between-lv.result.now c.next_end-c.result))) c.args.g.now (nodes.Signal c.number_at-n.result) c.number_at-start.result c.head.result c.head.new.g c.head.ensures.head_leaves c.in-Ok.is c.head.auto.g c.parts_read.result _ (reads_both c.in-Ok.i c.head.new.g (expr_read c.args.kinds.now (names_of c.args.names.now c.args.used) c.under.result c.between-e.result.now) (reads_in_order (expr_read c.args.kinds.now (names_of c.args.names.now c.args.used) c.under-in-Ok.result) (parts_behind c.between-lv.result.now c.next_end-c.result)) c.expr_reads.new.g c.expr_reads.auto.g c.expr_reads.result c.if-not-expr_reads.false c.expr_reads.ensures.reads_or_cleared c.parts_read.result _ c.parts_read.ensures.reads_or_cleared))
+pub returns-in_ok-expr_reads-in-Ok-clause-drive_leaves : goal.returns-in_ok-expr_reads-in-Ok-clause-drive_leaves
+returns-in_ok-expr_reads-in-Ok-clause-drive_leaves c = drive_leaves c.args.x.now c.next_end-a.ensures c.between-lv.ensures c.next_end-b.ensures c.number_at-n.ensures c.args.scope.kinds.now c.byte-kind.ensures c.args.depth (names_of c.args.scope.names.now c.args.scope.used) c.args.g.now c.if-kind-lt2.false (omega arith) c.next_end-c.ensures c.number_at-start.ensures (drive_reads_here c.args.scope.kinds.now (names_of c.args.scope.names.now c.args.scope.used) c.args.depth c.args.x.now c.next_end-a.ensures c.between-lv.ensures c.next_end-b.ensures c.next_end-c.ensures c.next_end.ensures c.between-e.ensures c.under.ensures c.under-in-Ok.ensures) (is_ok c.parts_read.result) _ (head_reads (and_reads (expr_read c.args.scope.kinds.now (names_of c.args.scope.names.now c.args.scope.used) c.under.result c.between-e.result.now) (reads_in_order (expr_read c.args.scope.kinds.now (names_of c.args.scope.names.now c.args.scope.used) c.under-in-Ok.result) (parts_behind c.between-lv.result.now c.next_end-c.result))) c.args.g.now (nodes.Signal c.number_at-n.result) c.number_at-start.result c.head.result c.head.new.g c.head.ensures.head_leaves c.in-Ok.is c.head.auto.g (is_ok c.parts_read.result) _ (reads_both c.in-Ok.i c.head.new.g (expr_read c.args.scope.kinds.now (names_of c.args.scope.names.now c.args.scope.used) c.under.result c.between-e.result.now) (reads_in_order (expr_read c.args.scope.kinds.now (names_of c.args.scope.names.now c.args.scope.used) c.under-in-Ok.result) (parts_behind c.between-lv.result.now c.next_end-c.result)) c.expr_reads.new.g c.expr_reads.auto.g (is_ok c.expr_reads.result) (ap is_ok c.in_ok-expr_reads-in-Ok.was) c.expr_reads.ensures.reads_or_cleared (is_ok c.parts_read.result) _ c.parts_read.ensures.reads_or_cleared))
 
-pub returns-else-not-expr_reads-clause-drive_heads : goal.returns-else-not-expr_reads-clause-drive_heads
-returns-else-not-expr_reads-clause-drive_heads c = drive_then c.args.x.now c.args.depth c.next_end-a.ensures c.between-lv.ensures c.next_end-b.ensures c.number_at-n.ensures c.args.kinds.now c.byte-kind.ensures (names_of c.args.names.now c.args.used) c.args.g.now c.if-kind-lt2.false (omega arith) c.next_end-c.ensures c.number_at-start.ensures c.head.result _ c.head.ensures.headed c.in-Ok.is c.next_end.ensures c.between-e.ensures c.under.ensures c.expr_reads.result _ c.expr_reads.ensures.expr_read c.if-not-expr_reads.false c.under-in-Ok.ensures c.parts_read.result _ c.parts_read.ensures.parts_read
+pub returns-in_ok-expr_reads-in-Ok-clause-drive_heads : goal.returns-in_ok-expr_reads-in-Ok-clause-drive_heads
+returns-in_ok-expr_reads-in-Ok-clause-drive_heads c = drive_then c.args.x.now c.args.depth c.next_end-a.ensures c.between-lv.ensures c.next_end-b.ensures c.number_at-n.ensures c.args.scope.kinds.now c.byte-kind.ensures (names_of c.args.scope.names.now c.args.scope.used) c.args.g.now c.if-kind-lt2.false (omega arith) c.next_end-c.ensures c.number_at-start.ensures c.head.result _ c.head.ensures.headed c.in-Ok.is c.next_end.ensures c.between-e.ensures c.under.ensures (is_ok c.expr_reads.result) _ c.expr_reads.ensures.expr_read (ap is_ok c.in_ok-expr_reads-in-Ok.was) c.under-in-Ok.ensures (is_ok c.parts_read.result) _ c.parts_read.ensures.parts_read
 
 pub returns-in-Err-clause-drive_leaves : goal.returns-in-Err-clause-drive_leaves
-returns-in-Err-clause-drive_leaves c = drive_leaves c.args.x.now c.next_end-a.ensures c.between-lv.ensures c.next_end-b.ensures c.number_at-n.ensures c.args.kinds.now c.byte-kind.ensures c.args.depth (names_of c.args.names.now c.args.used) c.args.g.now c.if-kind-lt2.false (omega arith) c.next_end-c.ensures c.number_at-start.ensures refl false _ (head_full (drive_reads c.args.kinds.now (names_of c.args.names.now c.args.used) c.args.depth c.args.x.now) c.args.g.now (nodes.Signal c.number_at-n.result) c.number_at-start.result c.head.result c.head.new.g c.head.ensures.head_leaves c.in-Err.is)
+returns-in-Err-clause-drive_leaves c = drive_leaves c.args.x.now c.next_end-a.ensures c.between-lv.ensures c.next_end-b.ensures c.number_at-n.ensures c.args.scope.kinds.now c.byte-kind.ensures c.args.depth (names_of c.args.scope.names.now c.args.scope.used) c.args.g.now c.if-kind-lt2.false (omega arith) c.next_end-c.ensures c.number_at-start.ensures refl false _ (head_full (drive_reads c.args.scope.kinds.now (names_of c.args.scope.names.now c.args.scope.used) c.args.depth c.args.x.now) c.args.g.now (nodes.Signal c.number_at-n.result) c.number_at-start.result c.head.result c.head.new.g c.head.ensures.head_leaves c.in-Err.is)
 
 pub returns-in-Err-clause-drive_heads : goal.returns-in-Err-clause-drive_heads
-returns-in-Err-clause-drive_heads c = drive_full c.args.x.now c.args.depth c.next_end-a.ensures c.between-lv.ensures c.next_end-b.ensures c.number_at-n.ensures c.args.kinds.now c.byte-kind.ensures (names_of c.args.names.now c.args.used) c.args.g.now c.if-kind-lt2.false (omega arith) c.next_end-c.ensures c.number_at-start.ensures c.head.result _ c.head.ensures.headed c.in-Err.is
+returns-in-Err-clause-drive_heads c = drive_full c.args.x.now c.args.depth c.next_end-a.ensures c.between-lv.ensures c.next_end-b.ensures c.number_at-n.ensures c.args.scope.kinds.now c.byte-kind.ensures (names_of c.args.scope.names.now c.args.scope.used) c.args.g.now c.if-kind-lt2.false (omega arith) c.next_end-c.ensures c.number_at-start.ensures c.head.result _ c.head.ensures.headed c.in-Err.is

@@ -11,7 +11,4 @@ use Rattle.edges.proofs.OutputLaws.{OutputsHead}
 use Rattle.edges.proofs.inst_heads.Given as goal
 
 abbrev pub invariant-loop-left : goal.invariant-loop-left
-invariant-loop-left l = ((length l.g ≡ length l.initial.g) × ((r : Bool) (g' : List ℕ) → OutputsOrCleared r (inst_reads l.kinds (names_of l.names l.used) (summary_at l.w l.first l.count) l.depth l.x) (outputs_in (summary_at l.w l.p l.left)) (worth l.index) l.x l.g g' → OutputsOrCleared r (inst_reads l.kinds (names_of l.names l.used) (summary_at l.w l.first l.count) l.depth l.x) (outputs_in (summary_at l.w l.first l.count)) (worth l.index) l.x l.initial.g g')) × ((r : Bool) (g' : List ℕ) → OutputsHead r (worth l.index) (summary_at l.w l.first l.count) (summary_at l.w l.p l.left) l.x l.depth l.kinds (names_of l.names l.used) l.g g' → InstHeads r (worth l.index) (summary_at l.w l.first l.count) l.x l.depth l.kinds (names_of l.names l.used) l.initial.g g')
-
-abbrev pub decreases-loop-left : goal.decreases-loop-left
-decreases-loop-left l = l.left
+invariant-loop-left l = ((length l.g ≡ length l.initial.g) × ((r : Bool) (g' : List ℕ) → OutputsOrCleared r (inst_reads l.scope.kinds.now (names_of l.scope.names.now l.scope.used) (summary_at l.pairs.words.now l.pairs.first l.pairs.count) l.depth l.x) (outputs_in (summary_at l.pairs.words.now l.p l.left)) (worth l.index) l.x l.g g' → OutputsOrCleared r (inst_reads l.scope.kinds.now (names_of l.scope.names.now l.scope.used) (summary_at l.pairs.words.now l.pairs.first l.pairs.count) l.depth l.x) (outputs_in (summary_at l.pairs.words.now l.pairs.first l.pairs.count)) (worth l.index) l.x l.initial.g g')) × ((r : Bool) (g' : List ℕ) → OutputsHead r (worth l.index) (summary_at l.pairs.words.now l.pairs.first l.pairs.count) (summary_at l.pairs.words.now l.p l.left) l.x l.depth l.scope.kinds.now (names_of l.scope.names.now l.scope.used) l.g g' → InstHeads r (worth l.index) (summary_at l.pairs.words.now l.pairs.first l.pairs.count) l.x l.depth l.scope.kinds.now (names_of l.scope.names.now l.scope.used) l.initial.g g')

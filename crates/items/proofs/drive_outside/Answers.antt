@@ -4,10 +4,10 @@ use Rattle.items.proofs.DriveLaws.{no_drive, other_kind, output_kind, says_err}
 use Rattle.items.proofs.drive_outside.Goals as goal
 
 pub returns-then-byte-ne100 : goal.returns-then-byte-ne100
-returns-then-byte-ne100 c = no_drive c.args.x.now c.args.depth c.args.kinds.now (names_of c.args.names.now c.args.used) (λ e. c.if-byte-ne100.true (c.byte.ensures ∙ e))
+returns-then-byte-ne100 c = no_drive c.args.x.now c.args.depth c.args.scope.kinds.now (names_of c.args.scope.names.now c.args.scope.used) (λ e. c.if-byte-ne100.true (c.byte.ensures ∙ e))
 
 pub returns-then-byte-ne2 : goal.returns-then-byte-ne2
-returns-then-byte-ne2 c = other_kind c.args.x.now c.args.depth c.args.kinds.now (names_of c.args.names.now c.args.used) (sym c.byte.ensures ∙ c.if-byte-ne100.false) c.part_end.ensures c.between-lv.ensures c.named_at-l.result c.named_at-l.ensures c.byte-2.ensures c.if-byte-ne2.true
+returns-then-byte-ne2 c = other_kind c.args.x.now c.args.depth c.args.scope.kinds.now (names_of c.args.scope.names.now c.args.scope.used) (sym c.byte.ensures ∙ c.if-byte-ne100.false) c.part_end.ensures c.between-lv.ensures c.named_at-l.result c.named_at-l.ensures c.byte-2.ensures c.if-byte-ne2.true
 
 pub returns : goal.returns
-returns c = output_kind c.args.x.now c.args.depth c.args.kinds.now (names_of c.args.names.now c.args.used) (sym c.byte.ensures ∙ c.if-byte-ne100.false) c.part_end.ensures c.between-lv.ensures c.named_at-l.result c.named_at-l.ensures c.byte-2.ensures c.if-byte-ne2.false c.lvalue_extent.result c.lvalue_extent.ensures.result_value _ (says_err c.lvalue_extent.result ∙ sym c.is_err.ensures.value)
+returns c = output_kind c.args.x.now c.args.depth c.args.scope.kinds.now (names_of c.args.scope.names.now c.args.scope.used) (sym c.byte.ensures ∙ c.if-byte-ne100.false) c.part_end.ensures c.between-lv.ensures c.named_at-l.result c.named_at-l.ensures c.byte-2.ensures c.if-byte-ne2.false c.lvalue_extent.result c.lvalue_extent.ensures.result_value _ (says_err c.lvalue_extent.result ∙ sym c.is_err.ensures.value)
