@@ -33,7 +33,7 @@ use Rattle.graph.specs.Cycles.{work_places}
 use Rattle.drivers.specs.Check.{Enough, Tallied, first_place, answer_of, answer_for, accepted, lent_places, slices, exit_of}
 use Rattle.drivers.specs.declared.emit.Place.{Place}
 use Rattle.drivers.specs.declared.check.Checked.{Checked}
-use Rattle.drivers.specs.declared.check.Stop.{Stop}
+use Rattle.edges.specs.declared.Stop.{Stop}
 use Rattle.drivers.specs.declared.check.Accepted.{Accepted}
 use Rattle.drivers.specs.declared.check.Refusal.{Refusal}
 use Rattle.std.specs.Prelude.{Result, Ok, Err, IsErrAnd}

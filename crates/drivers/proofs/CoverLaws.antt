@@ -33,7 +33,7 @@ use Rattle.sites.proofs.Reports.{output_poisoned, output_never, output_open, ran
 use Rattle.items.specs.Held.{PortIs, Ports}
 use Rattle.items.proofs.Places.{part_follows}
 use Rattle.drivers.specs.declared.emit.Place.{Place}
-use Rattle.drivers.specs.declared.groups.Outside.{Outside}
+use Rattle.consteval.specs.declared.Outside.{Outside}
 use Rattle.drivers.specs.Emits.{Emits}
 use Rattle.drivers.specs.Groups.{Reported}
 use Rattle.drivers.proofs.EmitLaws.{emitting_start, emitting_then, emitting_end, appended_within, Emitting}

@@ -18,7 +18,7 @@ use Rattle.sites.proofs.Reports.{conflicts_after}
 use Rattle.walk.specs.Walk.{Own, poison, own_reports}
 use Rattle.items.specs.Held.{Ports, Held}
 use Rattle.drivers.specs.declared.emit.Place.{Place}
-use Rattle.drivers.specs.declared.groups.Outside.{Outside}
+use Rattle.consteval.specs.declared.Outside.{Outside}
 use Rattle.std.specs.Prelude.{Result, Ok, Err, IsErr}
 use Rattle.drivers.proofs.Handed.{handed_on}
 use Rattle.drivers.specs.Emits.{Emits}

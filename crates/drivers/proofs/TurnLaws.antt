@@ -20,7 +20,7 @@ use Rattle.drivers.specs.Emits.{Emits}
 use Rattle.drivers.specs.Check.{Enough, Checking, Tallied, FewRounds, first_place}
 use Rattle.drivers.specs.declared.emit.Place.{Place}
 use Rattle.drivers.specs.declared.check.Checked.{Checked}
-use Rattle.drivers.specs.declared.check.Stop.{Stop}
+use Rattle.edges.specs.declared.Stop.{Stop}
 use Rattle.std.specs.Prelude.{Result, Ok, Err, IsErr}
 use Rattle.drivers.proofs.Handed.{handed_on}
 use Rattle.drivers.proofs.EmitLaws.{appended_within, emit_none, emit_then}

@@ -20,7 +20,7 @@ use Rattle.collect.specs.Cycle.{Tabled}
 use Rattle.drivers.specs.Emits.{Within, Emits}
 use Rattle.drivers.specs.declared.emit.Place.{Place}
 use Rattle.drivers.specs.declared.check.Checked.{Checked}
-use Rattle.drivers.specs.declared.check.Stop.{Stop}
+use Rattle.edges.specs.declared.Stop.{Stop}
 use Rattle.drivers.specs.declared.check.Accepted.{Accepted}
 use Rattle.drivers.specs.declared.check.Refusal.{Refusal}
 use Rattle.drivers.specs.declared.check.Answer.{Answer}

@@ -11,7 +11,7 @@ use Rattle.report.specs.declared.Detail.TheVariants as details
 use Rattle.sites.specs.declared.Blocks.{Blocks}
 use Rattle.sites.specs.declared.Blocks.TheVariants as blocks
 use Rattle.sites.specs.Own.{Own, Table, reg_table, mem_table}
-use Rattle.drivers.specs.declared.groups.Outside.{Outside}
+use Rattle.consteval.specs.declared.Outside.{Outside}
 use Rattle.drivers.specs.declared.groups.Storage.{Storage}
 use Rattle.drivers.specs.declared.groups.Storage.TheVariants as storage
 use Rattle.drivers.specs.Emits.{Within, Emits}
