@@ -1,7 +1,7 @@
 -- What collecting a module in its own check needs, and what it leaves. 01: Refused because of the text; Refused because of the state; The value; The
 -- collected item; The site; The block; The edge; Worthless checks.
 -- To a reader: definitions that the contracts of this crate cite; each such contract is proved; check_drivers' own promise cites none of them.
-use Rattle.std.specs.Prelude.{◌≡◌, true, false, List, [], ℕ, ◌+◌, ◌/◌, ◌≤◌, length}
+use Rattle.std.specs.Prelude.{◌≡◌, true, false, List, [], ℕ, ◌+◌, ◌/◌, ◌≤◌, length, Ok}
 use Rattle.std.proofs.Math.Option.{some}
 use Rattle.std.proofs.Math.ListN.{get_elem?}
 use Rattle.spec.specs.Syntax.{Module}
@@ -16,7 +16,6 @@ use Rattle.graph.specs.Cycles as graphs
 use Rattle.sites.specs.Own.{places}
 use Rattle.walk.specs.Walk.{Got, full, going, Walked, walked, State, no_own}
 use Rattle.steps.specs.Modules.{name_places, named_by, table_by}
-use Rattle.steps.specs.declared.modules.Named.TheVariants as named
 use Rattle.items.specs.Held.{Held}
 use Rattle.items.specs.Lines.{emptied}
 use Rattle.summary.specs.Keeps.{Keeps}
@@ -64,7 +63,7 @@ Collects r text names own g k x y =
 -- gives; else every place is 0
 abbrev pub NamesAfter : Collected → (text mods : List ℕ) → ℕ → (names names' : List ℕ) → Type 0
 NamesAfter r text mods m names names' =
-    ByNumber (number_of r) ((named_by text mods m names ≡ named.Used (used_of r)) × Framed (used_of r) (table_by text mods m names) names') (Cleared names')
+    ByNumber (number_of r) ((named_by text mods m names ≡ Ok (used_of r)) × Framed (used_of r) (table_by text mods m names) names') (Cleared names')
 
 -- 01, Refused because of the text: 1 over 32,768 bytes, 7 a 33rd module: an answer of 0 is only given of at most 32,768 bytes and 32 modules
 abbrev pub Walkable : (number : ℕ) → (text : List ℕ) → (count : ℕ) → Type 0

@@ -20,8 +20,7 @@ ghost use Rattle.collect.specs.Cycle.{walk_number, Mode, World, Given, Single, O
 
 use consteval::names;
 use lines::parts;
-use steps::modules::Named;
-use steps::{Chosen, Head, Times, modules};
+use steps::{Head, Times, modules};
 use summary::State;
 
 // What collecting a module gives: a limit is passed or a constant is outside INT; else how many names its table has, and the rounds left.
@@ -199,13 +198,15 @@ fn repeat_items(
     let mut deep = pass;
     deep.depth = pass.depth - 1;
     match steps::times_of(x, pass.depth, names, pass.used, left) {
-        Times::Outside => {
+        Err(_) => {
             places::clear_tables(own, g, k);
             Walked::Full
         }
-        Times::Never => Walked::Left(left),
-        Times::Once => collect_items(text, kinds, mods, s, base, deep, left, ks, names, own, g, k),
-        Times::Rounds(n, low, rounds) => {
+        Ok(Times::Never) => Walked::Left(left),
+        Ok(Times::Once) => collect_items(
+            text, kinds, mods, s, base, deep, left, ks, names, own, g, k,
+        ),
+        Ok(Times::Rounds(n, low, rounds)) => {
             if left < rounds {
                 places::clear_tables(own, g, k);
                 return Walked::Full;
@@ -299,17 +300,17 @@ fn branch_items(
         return Walked::Full;
     }
     match steps::branch_of(x, pass.depth, names, pass.used) {
-        Chosen::Outside => {
+        Err(_) => {
             places::clear_tables(own, g, k);
             Walked::Full
         }
-        Chosen::Run(a, b) => {
-            if x.len() <= a {
+        Ok(run) => {
+            if x.len() <= run.before {
                 places::clear_tables(own, g, k);
                 return Walked::Full;
             }
-            let s = parts::between(x, a, b);
-            let base = from + a as u32 + 1;
+            let s = parts::between(x, run.before, run.end);
+            let base = from + run.before as u32 + 1;
             let mut deep = pass;
             deep.depth = pass.depth - 2;
             collect_items(text, kinds, mods, s, base, deep, left, ks, names, own, g, k)
@@ -338,7 +339,7 @@ fn inst_edges(
     ensures edges_leave { EdgesLeave result g.old g.new k.old k.new }
 {
     let index = edges::inst_index(x, pass.depth, names, pass.used);
-    if places::is_outside(index) {
+    if index.is_err() {
         graph::clear(g);
         graph::clear(k);
         return false;
@@ -397,7 +398,7 @@ fn make_summary(text: &[u8], kinds: &[u8], mods: &[u32], m: u32, pass: Pass, k: 
         return Asked::Full;
     }
     let mut names = [0u32; 6616];
-    let Named::Used(used) = modules::names_of_module(text, mods, m, &mut names) else {
+    let Ok(used) = modules::names_of_module(text, mods, m, &mut names) else {
         graph::clear(k);
         return Asked::Full;
     };
@@ -501,12 +502,12 @@ pub fn collect_module(
         names.new own.new g.new k.new }
 {
     match modules::names_of_module(text, mods, m, names) {
-        Named::Outside => {
+        Err(_) => {
             graph::clear(names);
             places::clear_tables(own, g, k);
             Collected::Full
         }
-        Named::Used(used) => {
+        Ok(used) => {
             items::reset(own);
             graph::reset(g);
             match walk_module(text, kinds, mods, count, m, names, used, own, g, k) {
