@@ -114,11 +114,11 @@ fn width_of(t: &[u8], names: &[u32], used: usize) -> Value
         return arith::truth(true);
     }
     if !is_open(c) {
-        return Value::Missing;
+        return Ok(None);
     }
     let h = parts::part_end(t, 1);
     if !parts::more(t, h) {
-        return Value::Missing;
+        return Ok(None);
     }
     let e = parts::part_end(t, h + 1);
     consteval::eval(parts::between(t, h, e), 31, names, used)
@@ -130,10 +130,10 @@ fn width_at(text: &[u8], from: usize, to: usize, names: &[u32], used: usize) -> 
         → width_depth x ≤ depth_limit → worth result ≡ width_value (names_of names.now used) x }
 {
     if to < from {
-        return Value::Missing;
+        return Ok(None);
     }
     if text.len() < to {
-        return Value::Missing;
+        return Ok(None);
     }
     width_of(&text[from..to], names, used)
 }
@@ -192,12 +192,12 @@ fn report_output(
         }
         Cover::Open => Covered::Done(p),
         Cover::Ranges => match width_at(text, x.from as usize, x.to as usize, names, used) {
-            Value::Known(v) => {
+            Ok(Some(v)) => {
                 let q = report_gap(own, v, m, start, name, buf, p, write);
                 Covered::Done(q)
             }
-            Value::Missing => Covered::Done(p),
-            Value::Outside => Covered::Outside,
+            Ok(None) => Covered::Done(p),
+            Err(_) => Covered::Outside,
         },
     }
 }
