@@ -7,7 +7,6 @@ use mathlib.Core.List.{List, [], ◌∷◌}
 use mathlib.Core.Option.{Option, some, none}
 use Prim.Native.Nat.{ℕ, suc, ◌+◌, ◌*◌, ◌-◌, ◌≤◌, ◌<◌}
 use native.Mathlib.Omega.{arith}
-use lib.Dec.{ltb}
 use lib.ListN.{length, take, drop, get_or, set, get_elem?}
 use borrow.Author.Tests.{le-ltb, eq-eqb}
 use Rattle.spec.specs.Bytes.{Bytes}
@@ -20,9 +19,9 @@ use Rattle.spec.specs.Edge.{Summary, Head, place_value, inst_edges}
 use Rattle.spec.specs.Summary.{Kept, kept_summary, triples, triple_limit, module_summary}
 use Rattle.spec.proofs.Reading.{reading}
 use Rattle.graph.specs.Stands.{Stands}
-use Rattle.consteval.specs.Worth.{names_of, worth, number_of}
-use Rattle.consteval.specs.declared.Value.{Value as Answer}
-use Rattle.consteval.specs.declared.Value.TheVariants.{Known, Missing, Outside}
+use Rattle.consteval.specs.Worth.{Answer, names_of, worth}
+use Rattle.consteval.specs.declared.Outside.{Outside}
+use Rattle.std.specs.Prelude.{Some, None, Ok, Err, is_err}
 use Rattle.edges.specs.Reads.{KindsOf, HeadAll}
 use Rattle.edges.specs.Lines.{summary_at, inst_index, inst_module, InstHeads}
 use Rattle.edges.proofs.OutputLaws.{index_is, module_is}
@@ -31,9 +30,7 @@ use Rattle.runs.specs.Text.{ModuleAt, items_run}
 use Rattle.walk.specs.Walk.{Got, full, going, Walked, walk_items, State, begin, Answered, answered, Asking, ask_walk, own_step, line_step, walking}
 use Rattle.walk.specs.Alike.{Alike}
 use Rattle.steps.specs.declared.Head.TheVariants as head
-use Rattle.steps.specs.Modules.{NamesAre}
-use Rattle.steps.specs.declared.modules.Named as N
-use Rattle.steps.specs.declared.modules.Named.TheVariants as named
+use Rattle.steps.specs.Modules.{Named, NamesAre}
 use Rattle.steps.proofs.StepLaws.{is_refused, not_refused}
 use Rattle.summary.specs.Keeps.{Keeps, state_of, Says, Made, pairs_of, first_of, count_of}
 use Rattle.summary.specs.declared.State as S
@@ -45,11 +42,11 @@ use Rattle.collect.proofs.Ways.{outside_index, unasked_full, heads_done, heads_o
 use Rattle.edges.specs.declared.Stop.{Stop}
 use Rattle.collect.proofs.Tables.{kinds_here, module_here, run_here, found, missing, few}
 
--- 20 is the number of a value outside INT
-pub outside_number : (v : Answer) → ltb 0 (number_of v) ≡ is_outside (worth v)
-outside_number (Known x) = refl
-outside_number Missing = refl
-outside_number Outside = refl
+-- an error is a value outside INT
+pub outside_err : (v : Answer) → is_err v ≡ is_outside (worth v)
+outside_err (Ok (Some x)) = refl
+outside_err (Ok None) = refl
+outside_err (Err e) = refl
 
 -- ---- an instance
 
@@ -200,21 +197,21 @@ module _ (text kinds mods : List ℕ) (count m : ℕ) (k : List ℕ) (kept : Kep
     low : m < 32
     low = let h = few text kinds mods count t in omega arith
 
-    module _ (r : N.Named) (names : List ℕ) (are : (x : Module) → ModuleAt text mods m x → NamesAre r names (name_table (own_vals x) x)) where
-      tells : (y : N.Named) → r ≡ y → NamesAre y names (name_table (own_vals this) this)
-      tells y e = subst (λ (z : N.Named). NamesAre z names (name_table (own_vals this) this)) e (are this (module_here text kinds mods count m this t is_there))
+    module _ (r : Named) (names : List ℕ) (are : (x : Module) → ModuleAt text mods m x → NamesAre r names (name_table (own_vals x) x)) where
+      tells : (y : Named) → r ≡ y → NamesAre y names (name_table (own_vals this) this)
+      tells y e = subst (λ (z : Named). NamesAre z names (name_table (own_vals this) this)) e (are this (module_here text kinds mods count m this t is_there))
 
-      pub make_outside : r ≡ named.Outside → asking (suc fuel) ≡ full
-      make_outside e = ask_outside fuel (decode text) busy kept m this is_there new free (is_refused _ (tells named.Outside e).0)
+      pub make_outside : {z : Outside} → r ≡ Err z → asking (suc fuel) ≡ full
+      make_outside {z} e = ask_outside fuel (decode text) busy kept m this is_there new free (is_refused _ (tells (Err z) e).0)
 
-      module _ (used : ℕ) (in_use : r ≡ named.Used used) (g₀ own₀ k₁ : List ℕ) (zeros : Stands g₀ [])
+      module _ (used : ℕ) (in_use : r ≡ Ok used) (g₀ own₀ k₁ : List ℕ) (zeros : Stands g₀ [])
           (begun : k₁ ≡ set k m 1)
           (run : Bytes) (runs : run ≡ items_run text mods m) (base : ℕ) (based : base ≡ get_or mods (m * 4 + 2) 0 - 1) (ks : List ℕ) (cut : ks ≡ take 256 (drop (m * 256) kinds)) where
         abbrev world : World
         world = record { header = this.header; items = this.items; state = begin kept; busy = m ∷ busy }
 
         table_in : (name_table (own_vals this) this).out ≡ false
-        table_in = not_refused _ (tells (named.Used used) in_use).0
+        table_in = not_refused _ (tells (Ok used) in_use).0
 
         kinds_told : KindsOf ks this.header
         kinds_told = subst (λ (y : List ℕ). KindsOf y this.header) (sym cut) (kinds_here text kinds mods count m this t is_there)
@@ -229,7 +226,7 @@ module _ (text kinds mods : List ℕ) (count m : ℕ) (k : List ℕ) (kept : Kep
               run = run_of;
               part = subst (λ (y : Bytes). PartOf text base y) (sym runs) (subst (λ (b : ℕ). PartOf text b (items_run text mods m)) (sym based) (run_here text kinds mods count m this t is_there).1);
               told = kinds_told;
-              room = (tells (named.Used used) in_use).1.1;
+              room = (tells (Ok used) in_use).1.1;
               holding = record { owned = tt; stands = zeros; keeps = began keeps m low new begun };
             }
 
@@ -241,7 +238,7 @@ module _ (text kinds mods : List ℕ) (count m : ℕ) (k : List ℕ) (kept : Kep
             → Ends v (mode false false) text own' g' k' w.busy (walk_of fuel text (mode false false) w (names_of names used) 4096)) where
           walks_as : Ends v (mode false false) text own' g' k' (m ∷ busy) (walked_by (name_table (own_vals this) this).names)
           walks_as =
-              subst (λ (ns : Names). Ends v (mode false false) text own' g' k' (m ∷ busy) (walked_by ns)) (tells (named.Used used) in_use).1.0
+              subst (λ (ns : Names). Ends v (mode false false) text own' g' k' (m ∷ busy) (walked_by ns)) (tells (Ok used) in_use).1.0
               (subst
               (λ (step : Names → Item → State → Got State). Ends v (mode false false) text own' g' k' (m ∷ busy) (walk_items this.items step (names_of names used) 4096 (begin kept)))
               (λ j. λ ns i st. unbound (ask_walk fuel (decode text) (m ∷ busy)) this.header false this.bound ns i st j)

@@ -25,12 +25,12 @@ use Rattle.runs.specs.Run.{Run, ShowsItem, RunOf}
 use Rattle.runs.specs.Run as run
 use Rattle.runs.proofs.Inside.{InRepeat, in_repeat, in_const_if, piece_length}
 use Rattle.walk.specs.Walk.{Got, full, then_go, Walked, Walks, walk_rounds, walk_repeat, walk_inner, walk_items, State, ask_walk}
-use Rattle.steps.specs.Steps.{body_at, low_value, times_of, times_number, bounds_number, RoundsFit, TimesAre, branch_of, chosen_number, condition_number, taken, ChosenIs}
+use Rattle.steps.specs.Steps.{Times, Chosen, body_at, low_value, times_of, times_number, bounds_number, RoundsFit, TimesAre, branch_of, chosen_number, condition_number, taken, ChosenIs}
 use Rattle.steps.specs.declared.Head.TheVariants as head
-use Rattle.steps.specs.declared.Times as T
+use Rattle.std.specs.Prelude.{Ok, Err}
+use Rattle.consteval.specs.declared.Outside.{Outside}
 use Rattle.steps.specs.declared.Times.TheVariants as times
-use Rattle.steps.specs.declared.Chosen as C
-use Rattle.steps.specs.declared.Chosen.TheVariants as chosen
+use Rattle.steps.specs.declared.Run.{Run as Stretch}
 use Rattle.steps.proofs.StepLaws.{is_refused, not_refused, times_are, body_is, branch_is}
 use Rattle.steps.proofs.Ways.{repeat_never, repeat_once, repeat_rounds, inner_repeat, inner_const_if, next_value}
 use Rattle.collect.specs.Cycle.{PartOf, Mode, World, Single, Given, OneGiven, Holding, Ends, RoundsWithin, Framed, walking_of, step_of, walk_of, one_of, turns_of}
@@ -131,19 +131,19 @@ module _ (fuel : ℕ) (mo : Mode) (text kinds mods : List ℕ) (count : ℕ) (x 
   abbrev walks_body : (w : Single) → Repeated w → Walks State
   walks_body w G = λ names' left' st'. walk_items (body_of w G) (step_of fuel text mo w.header w.busy) names' left' st'
 
-  module _ (r : T.Times) (told : (r ≡ times_of x depth (names_of names₀ used) left₀)
+  module _ (r : Times) (told : (r ≡ times_of x depth (names_of names₀ used) left₀)
       × (RoundsFit r (low_value x depth (names_of names₀ used)) × (times_number r ≡ bounds_number x depth (names_of names₀ used)))) where
-    told_as : (t : T.Times) → r ≡ t → (w : Single) (G : Repeated w)
+    told_as : (t : Times) → r ≡ t → (w : Single) (G : Repeated w)
         → TimesAre t left₀ G.head.0 (value (names_of names₀ used) G.head.1) (value (names_of names₀ used) G.head.2)
     told_as t e w G =
-        subst (λ (y : T.Times). TimesAre y left₀ G.head.0 (value (names_of names₀ used) G.head.1) (value (names_of names₀ used) G.head.2)) e
+        subst (λ (y : Times). TimesAre y left₀ G.head.0 (value (names_of names₀ used) G.head.1) (value (names_of names₀ used) G.head.2)) e
         (times_are x depth (names_of names₀ used) left₀ r told.0 told.1.0 G.head.0 G.head.1 G.head.2 G.head.3 (shown w G))
 
-    pub bounds_outside : r ≡ times.Outside → (w : Single) → Repeated w → one w ≡ full
-    bounds_outside e w G =
+    pub bounds_outside : {z : Outside} → r ≡ Err z → (w : Single) → Repeated w → one w ≡ full
+    bounds_outside {z} e w G =
         as_item w G
         ∙ repeat_full fuel mo text own₀ g₀ k₀ w.header w.busy (names_of names₀ used) left₀ w.state G.holding G.head.0 G.head.1 G.head.2 G.head.3
-        (is_refused _ (told_as times.Outside e w G).0)
+        (is_refused _ (told_as (Err z) e w G).0)
 
     abbrev repeats : (w : Single) → Repeated w → Got (Walked State)
     repeats w G =
@@ -155,9 +155,9 @@ module _ (fuel : ℕ) (mo : Mode) (text kinds mods : List ℕ) (count : ℕ) (x 
         as_item w G
         ∙ repeat_walk fuel mo text own₀ g₀ k₀ w.header w.busy (names_of names₀ used) left₀ w.state G.holding G.head.0 G.head.1 G.head.2 G.head.3 e
 
-    pub no_round : r ≡ times.Never → (w : Single) → Repeated w → Ends (Ok left₀) mo text own₀ g₀ k₀ w.busy (one w)
+    pub no_round : r ≡ Ok times.Never → (w : Single) → Repeated w → Ends (Ok left₀) mo text own₀ g₀ k₀ w.busy (one w)
     no_round e w G =
-        let t = told_as times.Never e w G in (
+        let t = told_as (Ok times.Never) e w G in (
           w.state,
           one_repeats w G (not_refused _ t.0)
               ∙ repeat_never (walks_body w G) G.head.0 (names_of names₀ used) left₀ w.state (value (names_of names₀ used) G.head.1) (value (names_of names₀ used) G.head.2) t.1,
@@ -186,12 +186,12 @@ module _ (fuel : ℕ) (mo : Mode) (text kinds mods : List ℕ) (count : ℕ) (x 
             holding = G.holding;
           }
 
-      pub body_once : r ≡ times.Once → (b : Result ℕ Stop) (own' g' k' : List ℕ)
+      pub body_once : r ≡ Ok times.Once → (b : Result ℕ Stop) (own' g' k' : List ℕ)
           → ((w : World) → Given mo text kinds mods count body (from + a) (depth - 1) ks names₀ used own₀ g₀ k₀ w
           → Ends b mo text own' g' k' w.busy (walk_of fuel text mo w (names_of names₀ used) left₀))
           → (w : Single) → Repeated w → Ends b mo text own' g' k' w.busy (one w)
       body_once e b own' g' k' f w G =
-          let t = told_as times.Once e w G in
+          let t = told_as (Ok times.Once) e w G in
           let d = (in_it w G).deeper in
           let m = G.room in
           let q =
@@ -200,12 +200,12 @@ module _ (fuel : ℕ) (mo : Mode) (text kinds mods : List ℕ) (count : ℕ) (x 
           in
           subst (λ (y : Got (Walked State)). Ends b mo text own' g' k' w.busy y) (sym q) (f (inner w G) (given_body used w G (omega arith)))
 
-      module _ (n low total : ℕ) (rounds_told : r ≡ times.Rounds n low total) where
+      module _ (n low total : ℕ) (rounds_told : r ≡ Ok (times.Rounds n low total)) where
         pub never_short : left₀ < total → (w : Single) → Repeated w → one w ≡ full
-        never_short h w G = let t = told_as (times.Rounds n low total) rounds_told w G in let q = t.1.2 in absurd (omega arith)
+        never_short h w G = let t = told_as (Ok (times.Rounds n low total)) rounds_told w G in let q = t.1.2 in absurd (omega arith)
 
         pub never_wide : 4294967295 - low < total → (w : Single) → Repeated w → one w ≡ full
-        never_wide h w G = let t = told_as (times.Rounds n low total) rounds_told w G in let q = t.1.3 in absurd (omega arith)
+        never_wide h w G = let t = told_as (Ok (times.Rounds n low total)) rounds_told w G in let q = t.1.3 in absurd (omega arith)
 
         -- the rounds are walked, with one name more than are used
         pub rounds_done : (b : Result ℕ Stop) (own' g' k' : List ℕ)
@@ -213,7 +213,7 @@ module _ (fuel : ℕ) (mo : Mode) (text kinds mods : List ℕ) (count : ℕ) (x 
             → Ends b mo text own' g' k' w.busy (turns_of fuel text mo w n low total (names_of names₀ used) (left₀ - total)))
             → (w : Single) → Repeated w → Ends b mo text own' g' k' w.busy (one w)
         rounds_done b own' g' k' f w G =
-            let t = told_as (times.Rounds n low total) rounds_told w G in
+            let t = told_as (Ok (times.Rounds n low total)) rounds_told w G in
             let d = (in_it w G).deeper in
             let m = G.room in
             let q =
@@ -371,22 +371,28 @@ module _ (fuel : ℕ) (mo : Mode) (text kinds mods : List ℕ) (count : ℕ) (x 
       ap (λ (i : Item). then_go (step_of fuel text mo w.header w.busy (names_of names₀ used) i w.state)
       (λ s. walk_inner i (step_of fuel text mo w.header w.busy) (names_of names₀ used) left₀ s)) G.head.3
 
-  module _ (r : C.Chosen) (told : (r ≡ branch_of x depth (names_of names₀ used)) × (chosen_number r ≡ condition_number x depth (names_of names₀ used))) where
-    chosen_as : (t : C.Chosen) → r ≡ t → (w : Single) (G : Branching w) → ChosenIs t x depth (value (names_of names₀ used) G.head.0) G.head.1 G.head.2
+  module _ (r : Chosen) (told : (r ≡ branch_of x depth (names_of names₀ used)) × (chosen_number r ≡ condition_number x depth (names_of names₀ used))) where
+    chosen_as : (t : Chosen) → r ≡ t → (w : Single) (G : Branching w) → ChosenIs t x depth (value (names_of names₀ used) G.head.0) G.head.1 G.head.2
     chosen_as t e w G =
-        subst (λ (y : C.Chosen). ChosenIs y x depth (value (names_of names₀ used) G.head.0) G.head.1 G.head.2) e
+        subst (λ (y : Chosen). ChosenIs y x depth (value (names_of names₀ used) G.head.0) G.head.1 G.head.2) e
         (branch_is x depth (names_of names₀ used) r told.0 G.head.0 G.head.1 G.head.2 (shown_if w G))
 
-    pub test_outside : r ≡ chosen.Outside → (w : Single) → Branching w → branches w ≡ full
-    test_outside e w G =
+    pub test_outside : {z : Outside} → r ≡ Err z → (w : Single) → Branching w → branches w ≡ full
+    test_outside {z} e w G =
         as_branch w G
         ∙ branch_outside fuel mo text own₀ g₀ k₀ w.header w.busy (names_of names₀ used) left₀ w.state G.holding G.head.0 G.head.1 G.head.2
-        (is_refused _ (chosen_as chosen.Outside e w G).0)
+        (is_refused _ (chosen_as (Err z) e w G).0)
 
-    module _ (a b : ℕ) (runs : r ≡ chosen.Run a b) where
+    module _ (run : Stretch) (runs : r ≡ Ok run) where
+      abbrev a : ℕ
+      a = run.before
+
+      abbrev b : ℕ
+      b = run.end
+
       begins : (w : Single) → Branching w → a < length x
       begins w G =
-          let t = chosen_as (chosen.Run a b) runs w G in
+          let t = chosen_as (Ok run) runs w G in
           let n = run_some _ _ t.1.2.run in
           let m = piece_length x a b in
           let q = t.1.0 in
@@ -401,7 +407,7 @@ module _ (fuel : ℕ) (mo : Mode) (text kinds mods : List ℕ) (count : ℕ) (x 
           → Ends v mo text own' g' k' w.busy (walk_of fuel text mo w (names_of names₀ used) left₀))
           → (w : Single) → Branching w → Ends v mo text own' g' k' w.busy (branches w)
       branch_done y cut v own' g' k' f w G =
-          let t = chosen_as (chosen.Run a b) runs w G in
+          let t = chosen_as (Ok run) runs w G in
           let q =
           as_branch w G
           ∙ branch_walk fuel mo text own₀ g₀ k₀ w.header w.busy (names_of names₀ used) left₀ w.state G.holding G.head.0 G.head.1 G.head.2 (not_refused _ t.0)

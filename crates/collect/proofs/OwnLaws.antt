@@ -18,9 +18,9 @@ use Rattle.sites.specs.Own.{places}
 use Rattle.runs.specs.Text.{ModuleAt}
 use Rattle.runs.proofs.Text.{module_at}
 use Rattle.walk.specs.Walk.{full, no_own, own_walk, walk_module}
-use Rattle.steps.specs.Modules.{name_places, named_by, table_by, NamesAre}
-use Rattle.steps.specs.declared.modules.Named.{Named}
-use Rattle.steps.specs.declared.modules.Named.TheVariants as named
+use Rattle.steps.specs.Modules.{Named, name_places, named_by, table_by, NamesAre}
+use Rattle.std.specs.Prelude.{Ok, Err}
+use Rattle.consteval.specs.declared.Outside.{Outside}
 use Rattle.steps.proofs.StepLaws.{is_refused, not_refused}
 use Rattle.items.specs.Held.{Held}
 use Rattle.items.specs.Lines.{emptied}
@@ -49,12 +49,12 @@ module _ {text kinds mods : List ℕ} {count m : ℕ} {names own g k : List ℕ}
 
   -- what filling the name table leaves
   module _ (names' : List ℕ) (r : Named) (f : (j : Module) → ModuleAt text mods m j → name_places ≤ length names → NamesAre r names' (name_table (own_vals j) j)) where
-    pub own_outside : r ≡ named.Outside → own_walk (decode text) x kept ≡ full
+    pub own_outside : {z : Outside} → r ≡ Err z → own_walk (decode text) x kept ≡ full
     own_outside e = walk_out (is_refused _ (subst (λ (n : Named). NamesAre n names' T) e (f x here C.named)).0)
 
-    module _ {used : ℕ} (e : r ≡ named.Used used) (own' g' : List ℕ) (held : length own ≡ places → (t : Bytes) → Held t own' no_own)
+    module _ {used : ℕ} (e : r ≡ Ok used) (own' g' : List ℕ) (held : length own ≡ places → (t : Bytes) → Held t own' no_own)
         (empty : graph_places ≤ length g → Stands g' []) where
-      filled : NamesAre (named.Used used) names' T
+      filled : NamesAre (Ok used) names' T
       filled = subst (λ (n : Named). NamesAre n names' T) e (f x here C.named)
 
       given : WalkGiven text kinds mods count m names' used own' g' k x kept
@@ -89,7 +89,7 @@ abbrev pub Sizes : List ℕ → List ℕ → List ℕ → List ℕ → List ℕ 
 Sizes names own g k names' own' g' k' = (length names' ≡ length names) × (length own' ≡ length own) × (length g' ≡ length g) × (length k' ≡ length k)
 
 module _ (text mods : List ℕ) (count m : ℕ) (names own g k names' own' g' k' : List ℕ) (s : Sizes names own g k names' own' g' k') where
-  pub lent_left : (used left : ℕ) (r : Named) (table : List ℕ) → r ≡ named_by text mods m names → table ≡ table_by text mods m names → r ≡ named.Used used
+  pub lent_left : (used left : ℕ) (r : Named) (table : List ℕ) → r ≡ named_by text mods m names → table ≡ table_by text mods m names → r ≡ Ok used
       → Framed used table names' → (a : Result ℕ Stop) → a ≡ Ok left → Walkable (walk_number a) text count → (v : List ℕ) → v ≡ emptied own → (u : List ℕ) → u ≡ graphs.emptied g → Filled true v own' u g' k k'
       → LentAfter (Ok (record { used = used; left = left })) text mods count m names own g k names' own' g' k'
   lent_left used left r table a t e f w q h v z u y l =

@@ -16,7 +16,6 @@ use Rattle.graph.specs.Cycles as graphs
 use Rattle.sites.specs.Own.{places}
 use Rattle.walk.specs.Walk.{Got, full, going, Walked, walked, State, no_own}
 use Rattle.steps.specs.Modules.{name_places, named_by, table_by}
-use Rattle.steps.specs.declared.modules.Named.TheVariants as named
 use Rattle.items.specs.Held.{Held}
 use Rattle.items.specs.Lines.{emptied}
 use Rattle.summary.specs.Keeps.{Keeps}
@@ -64,7 +63,7 @@ Collects r text names own g k x y =
 -- gives; else every place is 0
 abbrev pub NamesAfter : Result Collected Stop → (text mods : List ℕ) → ℕ → (names names' : List ℕ) → Type 0
 NamesAfter r text mods m names names' =
-    ByNumber (number_of r) ((named_by text mods m names ≡ named.Used (used_of r)) × Framed (used_of r) (table_by text mods m names) names') (Cleared names')
+    ByNumber (number_of r) ((named_by text mods m names ≡ Ok (used_of r)) × Framed (used_of r) (table_by text mods m names) names') (Cleared names')
 
 -- 01, Refused because of the text: 1 over 32,768 bytes, 7 a 33rd module: an answer of 0 is only given of at most 32,768 bytes and 32 modules
 abbrev pub Walkable : (number : ℕ) → (text : List ℕ) → (count : ℕ) → Type 0

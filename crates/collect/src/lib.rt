@@ -21,8 +21,7 @@ ghost use Rattle.collect.specs.Cycle.{walk_number, Mode, World, Given, Single, O
 use consteval::names;
 use edges::{Scope, Stop};
 use lines::parts;
-use steps::modules::Named;
-use steps::{Chosen, Head, Times, modules};
+use steps::{Head, Times, modules};
 use summary::State;
 
 // What collecting a module gives: how many names its table has, and the rounds left.
@@ -185,13 +184,14 @@ fn repeat_items(
     let mut deep = pass;
     deep.depth = pass.depth - 1;
     match steps::times_of(x, pass.depth, names, pass.used, left) {
-        Times::Outside => {
+        Err(_) => {
             places::clear_tables(own, g, k);
             Err(Stop)
         }
-        Times::Never => Ok(left),
-        Times::Once => collect_items(source, s, base, deep, left, ks, names, own, g, k),
-        Times::Rounds(n, low, rounds) => {
+        Ok(Times::Never) => Ok(left),
+        Ok(Times::Once) => collect_items(source, s, base, deep, left, ks, names, own, g, k,
+        ),
+        Ok(Times::Rounds(n, low, rounds)) => {
             if left < rounds {
                 places::clear_tables(own, g, k);
                 return Err(Stop);
@@ -277,17 +277,17 @@ fn branch_items(
         return Err(Stop);
     }
     match steps::branch_of(x, pass.depth, names, pass.used) {
-        Chosen::Outside => {
+        Err(_) => {
             places::clear_tables(own, g, k);
             Err(Stop)
         }
-        Chosen::Run(a, b) => {
-            if x.len() <= a {
+        Ok(run) => {
+            if x.len() <= run.before {
                 places::clear_tables(own, g, k);
                 return Err(Stop);
             }
-            let s = parts::between(x, a, b);
-            let base = from + a as u32 + 1;
+            let s = parts::between(x, run.before, run.end);
+            let base = from + run.before as u32 + 1;
             let mut deep = pass;
             deep.depth = pass.depth - 2;
             collect_items(source, s, base, deep, left, ks, names, own, g, k)
@@ -314,7 +314,7 @@ fn inst_edges(
     ensures edges_leave { EdgesLeave (is_ok result) g.old g.new k.old k.new }
 {
     let index = edges::inst_index(x, pass.depth, names, pass.used);
-    if places::is_outside(index) {
+    if index.is_err() {
         graph::clear(g);
         graph::clear(k);
         return Err(Stop);
@@ -380,7 +380,7 @@ fn make_summary(source: Source<'_>, m: u32, pass: Pass, k: &mut [u32]) -> Result
         return Err(Stop);
     }
     let mut names = [0u32; 6616];
-    let Named::Used(used) = modules::names_of_module(source.text, source.mods, m, &mut names) else {
+    let Ok(used) = modules::names_of_module(source.text, source.mods, m, &mut names) else {
         graph::clear(k);
         return Err(Stop);
     };
@@ -473,12 +473,12 @@ pub fn collect_module(
         names.new own.new g.new k.new }
 {
     match modules::names_of_module(text, mods, m, names) {
-        Named::Outside => {
+        Err(_) => {
             graph::clear(names);
             places::clear_tables(own, g, k);
             Err(Stop)
         }
-        Named::Used(used) => {
+        Ok(used) => {
             items::reset(own);
             graph::reset(g);
             let source = Source {

@@ -2,9 +2,7 @@
 // `clear_tables` is for a walk that is full.
 ghost use Rattle.std.specs.Prelude.{◌≡◌, ◌+◌, ◌-◌, ◌*◌, get_or, take, drop, ltb};
 ghost use Rattle.spec.specs.Cleared.{Cleared};
-ghost use Rattle.consteval.specs.Worth.{number_of};
 
-use consteval::Value;
 use steps::modules;
 
 // How many names a module has at most.
@@ -31,17 +29,6 @@ pub(crate) fn is_bound(mods: &[u32], m: u32) -> bool
     ensures { result ≡ ltb 0 (get_or mods.now (m * 4) 0) }
 {
     0 < edges::word(mods, m as usize * 4)
-}
-
-// Is the value outside INT?
-pub(crate) fn is_outside(v: Value) -> bool
-    ensures { result ≡ ltb 0 (number_of v) }
-{
-    match v {
-        Value::Known(_) => false,
-        Value::Missing => false,
-        Value::Outside => true,
-    }
 }
 
 // Every place of the tables that a walk fills becomes 0.

@@ -116,11 +116,11 @@ fn width_of(t: &[u8], names: &[u32], used: usize) -> Value
         return arith::truth(true);
     }
     if !is_open(c) {
-        return Value::Missing;
+        return Ok(None);
     }
     let h = parts::part_end(t, 1);
     if !parts::more(t, h) {
-        return Value::Missing;
+        return Ok(None);
     }
     let e = parts::part_end(t, h + 1);
     consteval::eval(parts::between(t, h, e), 31, names, used)
@@ -132,10 +132,10 @@ fn width_at(t: &Tables, from: usize, to: usize) -> Value
         → width_depth x ≤ depth_limit → worth result ≡ width_value (names_of t.now.names.now t.now.used) x }
 {
     if to < from {
-        return Value::Missing;
+        return Ok(None);
     }
     if t.text.len() < to {
-        return Value::Missing;
+        return Ok(None);
     }
     width_of(&t.text[from..to], t.names, t.used)
 }
@@ -186,9 +186,9 @@ fn report_output(
         Cover::Never => Ok(say(buf, p, write, t.m, start, name, Detail::Never)),
         Cover::Open => Ok(p),
         Cover::Ranges => match width_at(t, x.from as usize, x.to as usize) {
-            Value::Known(v) => Ok(report_gap(t, v, start, name, buf, p, write)),
-            Value::Missing => Ok(p),
-            Value::Outside => Err(Outside),
+            Ok(Some(v)) => Ok(report_gap(t, v, start, name, buf, p, write)),
+            Ok(None) => Ok(p),
+            Err(_) => Err(Outside),
         },
     }
 }

@@ -1,3 +1,4 @@
+use Rattle.std.specs.Prelude.{Ok}
 use mathlib.Core.Path.{sym, ◌∙◌, ap, subst}
 use mathlib.Core.Bool.{false}
 use Prim.Native.Nat.{ℕ, ◌/◌}
@@ -15,7 +16,7 @@ use Rattle.collect.proofs.Parts.{piece_short}
 use Rattle.collect.proofs.Tables.{run_short}
 use Rattle.collect.proofs.Items.{framed_same, framed_again, within_more, starts, ended, after, item_next, item_full, body_walked, inst_walked, inst_full, plain_walked, plain_full}
 use Rattle.collect.proofs.Bodies.{not_shallow, bounds_outside, no_round, body_once, never_short, never_wide, rounds_done, rounds_start, rounds_end, push_held, push_framed, rounds_framed, rounds_next, rounds_full, not_flat, test_outside, branch_some, branch_done}
-use Rattle.collect.proofs.Asking.{index_outside, summary_full, summary_empty, summary_kept, spent_at, ask_past, ask_again, ask_within, ask_new, not_long, make_outside, make_stops, make_over, make_kept, outside_number}
+use Rattle.collect.proofs.Asking.{index_outside, summary_full, summary_empty, summary_kept, spent_at, ask_past, ask_again, ask_within, ask_new, not_long, make_outside, make_stops, make_over, make_kept, outside_err}
 use Rattle.graph.proofs.Limits.{stands_empty}
 use Rattle.spec.proofs.Cleared.{cleared_of}
 use Rattle.collect.proofs.Leaving.{own_same, filled_same, walk_kept, walk_cleared, line_kept, line_cleared, edges_kept, edges_cleared, ask_empty, ask_kept, ask_cleared, made_left, inst_stepped, known_none, known_kept, inst_edges_left}
@@ -34,44 +35,44 @@ branch_items-returns-then-pass-lt2-clause-framed t c = (framed_same, tt)
 pub branch_items-returns-then-pass-lt2-clause-walk_leaves : goal.branch_items-returns-then-pass-lt2-clause-walk_leaves
 branch_items-returns-then-pass-lt2-clause-walk_leaves t c = c.clear_tables.ensures
 
-pub branch_items-returns-then-x-a-clause-ends : goal.branch_items-returns-then-x-a-clause-ends
-branch_items-returns-then-x-a-clause-ends t c = branch_some c.args.pass.fuel (mode c.args.pass.checking c.args.pass.bound) c.args.source.text.now c.args.source.kinds.now c.args.source.mods.now c.args.source.count c.args.x.now c.args.from c.args.pass.depth c.args.ks.now c.args.names.now c.args.pass.used c.args.left c.args.own.now c.args.g.now c.args.k.now c.branch_of.result (c.branch_of.ensures.value, c.branch_of.ensures.result_value) _ _ c.in-Run.is (omega (arith, c.if-x-a.true))
+pub branch_items-returns-then-x-run-clause-ends : goal.branch_items-returns-then-x-run-clause-ends
+branch_items-returns-then-x-run-clause-ends t c = branch_some c.args.pass.fuel (mode c.args.pass.checking c.args.pass.bound) c.args.source.text.now c.args.source.kinds.now c.args.source.mods.now c.args.source.count c.args.x.now c.args.from c.args.pass.depth c.args.ks.now c.args.names.now c.args.pass.used c.args.left c.args.own.now c.args.g.now c.args.k.now c.branch_of.result (c.branch_of.ensures.value, c.branch_of.ensures.result_value) _ c.in-Ok.is (omega (arith, c.if-x-run.true))
 
-pub branch_items-returns-then-x-a-clause-framed : goal.branch_items-returns-then-x-a-clause-framed
-branch_items-returns-then-x-a-clause-framed t c = (framed_same, tt)
+pub branch_items-returns-then-x-run-clause-framed : goal.branch_items-returns-then-x-run-clause-framed
+branch_items-returns-then-x-run-clause-framed t c = (framed_same, tt)
 
-pub branch_items-returns-then-x-a-clause-walk_leaves : goal.branch_items-returns-then-x-a-clause-walk_leaves
-branch_items-returns-then-x-a-clause-walk_leaves t c = c.clear_tables-then-x-a.ensures
+pub branch_items-returns-then-x-run-clause-walk_leaves : goal.branch_items-returns-then-x-run-clause-walk_leaves
+branch_items-returns-then-x-run-clause-walk_leaves t c = c.clear_tables-then-x-run.ensures
 
 pub branch_items-overflow_cast-base : goal.branch_items-overflow_cast-base
-branch_items-overflow_cast-base t c = omega (arith, c.requires, c.if-x-a.false)
+branch_items-overflow_cast-base t c = omega (arith, c.requires, c.if-x-run.false)
 
 pub branch_items-overflow_add-base : goal.branch_items-overflow_add-base
-branch_items-overflow_add-base t c = omega (arith, c.requires, c.if-x-a.false)
+branch_items-overflow_add-base t c = omega (arith, c.requires, c.if-x-run.false)
 
-pub branch_items-overflow_add-base-in-Run : goal.branch_items-overflow_add-base-in-Run
-branch_items-overflow_add-base-in-Run t c = omega (arith, c.requires, c.if-x-a.false)
+pub branch_items-overflow_add-base-in-Ok : goal.branch_items-overflow_add-base-in-Ok
+branch_items-overflow_add-base-in-Ok t c = omega (arith, c.requires, c.if-x-run.false)
 
 pub branch_items-collect_items-requires : goal.branch_items-collect_items-requires
-branch_items-collect_items-requires t c = (omega arith, omega (arith, c.requires, c.if-x-a.false, piece_short c.args.x.now c.in-Run.a c.in-Run.b, ap length c.between-s.ensures))
+branch_items-collect_items-requires t c = (omega arith, omega (arith, c.requires, c.if-x-run.false, piece_short c.args.x.now c.in-Ok.run'.before c.in-Ok.run'.end, ap length c.between-s.ensures))
 
-pub branch_items-returns-in-Outside-clause-ends : goal.branch_items-returns-in-Outside-clause-ends
-branch_items-returns-in-Outside-clause-ends t c = test_outside c.args.pass.fuel (mode c.args.pass.checking c.args.pass.bound) c.args.source.text.now c.args.source.kinds.now c.args.source.mods.now c.args.source.count c.args.x.now c.args.from c.args.pass.depth c.args.ks.now c.args.names.now c.args.pass.used c.args.left c.args.own.now c.args.g.now c.args.k.now c.branch_of.result (c.branch_of.ensures.value, c.branch_of.ensures.result_value) c.in-Outside.is
+pub branch_items-returns-in-Err-clause-ends : goal.branch_items-returns-in-Err-clause-ends
+branch_items-returns-in-Err-clause-ends t c = test_outside c.args.pass.fuel (mode c.args.pass.checking c.args.pass.bound) c.args.source.text.now c.args.source.kinds.now c.args.source.mods.now c.args.source.count c.args.x.now c.args.from c.args.pass.depth c.args.ks.now c.args.names.now c.args.pass.used c.args.left c.args.own.now c.args.g.now c.args.k.now c.branch_of.result (c.branch_of.ensures.value, c.branch_of.ensures.result_value) c.in-Err.is
 
-pub branch_items-returns-in-Outside-clause-framed : goal.branch_items-returns-in-Outside-clause-framed
-branch_items-returns-in-Outside-clause-framed t c = (framed_same, tt)
+pub branch_items-returns-in-Err-clause-framed : goal.branch_items-returns-in-Err-clause-framed
+branch_items-returns-in-Err-clause-framed t c = (framed_same, tt)
 
-pub branch_items-returns-in-Outside-clause-walk_leaves : goal.branch_items-returns-in-Outside-clause-walk_leaves
-branch_items-returns-in-Outside-clause-walk_leaves t c = c.clear_tables-in-Outside.ensures
+pub branch_items-returns-in-Err-clause-walk_leaves : goal.branch_items-returns-in-Err-clause-walk_leaves
+branch_items-returns-in-Err-clause-walk_leaves t c = c.clear_tables-in-Err.ensures
 
-pub branch_items-returns-else-x-a-clause-ends : goal.branch_items-returns-else-x-a-clause-ends
-branch_items-returns-else-x-a-clause-ends t c = branch_done c.args.pass.fuel (mode c.args.pass.checking c.args.pass.bound) c.args.source.text.now c.args.source.kinds.now c.args.source.mods.now c.args.source.count c.args.x.now c.args.from c.args.pass.depth c.args.ks.now c.args.names.now c.args.pass.used c.args.left c.args.own.now c.args.g.now c.args.k.now c.branch_of.result (c.branch_of.ensures.value, c.branch_of.ensures.result_value) _ _ c.in-Run.is c.between-s.result.now c.between-s.ensures c.collect_items.result c.collect_items.new.own c.collect_items.new.g c.collect_items.new.k c.collect_items.ensures.ends
+pub branch_items-returns-else-x-run-clause-ends : goal.branch_items-returns-else-x-run-clause-ends
+branch_items-returns-else-x-run-clause-ends t c = branch_done c.args.pass.fuel (mode c.args.pass.checking c.args.pass.bound) c.args.source.text.now c.args.source.kinds.now c.args.source.mods.now c.args.source.count c.args.x.now c.args.from c.args.pass.depth c.args.ks.now c.args.names.now c.args.pass.used c.args.left c.args.own.now c.args.g.now c.args.k.now c.branch_of.result (c.branch_of.ensures.value, c.branch_of.ensures.result_value) _ c.in-Ok.is c.between-s.result.now c.between-s.ensures c.collect_items.result c.collect_items.new.own c.collect_items.new.g c.collect_items.new.k c.collect_items.ensures.ends
 
-pub branch_items-returns-else-x-a-clause-framed : goal.branch_items-returns-else-x-a-clause-framed
-branch_items-returns-else-x-a-clause-framed t c = c.collect_items.ensures.framed
+pub branch_items-returns-else-x-run-clause-framed : goal.branch_items-returns-else-x-run-clause-framed
+branch_items-returns-else-x-run-clause-framed t c = c.collect_items.ensures.framed
 
-pub branch_items-returns-else-x-a-clause-walk_leaves : goal.branch_items-returns-else-x-a-clause-walk_leaves
-branch_items-returns-else-x-a-clause-walk_leaves t c = c.collect_items.ensures.walk_leaves
+pub branch_items-returns-else-x-run-clause-walk_leaves : goal.branch_items-returns-else-x-run-clause-walk_leaves
+branch_items-returns-else-x-run-clause-walk_leaves t c = c.collect_items.ensures.walk_leaves
 
 pub collect_item-inst_edges-requires : goal.collect_item-inst_edges-requires
 collect_item-inst_edges-requires t c = omega arith
@@ -208,29 +209,29 @@ comb_summary-returns-in-New-clause-asked_for t c = λ kept busy t h. ask_new c.a
 pub comb_summary-returns-in-New-clause-ask_leaves : goal.comb_summary-returns-in-New-clause-ask_leaves
 comb_summary-returns-in-New-clause-ask_leaves t c = c.make_summary.ensures.ask_leaves
 
-pub inst_edges-returns-then-is_outside-clause-stepped : goal.inst_edges-returns-then-is_outside-clause-stepped
-inst_edges-returns-then-is_outside-clause-stepped t c = λ mo own from w G. index_outside c.args.pass.fuel c.args.source.text.now c.args.source.kinds.now c.args.source.mods.now c.args.source.count c.args.x.now c.args.pass.depth c.args.ks.now c.args.names.now c.args.pass.used c.args.g.now c.args.k.now mo own from w G _ c.inst_index-index.ensures (sym (c.is_outside.ensures ∙ outside_number c.inst_index-index.result) ∙ c.if-is_outside.true)
+pub inst_edges-returns-then-is_err-clause-stepped : goal.inst_edges-returns-then-is_err-clause-stepped
+inst_edges-returns-then-is_err-clause-stepped t c = λ mo own from w G. index_outside c.args.pass.fuel c.args.source.text.now c.args.source.kinds.now c.args.source.mods.now c.args.source.count c.args.x.now c.args.pass.depth c.args.ks.now c.args.names.now c.args.pass.used c.args.g.now c.args.k.now mo own from w G _ c.inst_index-index.ensures (sym (c.is_err.ensures.value ∙ outside_err c.inst_index-index.result) ∙ c.if-is_err.true)
 
-pub inst_edges-returns-then-is_outside-clause-edges_leave : goal.inst_edges-returns-then-is_outside-clause-edges_leave
-inst_edges-returns-then-is_outside-clause-edges_leave t c = (cleared_of (length c.args.g.now) c.clear.new.g c.clear.ensures, cleared_of (length c.args.k.now) c.clear-then-is_outside.new.g c.clear-then-is_outside.ensures)
+pub inst_edges-returns-then-is_err-clause-edges_leave : goal.inst_edges-returns-then-is_err-clause-edges_leave
+inst_edges-returns-then-is_err-clause-edges_leave t c = (cleared_of (length c.args.g.now) c.clear.new.g c.clear.ensures, cleared_of (length c.args.k.now) c.clear-then-is_err.new.g c.clear-then-is_err.ensures)
 
 pub inst_edges-comb_summary-requires : goal.inst_edges-comb_summary-requires
 inst_edges-comb_summary-requires t c = omega arith
 
 pub inst_edges-returns-in-Err-clause-stepped : goal.inst_edges-returns-in-Err-clause-stepped
-inst_edges-returns-in-Err-clause-stepped t c = λ mo own from w G. summary_full c.args.pass.fuel c.args.source.text.now c.args.source.kinds.now c.args.source.mods.now c.args.source.count c.args.x.now c.args.pass.depth c.args.ks.now c.args.names.now c.args.pass.used c.args.g.now c.args.k.now mo own from w G _ c.inst_index-index.ensures (sym (c.is_outside.ensures ∙ outside_number c.inst_index-index.result) ∙ c.if-is_outside.false) c.inst_module-m.result c.inst_module-m.ensures (subst (λ x. AskedFor x c.comb_summary.new.k c.inst_module-m.result w.busy (ask_walk c.args.pass.fuel (decode c.args.source.text.now) w.busy w.state.kept c.inst_module-m.result)) c.in-Err.is (c.comb_summary.ensures.asked_for w.state.kept w.busy G.tabled G.holding.keeps))
+inst_edges-returns-in-Err-clause-stepped t c = λ mo own from w G. summary_full c.args.pass.fuel c.args.source.text.now c.args.source.kinds.now c.args.source.mods.now c.args.source.count c.args.x.now c.args.pass.depth c.args.ks.now c.args.names.now c.args.pass.used c.args.g.now c.args.k.now mo own from w G _ c.inst_index-index.ensures (sym (c.is_err.ensures.value ∙ outside_err c.inst_index-index.result) ∙ c.if-is_err.false) c.inst_module-m.result c.inst_module-m.ensures (subst (λ x. AskedFor x c.comb_summary.new.k c.inst_module-m.result w.busy (ask_walk c.args.pass.fuel (decode c.args.source.text.now) w.busy w.state.kept c.inst_module-m.result)) c.in-Err.is (c.comb_summary.ensures.asked_for w.state.kept w.busy G.tabled G.holding.keeps))
 
 pub inst_edges-returns-in-Err-clause-edges_leave : goal.inst_edges-returns-in-Err-clause-edges_leave
 inst_edges-returns-in-Err-clause-edges_leave t c = (cleared_of (length c.args.g.now) c.clear-in-Err.new.g c.clear-in-Err.ensures, ask_cleared c.comb_summary.result c.args.k.now c.comb_summary.new.k c.in-Err.is c.comb_summary.ensures.ask_leaves)
 
 pub inst_edges-returns-then-not-known-clause-stepped : goal.inst_edges-returns-then-not-known-clause-stepped
-inst_edges-returns-then-not-known-clause-stepped t c = λ mo own from w G. inst_stepped (worth c.inst_index-index.result) (summary_at c.comb_summary.new.k 0 0) c.args.x.now c.args.pass.depth c.args.ks.now (names_of c.args.names.now c.args.pass.used) c.args.g.now c.inst_line.new.g c.comb_summary.new.k c.inst_line.new.k (is_ok c.inst_line.result) mo c.args.source.text.now own w.busy _ c.inst_line.ensures.inst_leaves (summary_empty c.args.pass.fuel c.args.source.text.now c.args.source.kinds.now c.args.source.mods.now c.args.source.count c.args.x.now c.args.pass.depth c.args.ks.now c.args.names.now c.args.pass.used c.args.g.now c.args.k.now mo own from w G _ c.inst_index-index.ensures (sym (c.is_outside.ensures ∙ outside_number c.inst_index-index.result) ∙ c.if-is_outside.false) c.inst_module-m.result c.inst_module-m.ensures c.comb_summary.new.k (subst (λ x. AskedFor x c.comb_summary.new.k c.inst_module-m.result w.busy (ask_walk c.args.pass.fuel (decode c.args.source.text.now) w.busy w.state.kept c.inst_module-m.result)) (c.in-Ok.is ∙ ap Ok c.if-not-known.true) (c.comb_summary.ensures.asked_for w.state.kept w.busy G.tabled G.holding.keeps)) (is_ok c.inst_line.result) c.inst_line.new.g c.inst_line.ensures.inst_heads)
+inst_edges-returns-then-not-known-clause-stepped t c = λ mo own from w G. inst_stepped (worth c.inst_index-index.result) (summary_at c.comb_summary.new.k 0 0) c.args.x.now c.args.pass.depth c.args.ks.now (names_of c.args.names.now c.args.pass.used) c.args.g.now c.inst_line.new.g c.comb_summary.new.k c.inst_line.new.k (is_ok c.inst_line.result) mo c.args.source.text.now own w.busy _ c.inst_line.ensures.inst_leaves (summary_empty c.args.pass.fuel c.args.source.text.now c.args.source.kinds.now c.args.source.mods.now c.args.source.count c.args.x.now c.args.pass.depth c.args.ks.now c.args.names.now c.args.pass.used c.args.g.now c.args.k.now mo own from w G _ c.inst_index-index.ensures (sym (c.is_err.ensures.value ∙ outside_err c.inst_index-index.result) ∙ c.if-is_err.false) c.inst_module-m.result c.inst_module-m.ensures c.comb_summary.new.k (subst (λ x. AskedFor x c.comb_summary.new.k c.inst_module-m.result w.busy (ask_walk c.args.pass.fuel (decode c.args.source.text.now) w.busy w.state.kept c.inst_module-m.result)) (c.in-Ok.is ∙ ap Ok c.if-not-known.true) (c.comb_summary.ensures.asked_for w.state.kept w.busy G.tabled G.holding.keeps)) (is_ok c.inst_line.result) c.inst_line.new.g c.inst_line.ensures.inst_heads)
 
 pub inst_edges-returns-then-not-known-clause-edges_leave : goal.inst_edges-returns-then-not-known-clause-edges_leave
 inst_edges-returns-then-not-known-clause-edges_leave t c = inst_edges_left (worth c.inst_index-index.result) (summary_at c.comb_summary.new.k 0 0) c.args.x.now c.args.pass.depth c.args.ks.now (names_of c.args.names.now c.args.pass.used) c.args.g.now c.inst_line.new.g c.comb_summary.new.k c.inst_line.new.k (is_ok c.inst_line.result) c.args.k.now (ask_empty c.comb_summary.result c.args.k.now c.comb_summary.new.k (c.in-Ok.is ∙ ap Ok c.if-not-known.true) c.comb_summary.ensures.ask_leaves) c.inst_index-index.ensures (known_none c.args.x.now c.comb_summary.new.k) c.inst_line.ensures.inst_leaves
 
 pub inst_edges-returns-clause-stepped : goal.inst_edges-returns-clause-stepped
-inst_edges-returns-clause-stepped t c = λ mo own from w G. inst_stepped (worth c.inst_index-index.result) (summary_at c.comb_summary.new.k c.first-first.result c.count-pairs.result) c.args.x.now c.args.pass.depth c.args.ks.now (names_of c.args.names.now c.args.pass.used) c.args.g.now c.inst_line-2.new.g c.comb_summary.new.k c.inst_line-2.new.k (is_ok c.inst_line-2.result) mo c.args.source.text.now own w.busy _ c.inst_line-2.ensures.inst_leaves (summary_kept c.args.pass.fuel c.args.source.text.now c.args.source.kinds.now c.args.source.mods.now c.args.source.count c.args.x.now c.args.pass.depth c.args.ks.now c.args.names.now c.args.pass.used c.args.g.now c.args.k.now mo own from w G _ c.inst_index-index.ensures (sym (c.is_outside.ensures ∙ outside_number c.inst_index-index.result) ∙ c.if-is_outside.false) c.inst_module-m.result c.inst_module-m.ensures c.comb_summary.new.k (subst (λ x. AskedFor x c.comb_summary.new.k c.inst_module-m.result w.busy (ask_walk c.args.pass.fuel (decode c.args.source.text.now) w.busy w.state.kept c.inst_module-m.result)) (c.in-Ok.is ∙ ap Ok c.if-not-known.false) (c.comb_summary.ensures.asked_for w.state.kept w.busy G.tabled G.holding.keeps)) c.first-first.result c.count-pairs.result c.first-first.ensures c.count-pairs.ensures (is_ok c.inst_line-2.result) c.inst_line-2.new.g c.inst_line-2.ensures.inst_heads)
+inst_edges-returns-clause-stepped t c = λ mo own from w G. inst_stepped (worth c.inst_index-index.result) (summary_at c.comb_summary.new.k c.first-first.result c.count-pairs.result) c.args.x.now c.args.pass.depth c.args.ks.now (names_of c.args.names.now c.args.pass.used) c.args.g.now c.inst_line-2.new.g c.comb_summary.new.k c.inst_line-2.new.k (is_ok c.inst_line-2.result) mo c.args.source.text.now own w.busy _ c.inst_line-2.ensures.inst_leaves (summary_kept c.args.pass.fuel c.args.source.text.now c.args.source.kinds.now c.args.source.mods.now c.args.source.count c.args.x.now c.args.pass.depth c.args.ks.now c.args.names.now c.args.pass.used c.args.g.now c.args.k.now mo own from w G _ c.inst_index-index.ensures (sym (c.is_err.ensures.value ∙ outside_err c.inst_index-index.result) ∙ c.if-is_err.false) c.inst_module-m.result c.inst_module-m.ensures c.comb_summary.new.k (subst (λ x. AskedFor x c.comb_summary.new.k c.inst_module-m.result w.busy (ask_walk c.args.pass.fuel (decode c.args.source.text.now) w.busy w.state.kept c.inst_module-m.result)) (c.in-Ok.is ∙ ap Ok c.if-not-known.false) (c.comb_summary.ensures.asked_for w.state.kept w.busy G.tabled G.holding.keeps)) c.first-first.result c.count-pairs.result c.first-first.ensures c.count-pairs.ensures (is_ok c.inst_line-2.result) c.inst_line-2.new.g c.inst_line-2.ensures.inst_heads)
 
 pub inst_edges-returns-clause-edges_leave : goal.inst_edges-returns-clause-edges_leave
 inst_edges-returns-clause-edges_leave t c = inst_edges_left (worth c.inst_index-index.result) (summary_at c.comb_summary.new.k c.first-first.result c.count-pairs.result) c.args.x.now c.args.pass.depth c.args.ks.now (names_of c.args.names.now c.args.pass.used) c.args.g.now c.inst_line-2.new.g c.comb_summary.new.k c.inst_line-2.new.k (is_ok c.inst_line-2.result) c.args.k.now (ask_kept c.comb_summary.result c.args.k.now c.comb_summary.new.k (c.in-Ok.is ∙ ap Ok c.if-not-known.false) c.comb_summary.ensures.ask_leaves) c.inst_index-index.ensures (known_kept c.args.x.now c.comb_summary.new.k c.inst_module-m.result c.inst_module-m.ensures c.first-first.result c.count-pairs.result c.first-first.ensures c.count-pairs.ensures) c.inst_line-2.ensures.inst_leaves
@@ -251,19 +252,19 @@ pub make_summary-collect_items-requires : goal.make_summary-collect_items-requir
 make_summary-collect_items-requires t c = (omega arith, omega (arith, c.if-source-gt32768.false, c.run_at.type_inv, c.run_at.ensures, run_short c.args.source.text.now c.args.source.mods.now c.args.m, ap length c.items_of_module-run.ensures))
 
 pub make_summary-returns-in_err-collect_items-clause-asked_for : goal.make_summary-returns-in_err-collect_items-clause-asked_for
-make_summary-returns-in_err-collect_items-clause-asked_for t c = rw (err_from_is_err_and c.from_residual.result c.from_residual.ensures.1).1 (λ kept busy t h small new free. make_stops c.args.source.text.now c.args.source.kinds.now c.args.source.mods.now c.args.source.count c.args.m c.args.k.now kept busy t h c.args.pass.fuel small new free c.names_of_module.result c.names_of_module.new.names (λ x M. c.names_of_module.ensures.names_are x M (omega (arith, length-replicate {A = ℕ} 6616 0))) _ c.in-Used.is _ _ c.begin.new.k (stands_empty 16898 (omega arith)) c.begin.ensures c.items_of_module-run.result.now c.items_of_module-run.ensures c.run_at.result c.run_at.ensures c.module_kinds-ks.result.now c.module_kinds-ks.ensures c.collect_items.result c.collect_items.new.own c.collect_items.new.g c.collect_items.new.k c.collect_items.ensures.ends c.in_err-collect_items.was)
+make_summary-returns-in_err-collect_items-clause-asked_for t c = rw (err_from_is_err_and c.from_residual.result c.from_residual.ensures.1).1 (λ kept busy t h small new free. make_stops c.args.source.text.now c.args.source.kinds.now c.args.source.mods.now c.args.source.count c.args.m c.args.k.now kept busy t h c.args.pass.fuel small new free c.names_of_module.result c.names_of_module.new.names (λ x M. c.names_of_module.ensures.names_are x M (omega (arith, length-replicate {A = ℕ} 6616 0))) _ c.in-Ok.is _ _ c.begin.new.k (stands_empty 16898 (omega arith)) c.begin.ensures c.items_of_module-run.result.now c.items_of_module-run.ensures c.run_at.result c.run_at.ensures c.module_kinds-ks.result.now c.module_kinds-ks.ensures c.collect_items.result c.collect_items.new.own c.collect_items.new.g c.collect_items.new.k c.collect_items.ensures.ends c.in_err-collect_items.was)
 
 pub make_summary-returns-in_err-collect_items-clause-ask_leaves : goal.make_summary-returns-in_err-collect_items-clause-ask_leaves
 make_summary-returns-in_err-collect_items-clause-ask_leaves t c = rw (err_from_is_err_and c.from_residual.result c.from_residual.ensures.1).1 ((walk_cleared c.collect_items.result false _ _ _ _ _ _ c.in_err-collect_items.was c.collect_items.ensures.walk_leaves).2)
 
 pub make_summary-returns-in-Ok-clause-asked_for : goal.make_summary-returns-in-Ok-clause-asked_for
-make_summary-returns-in-Ok-clause-asked_for t c = λ kept busy t h small new free. make_kept c.args.source.text.now c.args.source.kinds.now c.args.source.mods.now c.args.source.count c.args.m c.args.k.now kept busy t h c.args.pass.fuel small new free c.names_of_module.result c.names_of_module.new.names (λ x M. c.names_of_module.ensures.names_are x M (omega (arith, length-replicate {A = ℕ} 6616 0))) _ c.in-Used.is _ _ c.begin.new.k (stands_empty 16898 (omega arith)) c.begin.ensures c.items_of_module-run.result.now c.items_of_module-run.ensures c.run_at.result c.run_at.ensures c.module_kinds-ks.result.now c.module_kinds-ks.ensures c.collect_items.result c.collect_items.new.own c.collect_items.new.g c.collect_items.new.k c.collect_items.ensures.ends _ c.in_ok-collect_items.was (is_ok c.summarise.result) c.summarise.new.k c.summarise.ensures.by_index (ap is_ok c.in-Ok.is)
+make_summary-returns-in-Ok-clause-asked_for t c = λ kept busy t h small new free. make_kept c.args.source.text.now c.args.source.kinds.now c.args.source.mods.now c.args.source.count c.args.m c.args.k.now kept busy t h c.args.pass.fuel small new free c.names_of_module.result c.names_of_module.new.names (λ x M. c.names_of_module.ensures.names_are x M (omega (arith, length-replicate {A = ℕ} 6616 0))) _ c.in-Ok.is _ _ c.begin.new.k (stands_empty 16898 (omega arith)) c.begin.ensures c.items_of_module-run.result.now c.items_of_module-run.ensures c.run_at.result c.run_at.ensures c.module_kinds-ks.result.now c.module_kinds-ks.ensures c.collect_items.result c.collect_items.new.own c.collect_items.new.g c.collect_items.new.k c.collect_items.ensures.ends _ c.in_ok-collect_items.was (is_ok c.summarise.result) c.summarise.new.k c.summarise.ensures.by_index (ap is_ok c.in-Ok.is)
 
 pub make_summary-returns-in-Ok-clause-ask_leaves : goal.make_summary-returns-in-Ok-clause-ask_leaves
 make_summary-returns-in-Ok-clause-ask_leaves t c = made_left c.args.k.now c.begin.new.k c.collect_items.new.g c.collect_items.new.k c.summarise.new.k c.args.m c.items_of_module-run.result.now c.module_kinds-ks.result.now (is_ok c.summarise.result) c.begin.ensures (walk_kept c.collect_items.result false _ _ _ _ _ _ c.in_ok-collect_items.was c.collect_items.ensures.walk_leaves).1 (ap is_ok c.in-Ok.is) c.summarise.ensures.leaves
 
 pub make_summary-returns-in-Err-clause-asked_for : goal.make_summary-returns-in-Err-clause-asked_for
-make_summary-returns-in-Err-clause-asked_for t c = λ kept busy t h small new free. make_over c.args.source.text.now c.args.source.kinds.now c.args.source.mods.now c.args.source.count c.args.m c.args.k.now kept busy t h c.args.pass.fuel small new free c.names_of_module.result c.names_of_module.new.names (λ x M. c.names_of_module.ensures.names_are x M (omega (arith, length-replicate {A = ℕ} 6616 0))) _ c.in-Used.is _ _ c.begin.new.k (stands_empty 16898 (omega arith)) c.begin.ensures c.items_of_module-run.result.now c.items_of_module-run.ensures c.run_at.result c.run_at.ensures c.module_kinds-ks.result.now c.module_kinds-ks.ensures c.collect_items.result c.collect_items.new.own c.collect_items.new.g c.collect_items.new.k c.collect_items.ensures.ends _ c.in_ok-collect_items.was (is_ok c.summarise.result) c.summarise.new.k c.summarise.ensures.by_index (ap is_ok c.in-Err.is)
+make_summary-returns-in-Err-clause-asked_for t c = λ kept busy t h small new free. make_over c.args.source.text.now c.args.source.kinds.now c.args.source.mods.now c.args.source.count c.args.m c.args.k.now kept busy t h c.args.pass.fuel small new free c.names_of_module.result c.names_of_module.new.names (λ x M. c.names_of_module.ensures.names_are x M (omega (arith, length-replicate {A = ℕ} 6616 0))) _ c.in-Ok.is _ _ c.begin.new.k (stands_empty 16898 (omega arith)) c.begin.ensures c.items_of_module-run.result.now c.items_of_module-run.ensures c.run_at.result c.run_at.ensures c.module_kinds-ks.result.now c.module_kinds-ks.ensures c.collect_items.result c.collect_items.new.own c.collect_items.new.g c.collect_items.new.k c.collect_items.ensures.ends _ c.in_ok-collect_items.was (is_ok c.summarise.result) c.summarise.new.k c.summarise.ensures.by_index (ap is_ok c.in-Err.is)
 
 pub make_summary-returns-in-Err-clause-ask_leaves : goal.make_summary-returns-in-Err-clause-ask_leaves
 make_summary-returns-in-Err-clause-ask_leaves t c = leaves_zero (is_ok c.summarise.result) _ _ _ c.collect_items.new.k c.args.m c.summarise.new.k (ap is_ok c.in-Err.is) c.summarise.ensures.leaves
@@ -290,7 +291,7 @@ pub repeat_items-collect_items-requires : goal.repeat_items-collect_items-requir
 repeat_items-collect_items-requires t c = (omega (arith, c.requires, c.if-pass-eq0.false), omega (arith, c.requires, c.body_at-a.ensures, length-drop c.body_at-a.result c.args.x.now, ap length c.rest-s.ensures))
 
 pub repeat_items-returns-then-left-rounds-clause-ends : goal.repeat_items-returns-then-left-rounds-clause-ends
-repeat_items-returns-then-left-rounds-clause-ends t c = never_short c.args.pass.fuel (mode c.args.pass.checking c.args.pass.bound) c.args.source.text.now c.args.source.kinds.now c.args.source.mods.now c.args.source.count c.args.x.now c.args.from c.args.pass.depth c.args.ks.now c.args.names.now c.args.pass.used c.args.left c.args.own.now c.args.g.now c.args.k.now c.times_of.result (c.times_of.ensures.value, (c.times_of.ensures.rounds_fit, c.times_of.ensures.result_value)) c.body_at-a.result c.body_at-a.ensures c.rest-s.result.now c.rest-s.ensures _ _ _ c.in-Rounds.is c.if-left-rounds.true
+repeat_items-returns-then-left-rounds-clause-ends t c = never_short c.args.pass.fuel (mode c.args.pass.checking c.args.pass.bound) c.args.source.text.now c.args.source.kinds.now c.args.source.mods.now c.args.source.count c.args.x.now c.args.from c.args.pass.depth c.args.ks.now c.args.names.now c.args.pass.used c.args.left c.args.own.now c.args.g.now c.args.k.now c.times_of.result (c.times_of.ensures.value, (c.times_of.ensures.rounds_fit, c.times_of.ensures.result_value)) c.body_at-a.result c.body_at-a.ensures c.rest-s.result.now c.rest-s.ensures _ _ _ (c.in-Ok-Rounds.is ∙ ap Ok c.in-Ok-Rounds.field-0-is) c.if-left-rounds.true
 
 pub repeat_items-returns-then-left-rounds-clause-framed : goal.repeat_items-returns-then-left-rounds-clause-framed
 repeat_items-returns-then-left-rounds-clause-framed t c = (framed_same, tt)
@@ -299,7 +300,7 @@ pub repeat_items-returns-then-left-rounds-clause-walk_leaves : goal.repeat_items
 repeat_items-returns-then-left-rounds-clause-walk_leaves t c = c.clear_tables-then-left-rounds.ensures
 
 pub repeat_items-returns-then-low-rounds-clause-ends : goal.repeat_items-returns-then-low-rounds-clause-ends
-repeat_items-returns-then-low-rounds-clause-ends t c = never_wide c.args.pass.fuel (mode c.args.pass.checking c.args.pass.bound) c.args.source.text.now c.args.source.kinds.now c.args.source.mods.now c.args.source.count c.args.x.now c.args.from c.args.pass.depth c.args.ks.now c.args.names.now c.args.pass.used c.args.left c.args.own.now c.args.g.now c.args.k.now c.times_of.result (c.times_of.ensures.value, (c.times_of.ensures.rounds_fit, c.times_of.ensures.result_value)) c.body_at-a.result c.body_at-a.ensures c.rest-s.result.now c.rest-s.ensures _ _ _ c.in-Rounds.is c.if-low-rounds.true
+repeat_items-returns-then-low-rounds-clause-ends t c = never_wide c.args.pass.fuel (mode c.args.pass.checking c.args.pass.bound) c.args.source.text.now c.args.source.kinds.now c.args.source.mods.now c.args.source.count c.args.x.now c.args.from c.args.pass.depth c.args.ks.now c.args.names.now c.args.pass.used c.args.left c.args.own.now c.args.g.now c.args.k.now c.times_of.result (c.times_of.ensures.value, (c.times_of.ensures.rounds_fit, c.times_of.ensures.result_value)) c.body_at-a.result c.body_at-a.ensures c.rest-s.result.now c.rest-s.ensures _ _ _ (c.in-Ok-Rounds.is ∙ ap Ok c.in-Ok-Rounds.field-0-is) c.if-low-rounds.true
 
 pub repeat_items-returns-then-low-rounds-clause-framed : goal.repeat_items-returns-then-low-rounds-clause-framed
 repeat_items-returns-then-low-rounds-clause-framed t c = (framed_same, tt)
@@ -308,37 +309,37 @@ pub repeat_items-returns-then-low-rounds-clause-walk_leaves : goal.repeat_items-
 repeat_items-returns-then-low-rounds-clause-walk_leaves t c = c.clear_tables-then-low-rounds.ensures
 
 pub repeat_items-repeat_rounds-requires : goal.repeat_items-repeat_rounds-requires
-repeat_items-repeat_rounds-requires t c = (omega (arith, c.requires, c.if-pass-eq0.false), (omega (arith, c.requires, c.body_at-a.ensures, length-drop c.body_at-a.result c.args.x.now, ap length c.rest-s.ensures), omega (arith, c.if-low-rounds.false)))
+repeat_items-repeat_rounds-requires t c = (omega (arith, c.requires, c.if-pass-eq0.false), (omega (arith, c.requires, c.body_at-a.ensures, length-drop c.body_at-a.result c.args.x.now, ap length c.rest-s.ensures), (rw (c.in-Ok-Rounds.is ∙ ap Ok c.in-Ok-Rounds.field-0-is) at c.times_of.ensures.rounds_fit).1))
 
-pub repeat_items-returns-in-Outside-clause-ends : goal.repeat_items-returns-in-Outside-clause-ends
-repeat_items-returns-in-Outside-clause-ends t c = bounds_outside c.args.pass.fuel (mode c.args.pass.checking c.args.pass.bound) c.args.source.text.now c.args.source.kinds.now c.args.source.mods.now c.args.source.count c.args.x.now c.args.from c.args.pass.depth c.args.ks.now c.args.names.now c.args.pass.used c.args.left c.args.own.now c.args.g.now c.args.k.now c.times_of.result (c.times_of.ensures.value, (c.times_of.ensures.rounds_fit, c.times_of.ensures.result_value)) c.in-Outside.is
+pub repeat_items-returns-in-Err-clause-ends : goal.repeat_items-returns-in-Err-clause-ends
+repeat_items-returns-in-Err-clause-ends t c = bounds_outside c.args.pass.fuel (mode c.args.pass.checking c.args.pass.bound) c.args.source.text.now c.args.source.kinds.now c.args.source.mods.now c.args.source.count c.args.x.now c.args.from c.args.pass.depth c.args.ks.now c.args.names.now c.args.pass.used c.args.left c.args.own.now c.args.g.now c.args.k.now c.times_of.result (c.times_of.ensures.value, (c.times_of.ensures.rounds_fit, c.times_of.ensures.result_value)) c.in-Err.is
 
-pub repeat_items-returns-in-Outside-clause-framed : goal.repeat_items-returns-in-Outside-clause-framed
-repeat_items-returns-in-Outside-clause-framed t c = (framed_same, tt)
+pub repeat_items-returns-in-Err-clause-framed : goal.repeat_items-returns-in-Err-clause-framed
+repeat_items-returns-in-Err-clause-framed t c = (framed_same, tt)
 
-pub repeat_items-returns-in-Outside-clause-walk_leaves : goal.repeat_items-returns-in-Outside-clause-walk_leaves
-repeat_items-returns-in-Outside-clause-walk_leaves t c = c.clear_tables-in-Outside.ensures
+pub repeat_items-returns-in-Err-clause-walk_leaves : goal.repeat_items-returns-in-Err-clause-walk_leaves
+repeat_items-returns-in-Err-clause-walk_leaves t c = c.clear_tables-in-Err.ensures
 
-pub repeat_items-returns-in-Never-clause-ends : goal.repeat_items-returns-in-Never-clause-ends
-repeat_items-returns-in-Never-clause-ends t c = no_round c.args.pass.fuel (mode c.args.pass.checking c.args.pass.bound) c.args.source.text.now c.args.source.kinds.now c.args.source.mods.now c.args.source.count c.args.x.now c.args.from c.args.pass.depth c.args.ks.now c.args.names.now c.args.pass.used c.args.left c.args.own.now c.args.g.now c.args.k.now c.times_of.result (c.times_of.ensures.value, (c.times_of.ensures.rounds_fit, c.times_of.ensures.result_value)) c.in-Never.is
+pub repeat_items-returns-in-Ok-Never-clause-ends : goal.repeat_items-returns-in-Ok-Never-clause-ends
+repeat_items-returns-in-Ok-Never-clause-ends t c = no_round c.args.pass.fuel (mode c.args.pass.checking c.args.pass.bound) c.args.source.text.now c.args.source.kinds.now c.args.source.mods.now c.args.source.count c.args.x.now c.args.from c.args.pass.depth c.args.ks.now c.args.names.now c.args.pass.used c.args.left c.args.own.now c.args.g.now c.args.k.now c.times_of.result (c.times_of.ensures.value, (c.times_of.ensures.rounds_fit, c.times_of.ensures.result_value)) (c.in-Ok-Never.is ∙ ap Ok c.in-Ok-Never.field-0-is)
 
-pub repeat_items-returns-in-Never-clause-framed : goal.repeat_items-returns-in-Never-clause-framed
-repeat_items-returns-in-Never-clause-framed t c = (framed_same, omega arith)
+pub repeat_items-returns-in-Ok-Never-clause-framed : goal.repeat_items-returns-in-Ok-Never-clause-framed
+repeat_items-returns-in-Ok-Never-clause-framed t c = (framed_same, omega arith)
 
-pub repeat_items-returns-in-Never-clause-walk_leaves : goal.repeat_items-returns-in-Never-clause-walk_leaves
-repeat_items-returns-in-Never-clause-walk_leaves t c = filled_same c.args.pass.checking c.args.own.now c.args.g.now c.args.k.now
+pub repeat_items-returns-in-Ok-Never-clause-walk_leaves : goal.repeat_items-returns-in-Ok-Never-clause-walk_leaves
+repeat_items-returns-in-Ok-Never-clause-walk_leaves t c = filled_same c.args.pass.checking c.args.own.now c.args.g.now c.args.k.now
 
-pub repeat_items-returns-in-Once-clause-ends : goal.repeat_items-returns-in-Once-clause-ends
-repeat_items-returns-in-Once-clause-ends t c = body_once c.args.pass.fuel (mode c.args.pass.checking c.args.pass.bound) c.args.source.text.now c.args.source.kinds.now c.args.source.mods.now c.args.source.count c.args.x.now c.args.from c.args.pass.depth c.args.ks.now c.args.names.now c.args.pass.used c.args.left c.args.own.now c.args.g.now c.args.k.now c.times_of.result (c.times_of.ensures.value, (c.times_of.ensures.rounds_fit, c.times_of.ensures.result_value)) c.body_at-a.result c.body_at-a.ensures c.rest-s.result.now c.rest-s.ensures c.in-Once.is c.collect_items.result c.collect_items.new.own c.collect_items.new.g c.collect_items.new.k c.collect_items.ensures.ends
+pub repeat_items-returns-in-Ok-Once-clause-ends : goal.repeat_items-returns-in-Ok-Once-clause-ends
+repeat_items-returns-in-Ok-Once-clause-ends t c = body_once c.args.pass.fuel (mode c.args.pass.checking c.args.pass.bound) c.args.source.text.now c.args.source.kinds.now c.args.source.mods.now c.args.source.count c.args.x.now c.args.from c.args.pass.depth c.args.ks.now c.args.names.now c.args.pass.used c.args.left c.args.own.now c.args.g.now c.args.k.now c.times_of.result (c.times_of.ensures.value, (c.times_of.ensures.rounds_fit, c.times_of.ensures.result_value)) c.body_at-a.result c.body_at-a.ensures c.rest-s.result.now c.rest-s.ensures (c.in-Ok-Once.is ∙ ap Ok c.in-Ok-Once.field-0-is) c.collect_items.result c.collect_items.new.own c.collect_items.new.g c.collect_items.new.k c.collect_items.ensures.ends
 
-pub repeat_items-returns-in-Once-clause-framed : goal.repeat_items-returns-in-Once-clause-framed
-repeat_items-returns-in-Once-clause-framed t c = c.collect_items.ensures.framed
+pub repeat_items-returns-in-Ok-Once-clause-framed : goal.repeat_items-returns-in-Ok-Once-clause-framed
+repeat_items-returns-in-Ok-Once-clause-framed t c = c.collect_items.ensures.framed
 
-pub repeat_items-returns-in-Once-clause-walk_leaves : goal.repeat_items-returns-in-Once-clause-walk_leaves
-repeat_items-returns-in-Once-clause-walk_leaves t c = c.collect_items.ensures.walk_leaves
+pub repeat_items-returns-in-Ok-Once-clause-walk_leaves : goal.repeat_items-returns-in-Ok-Once-clause-walk_leaves
+repeat_items-returns-in-Ok-Once-clause-walk_leaves t c = c.collect_items.ensures.walk_leaves
 
 pub repeat_items-returns-else-low-rounds-clause-ends : goal.repeat_items-returns-else-low-rounds-clause-ends
-repeat_items-returns-else-low-rounds-clause-ends t c = rounds_done c.args.pass.fuel (mode c.args.pass.checking c.args.pass.bound) c.args.source.text.now c.args.source.kinds.now c.args.source.mods.now c.args.source.count c.args.x.now c.args.from c.args.pass.depth c.args.ks.now c.args.names.now c.args.pass.used c.args.left c.args.own.now c.args.g.now c.args.k.now c.times_of.result (c.times_of.ensures.value, (c.times_of.ensures.rounds_fit, c.times_of.ensures.result_value)) c.body_at-a.result c.body_at-a.ensures c.rest-s.result.now c.rest-s.ensures _ _ _ c.in-Rounds.is c.repeat_rounds.result c.repeat_rounds.new.own c.repeat_rounds.new.g c.repeat_rounds.new.k c.repeat_rounds.ensures.ends
+repeat_items-returns-else-low-rounds-clause-ends t c = rounds_done c.args.pass.fuel (mode c.args.pass.checking c.args.pass.bound) c.args.source.text.now c.args.source.kinds.now c.args.source.mods.now c.args.source.count c.args.x.now c.args.from c.args.pass.depth c.args.ks.now c.args.names.now c.args.pass.used c.args.left c.args.own.now c.args.g.now c.args.k.now c.times_of.result (c.times_of.ensures.value, (c.times_of.ensures.rounds_fit, c.times_of.ensures.result_value)) c.body_at-a.result c.body_at-a.ensures c.rest-s.result.now c.rest-s.ensures _ _ _ (c.in-Ok-Rounds.is ∙ ap Ok c.in-Ok-Rounds.field-0-is) c.repeat_rounds.result c.repeat_rounds.new.own c.repeat_rounds.new.g c.repeat_rounds.new.k c.repeat_rounds.ensures.ends
 
 pub repeat_items-returns-else-low-rounds-clause-framed : goal.repeat_items-returns-else-low-rounds-clause-framed
 repeat_items-returns-else-low-rounds-clause-framed t c = (c.repeat_rounds.ensures.framed.0, within_more c.repeat_rounds.result _ c.args.left (omega arith) c.repeat_rounds.ensures.framed.1)

@@ -1,4 +1,5 @@
-use mathlib.Core.Path.{sym, ap}
+use Rattle.std.specs.Prelude.{Ok}
+use mathlib.Core.Path.{sym, ap, ◌∙◌}
 use Rattle.consteval.specs.Worth.{worth, names_of}
 use Rattle.drivers.proofs.CoverLaws.{output_kept, output_undriven, output_free, output_known, output_unknown, output_outside}
 use Rattle.drivers.proofs.groups.report_output.Goals as goal
@@ -12,11 +13,11 @@ returns-in-Never c = λ l o k. output_undriven c.args.t.now.own.now (names_of c.
 pub returns-in-Open : goal.returns-in-Open
 returns-in-Open c = λ l o k. output_free c.args.t.now.own.now (names_of c.args.t.now.names.now c.args.t.now.used) c.args.t.now.m o k.name k.start (c.poisoned.ensures.value l) c.if-poisoned.false (c.cover_of.ensures.value l) c.in-Open.is
 
-pub returns-in-Known : goal.returns-in-Known
-returns-in-Known c = λ l o k. output_known c.args.t.now.own.now (names_of c.args.t.now.names.now c.args.t.now.used) c.args.t.now.m o k.name k.start (c.poisoned.ensures.value l) c.if-poisoned.false (c.cover_of.ensures.value l) c.in-Ranges.is (c.width_at.ensures o.width k.inside.0 k.inside.1 k.width k.deep) c.in-Known.v (ap worth c.in-Known.is) (c.report_gap.ensures l o (sym k.name) (sym k.start))
+pub returns-in-Ok-Some : goal.returns-in-Ok-Some
+returns-in-Ok-Some c = λ l o k. output_known c.args.t.now.own.now (names_of c.args.t.now.names.now c.args.t.now.used) c.args.t.now.m o k.name k.start (c.poisoned.ensures.value l) c.if-poisoned.false (c.cover_of.ensures.value l) c.in-Ranges.is (c.width_at.ensures o.width k.inside.0 k.inside.1 k.width k.deep) c.in-Ok-Some.v (ap worth (c.in-Ok-Some.is ∙ ap Ok c.in-Ok-Some.field-0-is)) (c.report_gap.ensures l o (sym k.name) (sym k.start))
 
-pub returns-in-Missing : goal.returns-in-Missing
-returns-in-Missing c = λ l o k. output_unknown c.args.t.now.own.now (names_of c.args.t.now.names.now c.args.t.now.used) c.args.t.now.m o k.name k.start (c.poisoned.ensures.value l) c.if-poisoned.false (c.cover_of.ensures.value l) c.in-Ranges.is (c.width_at.ensures o.width k.inside.0 k.inside.1 k.width k.deep) (ap worth c.in-Missing.is)
+pub returns-in-Ok-None : goal.returns-in-Ok-None
+returns-in-Ok-None c = λ l o k. output_unknown c.args.t.now.own.now (names_of c.args.t.now.names.now c.args.t.now.used) c.args.t.now.m o k.name k.start (c.poisoned.ensures.value l) c.if-poisoned.false (c.cover_of.ensures.value l) c.in-Ranges.is (c.width_at.ensures o.width k.inside.0 k.inside.1 k.width k.deep) (ap worth (c.in-Ok-None.is ∙ ap Ok c.in-Ok-None.field-0-is))
 
-pub returns-in-Outside : goal.returns-in-Outside
-returns-in-Outside c = λ l o k. output_outside c.args.t.now.own.now (names_of c.args.t.now.names.now c.args.t.now.used) c.args.t.now.m o k.name k.start (c.poisoned.ensures.value l) c.if-poisoned.false (c.cover_of.ensures.value l) c.in-Ranges.is (c.width_at.ensures o.width k.inside.0 k.inside.1 k.width k.deep) (ap worth c.in-Outside.is)
+pub returns-in-Err : goal.returns-in-Err
+returns-in-Err c = λ l o k. output_outside c.args.t.now.own.now (names_of c.args.t.now.names.now c.args.t.now.used) c.args.t.now.m o k.name k.start (c.poisoned.ensures.value l) c.if-poisoned.false (c.cover_of.ensures.value l) c.in-Ranges.is (c.width_at.ensures o.width k.inside.0 k.inside.1 k.width k.deep) (ap worth c.in-Err.is)
