@@ -30,6 +30,7 @@ use Rattle.consteval.specs.declared.Outside.{Outside}
 use Rattle.consteval.specs.Worth.{Answer, worth}
 use Rattle.lines.specs.Parts.{part_end, piece, follows}
 use Rattle.edges.specs.Reads.{KindsOf, ReadAll, HeadAll}
+use Rattle.edges.proofs.InstLaws.{same_word}
 use Rattle.edges.specs.Shows.{ExprRead}
 use Rattle.edges.specs.Lines.{place_end, module_end, number_at, index_value, inst_index, inst_module, IndexIs, ModuleIs, ShowsConn, ShowsConns, ConnRead, ConnsRead, OutputHead, InstHeads}
 use Rattle.edges.proofs.ReadLaws.{read_none, read_then, read_stops, head_one, head_full, heads_none, heads_then, heads_stop}

@@ -67,10 +67,8 @@ fn name_read(kinds: &[u8], n: u32, g: &mut [u32], from: u32) -> Result<(), Stop>
     if 3 < k {
         return Ok(());
     }
-    match graph::read(g, from, Node::Signal(n)) {
-        Ok(_) => Ok(()),
-        Err(_) => Err(Stop),
-    }
+    graph::read(g, from, Node::Signal(n))?;
+    Ok(())
 }
 
 // Does x begin with a bracket and then the letter a?
@@ -163,10 +161,8 @@ fn output_read(i: u32, p: u32, g: &mut [u32], from: u32) -> Result<(), Stop>
     ensures nodes_read { NodesRead (is_ok result) (one_read (inst_out i none p)) g.old g.new from }
     ensures reads_or_cleared { ReadsOrCleared (is_ok result) (one_read (inst_out i none p)) from g.old g.new }
 {
-    match graph::read(g, from, Node::Output(i, p)) {
-        Ok(_) => Ok(()),
-        Err(_) => Err(Stop),
-    }
+    graph::read(g, from, Node::Output(i, p))?;
+    Ok(())
 }
 
 // The same with an index e, which is evaluated and not read: false also where it is outside INT. Where it says false the graph is cleared.
@@ -184,10 +180,10 @@ fn index_read(
         from g.old g.new }
 {
     match consteval::eval(e, depth, scope.names, scope.used) {
-        Ok(Some(v)) => match graph::read(g, from, Node::OutputAt(i, v, p)) {
-            Ok(_) => Ok(()),
-            Err(_) => Err(Stop),
-        },
+        Ok(Some(v)) => {
+            graph::read(g, from, Node::OutputAt(i, v, p))?;
+            Ok(())
+        }
         Ok(None) => Ok(()),
         Err(_) => {
             graph::clear(g);
@@ -305,10 +301,8 @@ pub fn wire_heads(x: &[u8], depth: u32, scope: Scope<'_>, g: &mut [u32]) -> Resu
     let b = next_end(x, a);
     let n = number_at(x, 5, a);
     let start = number_at(x, b, next_end(x, b));
-    match graph::head(g, Node::Signal(n), start) {
-        Ok(i) => expr_reads(parts::between(x, a, b), under(depth, 1), scope, g, i),
-        Err(_) => Err(Stop),
-    }
+    let i = graph::head(g, Node::Signal(n), start)?;
+    expr_reads(parts::between(x, a, b), under(depth, 1), scope, g, i)
 }
 
 // The `drive` line x heads its signal, an output or a wire by its kind (2, 3): it reads the expression, then the indexes. The LV stands
@@ -332,14 +326,10 @@ pub fn drive_heads(x: &[u8], depth: u32, scope: Scope<'_>, g: &mut [u32]) -> Res
     }
     let c = next_end(lv, b);
     let start = number_at(lv, b, c);
-    match graph::head(g, Node::Signal(n), start) {
-        Ok(i) => {
-            let e = parts::between(x, a, next_end(x, a));
-            expr_reads(e, under(depth, 1), scope, g, i)?;
-            parts_read(lv, c, under(depth, 2), scope, g, i)
-        }
-        Err(_) => Err(Stop),
-    }
+    let i = graph::head(g, Node::Signal(n), start)?;
+    let e = parts::between(x, a, next_end(x, a));
+    expr_reads(e, under(depth, 1), scope, g, i)?;
+    parts_read(lv, c, under(depth, 2), scope, g, i)
 }
 
 // The value of the index of the `inst` line x, missing where it has none. Its name stands behind the 5 bytes of `(inst`, then the index.
@@ -501,10 +491,8 @@ fn output_head(
     let c = next_end(x, next_end(x, a));
     let end = next_end(x, c);
     let n = output_node(number_at(x, 5, a), index, o);
-    match graph::head(g, n, number_at(x, c, end)) {
-        Ok(i) => conns_read(x, end, under(depth, 2), o, pairs, scope, g, i),
-        Err(_) => Err(Stop),
-    }
+    let i = graph::head(g, n, number_at(x, c, end))?;
+    conns_read(x, end, under(depth, 2), o, pairs, scope, g, i)
 }
 
 // The `inst` line x heads every output in the summary of its module: an output with its last pair.
