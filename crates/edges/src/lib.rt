@@ -55,7 +55,7 @@ pub struct Pairs<'a> {
     pub count: usize,
 }
 
-// The node `from`, which the last line headed, reads the name n, by its kind: false where a limit is passed, and then the graph is cleared.
+// The node `from`, which the last line headed, reads the name n, by its kind. Where a limit is passed the graph is cleared.
 fn name_read(kinds: &[u8], n: u32, g: &mut [u32], from: u32) -> Result<(), Stop>
     ensures name_read { NameRead (is_ok result) n kinds.now g.old g.new from }
     ensures reads_or_cleared { ReadsOrCleared (is_ok result) (name_reads (kind_word (get_or kinds.now n 0)) n) from g.old g.new }
@@ -165,7 +165,7 @@ fn output_read(i: u32, p: u32, g: &mut [u32], from: u32) -> Result<(), Stop>
     Ok(())
 }
 
-// The same with an index e, which is evaluated and not read: false also where it is outside INT. Where it says false the graph is cleared.
+// The same with an index e, which is evaluated and not read: an error also where it is outside INT. With an error the graph is cleared.
 fn index_read(
     i: u32,
     p: u32,
@@ -221,7 +221,7 @@ fn under(depth: u32, k: u32) -> u32
 }
 
 // The node `from` reads the `f` that e is: an output of an instance, or what the expression under it reads, which is at most `depth`
-// brackets deep. Where it says false the graph is cleared.
+// brackets deep. With an error the graph is cleared.
 #[cycle(expr_reads_field_reads_parts_read)]
 fn field_reads(e: &[u8], depth: u32, scope: Scope<'_>, g: &mut [u32], from: u32) -> Result<(), Stop>
     ensures field_read { FieldRead (is_ok result) e.now depth scope.entry.kinds.now (names_in scope.entry) g.old g.new from }
@@ -242,8 +242,7 @@ fn field_reads(e: &[u8], depth: u32, scope: Scope<'_>, g: &mut [u32], from: u32)
     }
 }
 
-// The node `from` reads what the expression e reads: false where a limit is passed or an index is outside INT, and then
-// the graph is cleared.
+// The node `from` reads what the expression e reads. With an error the graph is cleared.
 #[cycle(expr_reads_field_reads_parts_read)]
 fn expr_reads(e: &[u8], depth: u32, scope: Scope<'_>, g: &mut [u32], from: u32) -> Result<(), Stop>
     ensures expr_read { ExprRead (is_ok result) e.now depth scope.entry.kinds.now (names_in scope.entry) g.old g.new from }
@@ -291,7 +290,7 @@ fn parts_read(
 }
 
 // The `wire` line x heads its signal, which reads its expression. The name stands behind the 5 bytes of `(wire`, START behind the
-// expression. Where it says false the graph is cleared.
+// expression. With an error the graph is cleared.
 pub fn wire_heads(x: &[u8], depth: u32, scope: Scope<'_>, g: &mut [u32]) -> Result<(), Stop>
     ensures wire_leaves { WireLeaves (is_ok result) x.now depth scope.entry.kinds.now (names_in scope.entry) g.old g.new }
     ensures wire_heads { WireHeads (is_ok result) x.now depth scope.entry.kinds.now (names_in scope.entry) g.old g.new }
@@ -306,7 +305,7 @@ pub fn wire_heads(x: &[u8], depth: u32, scope: Scope<'_>, g: &mut [u32]) -> Resu
 }
 
 // The `drive` line x heads its signal, an output or a wire by its kind (2, 3): it reads the expression, then the indexes. The LV stands
-// behind the 6 bytes of `(drive`, its name behind the 3 of `(lv`. Where it says false the graph is cleared.
+// behind the 6 bytes of `(drive`, its name behind the 3 of `(lv`. With an error the graph is cleared.
 #[tactic(auto, using(crate::proofs::LeaveLaws::drive_past))]
 pub fn drive_heads(x: &[u8], depth: u32, scope: Scope<'_>, g: &mut [u32]) -> Result<(), Stop>
     ensures drive_leaves { DriveLeaves (is_ok result) x.now depth scope.entry.kinds.now (names_in scope.entry) g.old g.new }
@@ -496,7 +495,7 @@ fn output_head(
 }
 
 // The `inst` line x heads every output in the summary of its module: an output with its last pair.
-// Where it says false the graph is cleared.
+// With an error the graph is cleared.
 pub fn inst_heads(
     x: &[u8],
     depth: u32,

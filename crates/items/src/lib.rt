@@ -338,7 +338,7 @@ fn on_block(x: &[u8], depth: u32, kinds: &[u8], own: &mut [u32]) -> Result<(), S
 }
 
 // What the collected line x adds to the tables of its module's own check, by the first byte of its word; the line begins at `base` of
-// the text. False where a constant is outside INT or a limit is passed; the tables are cleared then. Nothing is left free: whatever is
+// the text. With an error, which says that a constant is outside INT or a limit is passed, the tables are cleared. Nothing is left free: whatever is
 // lent, `OwnLeaves` says the answer and every word; `OwnLine` says what that means where x shows a line and the words hold tables.
 pub fn own_line(
     x: &[u8],
