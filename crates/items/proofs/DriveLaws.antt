@@ -17,7 +17,7 @@ use Rattle.spec.specs.Decode.{decode_expr}
 use Rattle.spec.specs.Refusal.{expr_depth, index_depth}
 use Rattle.spec.specs.Value.{Value, known, Names, value, is_outside}
 use Rattle.spec.specs.Site.{Site, kind_of, bit_extent, range_extent, lvalue_extent, Driving, an_output, a_wire, a_reg, a_mem, nothing, driving, drive_site, drive_misuse, drive_constants, line_sites, index_constants, line_constants, any_outside, line_misuses, line_outputs, Misused}
-use Rattle.std.specs.Prelude.{Option, Some, None, Ok, Err, is_some, unwrap_or, is_err}
+use Rattle.std.specs.Prelude.{Option, Some, None, Ok, Err, is_err}
 use Rattle.spec.specs.Block.{line_pairs, line_regs, line_mems}
 use Rattle.spec.proofs.Shown.{expr_shown}
 use Rattle.lines.specs.Parts.{part_end, piece, next_end, follows}
@@ -62,7 +62,7 @@ pub inside : (r : Option ℕ) → is_outside (worth (Ok r)) ≡ false
 inside (Some x) = refl
 inside None = refl
 
-pub told : (r : Option ℕ) → worth (Ok r) ≡ value_of (is_some r) (unwrap_or r 0)
+pub told : (r : Option ℕ) → worth (Ok r) ≡ value_of r
 told (Some x) = ap known (same_word x)
 told None = refl
 
@@ -154,13 +154,13 @@ module _ (y : Bytes) (end : ℕ) (bound : Bool) (d : ℕ) (names : Names) (f : f
       go true g = extends_by r y end bound d names _ (two_here g refl) (rw p (rw out))
 
   module _ {c : Option ℕ} (o : h ≡ Ok c) where
-    first_told : value names (decode_expr d (piece y end a)) ≡ value_of (is_some c) (unwrap_or c 0)
+    first_told : value names (decode_expr d (piece y end a)) ≡ value_of c
     first_told = sym ch ∙ ap worth o ∙ told c
 
     first_inside : is_outside (value names (decode_expr d (piece y end a))) ≡ false
     first_inside = ap is_outside (sym ch ∙ ap worth o) ∙ inside c
 
-    pub extent_bit : follows y a ≡ false → (x : Extent) → extent_of x ≡ bit_extent bound (value_of (is_some c) (unwrap_or c 0)) → Extends (Ok x) y end bound d names
+    pub extent_bit : follows y a ≡ false → (x : Extent) → extent_of x ≡ bit_extent bound (value_of c) → Extends (Ok x) y end bound d names
     unfolding any_outside index_constants lvalue_extent
     extent_bit g x w = extends_by (Ok x) y end bound d names _ (one_here g) (rw first_inside, w ∙ ap (bit_extent bound) (sym first_told))
 
@@ -171,15 +171,15 @@ module _ (y : Bytes) (end : ℕ) (bound : Bool) (d : ℕ) (names : Names) (f : f
           let out : is_outside (value names (decode_expr d (piece y a b))) ≡ true = ap is_outside (sym cm ∙ ap worth n) in
           extends_by r y end bound d names _ (two_here g qb) (rw p (rw out (or-true (is_outside (value names (decode_expr d (piece y end a)))))))
 
-      pub extent_range : {e : Option ℕ} → m ≡ Ok e → (x : Extent) → extent_of x ≡ range_extent bound (value_of (is_some c) (unwrap_or c 0)) (value_of (is_some e) (unwrap_or e 0))
+      pub extent_range : {e : Option ℕ} → m ≡ Ok e → (x : Extent) → extent_of x ≡ range_extent bound (value_of c) (value_of e)
           → Extends (Ok x) y end bound d names
       unfolding any_outside index_constants lvalue_extent
       extent_range {e} n x w =
           let second_inside : is_outside (value names (decode_expr d (piece y a b))) ≡ false = ap is_outside (sym cm ∙ ap worth n) ∙ inside e in
-          let second_told : value names (decode_expr d (piece y a b)) ≡ value_of (is_some e) (unwrap_or e 0) = sym cm ∙ ap worth n ∙ told e in
+          let second_told : value names (decode_expr d (piece y a b)) ≡ value_of e = sym cm ∙ ap worth n ∙ told e in
           extends_by (Ok x) y end bound d names _ (two_here g qb) (
             rw (first_inside, second_inside),
-            w ∙ ap (λ (z : Value). range_extent bound z (value_of (is_some e) (unwrap_or e 0))) (sym first_told)
+            w ∙ ap (λ (z : Value). range_extent bound z (value_of e)) (sym first_told)
                 ∙ ap (range_extent bound (value names (decode_expr d (piece y end a)))) (sym second_told),
           )
 

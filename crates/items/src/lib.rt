@@ -149,18 +149,12 @@ fn lvalue_extent(
     let a = parts::part_end(lv, end + 1);
     let h = constant_at(lv, end, a, depth, names, used)?;
     if !parts::more(lv, a) {
-        let e = sites::bit_extent(bound, h.is_some(), h.unwrap_or(0));
+        let e = sites::bit_extent(bound, h);
         return Ok(e);
     }
     let b = parts::part_end(lv, a + 1);
     let l = constant_at(lv, a, b, depth, names, used)?;
-    let e = sites::range_extent(
-        bound,
-        h.is_some(),
-        h.unwrap_or(0),
-        l.is_some(),
-        l.unwrap_or(0),
-    );
+    let e = sites::range_extent(bound, h, l);
     Ok(e)
 }
 

@@ -82,7 +82,7 @@ fn begin(rt: &impl Print, own: &mut [u32], name: &[u8]) -> io::Result<()> {
 
 // The bits from high to low, both known.
 fn bits(high: u16, low: u16) -> Extent {
-    sites::range_extent(true, true, ZERO + high as u32, true, ZERO + low as u32)
+    sites::range_extent(true, Some(ZERO + high as u32), Some(ZERO + low as u32))
 }
 
 fn main(rt: HostRuntime) -> io::Result<()> {
@@ -96,7 +96,7 @@ fn main(rt: HostRuntime) -> io::Result<()> {
     drive(&mut own, bits(5, 4), 30);
     print_reports(&rt, &mut own, 6)?;
     begin(&rt, &mut own, b"P5\n")?;
-    drive(&mut own, sites::bit_extent(false, false, 0), 20);
+    drive(&mut own, sites::bit_extent(false, None), 20);
     drive(&mut own, Extent::Whole, 30);
     print_reports(&rt, &mut own, 6)?;
     begin(&rt, &mut own, b"P6\n")?;

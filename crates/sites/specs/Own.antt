@@ -319,9 +319,9 @@ unfoldable pub unbiased : ℕ → ℤ
 unbiased v = elim (ltb v 2147483648) [ true ↦ negsuc (2147483647 - v) | false ↦ pos (v - 2147483648) ]
 
 -- 01, The value: a value that is known, or not (one outside INT gives 20 before this matters)
-abbrev pub value_of : Bool → ℕ → Value
-value_of true v = known (unbiased v)
-value_of false v = missing
+abbrev pub value_of : rust.Option ℕ → Value
+value_of (Some v) = known (unbiased v)
+value_of None = missing
 
 -- 01, The site: what was found, or none
 abbrev pub found_of : rust.Option ℕ → Option ℕ

@@ -403,12 +403,12 @@ fn no_range(bound: bool) -> Extent
 }
 
 // The extent of one bit. Its value v, where it is known, is held as v + 2147483648.
-pub fn bit_extent(bound: bool, known: bool, v: u32) -> Extent
-    ensures { extent_of result ≡ site.bit_extent bound (value_of known v) }
+pub fn bit_extent(bound: bool, v: Option<u32>) -> Extent
+    ensures { extent_of result ≡ site.bit_extent bound (value_of v) }
 {
-    if !known {
+    let Some(v) = v else {
         return no_range(bound);
-    }
+    };
     if v < 2147483648 {
         return no_range(bound);
     }
@@ -419,19 +419,16 @@ pub fn bit_extent(bound: bool, known: bool, v: u32) -> Extent
 }
 
 // The extent of the bits from high to low.
-pub fn range_extent(bound: bool, h: bool, high: u32, l: bool, low: u32) -> Extent
-    ensures { extent_of result ≡ site.range_extent bound (value_of h high) (value_of l low) }
+pub fn range_extent(bound: bool, high: Option<u32>, low: Option<u32>) -> Extent
+    ensures { extent_of result ≡ site.range_extent bound (value_of high) (value_of low) }
 {
-    if !h {
+    let Some(high) = high else {
         return no_range(bound);
-    }
-    if !l {
+    };
+    let Some(low) = low else {
         return no_range(bound);
-    }
-    if low < 2147483648 {
-        return no_range(bound);
-    }
-    if high < low {
+    };
+    if low < 2147483648 || high < low {
         return no_range(bound);
     }
     Extent::Range {

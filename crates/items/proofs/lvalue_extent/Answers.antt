@@ -26,8 +26,7 @@ returns-in_err-h c =
 
 pub returns-then-not-more-2 : goal.returns-then-not-more-2
 returns-then-not-more-2 c =
-    let w = c.bit_extent-e.ensures ∙ ap₂ (λ (k : Bool) (v : ℕ). bit_extent c.args.bound (value_of k v)) c.is_some.ensures c.unwrap_or.ensures in
-    let r = extent_bit c.args.lv.now c.args.end c.args.bound c.args.depth (names_of c.args.names.now c.args.used) (sym c.more.ensures ∙ c.if-not-more.false) c.part_end-a.ensures c.constant_at.result c.constant_at.ensures c.in_ok-h.was (sym c.more-2.ensures ∙ c.if-not-more-2.true) c.bit_extent-e.result w in record { extent_is = r.0; result_value = r.1 }
+    let r = extent_bit c.args.lv.now c.args.end c.args.bound c.args.depth (names_of c.args.names.now c.args.used) (sym c.more.ensures ∙ c.if-not-more.false) c.part_end-a.ensures c.constant_at.result c.constant_at.ensures c.in_ok-h.was (sym c.more-2.ensures ∙ c.if-not-more-2.true) c.bit_extent-e.result c.bit_extent-e.ensures in record { extent_is = r.0; result_value = r.1 }
 
 pub overflow_add-a : goal.overflow_add-a
 overflow_add-a c = omega (arith, follows_in c.args.lv.now c.part_end-a.result (sym c.more-2.ensures ∙ c.if-not-more-2.false))
@@ -39,7 +38,4 @@ returns-in_err-l c =
 
 pub returns : goal.returns
 returns c =
-    let w =
-    c.range_extent-e.ensures
-    ∙ ap₂ (λ (x y : Value). range_extent c.args.bound x y) (ap₂ value_of c.is_some-2.ensures c.unwrap_or-2.ensures) (ap₂ value_of c.is_some-3.ensures c.unwrap_or-3.ensures) in
-    let r = extent_range c.args.lv.now c.args.end c.args.bound c.args.depth (names_of c.args.names.now c.args.used) (sym c.more.ensures ∙ c.if-not-more.false) c.part_end-a.ensures c.constant_at.result c.constant_at.ensures c.in_ok-h.was (sym c.more-2.ensures ∙ c.if-not-more-2.false) c.part_end-b.ensures c.constant_at-2.result c.constant_at-2.ensures c.in_ok-l.was c.range_extent-e.result w in record { extent_is = r.0; result_value = r.1 }
+    let r = extent_range c.args.lv.now c.args.end c.args.bound c.args.depth (names_of c.args.names.now c.args.used) (sym c.more.ensures ∙ c.if-not-more.false) c.part_end-a.ensures c.constant_at.result c.constant_at.ensures c.in_ok-h.was (sym c.more-2.ensures ∙ c.if-not-more-2.false) c.part_end-b.ensures c.constant_at-2.result c.constant_at-2.ensures c.in_ok-l.was c.range_extent-e.result c.range_extent-e.ensures in record { extent_is = r.0; result_value = r.1 }

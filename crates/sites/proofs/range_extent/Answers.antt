@@ -1,18 +1,16 @@
 use mathlib.Core.Path.{◌∙◌}
-use Rattle.sites.proofs.Coverage.{range_no_low, range_low, range_less, range_fits}
+use Rattle.sites.proofs.Coverage.{range_low, range_less, range_fits}
 use Rattle.sites.proofs.range_extent.Goals as goal
-
-pub returns-then-not-h : goal.returns-then-not-h
-returns-then-not-h c = rw (c.if-not-h.true) c.no_range.ensures
-
-pub returns-then-not-l : goal.returns-then-not-l
-returns-then-not-l c = rw (c.if-not-h.false, c.if-not-l.true) (c.no_range-then-not-l.ensures ∙ range_no_low c.args.bound c.args.high)
+use Rattle.sites.proofs.range_extent.Goals.{then-low-lt2147483648-via-then-low-lt2147483648, then-low-lt2147483648-via-else-low-lt2147483648+then-high-low}
 
 pub returns-then-low-lt2147483648 : goal.returns-then-low-lt2147483648
-returns-then-low-lt2147483648 c = rw (c.if-not-h.false, c.if-not-l.false) (c.no_range-then-low-lt2147483648.ensures ∙ range_low c.args.bound c.args.high c.args.low c.if-low-lt2147483648.true)
-
-pub returns-then-high-low : goal.returns-then-high-low
-returns-then-high-low c = rw (c.if-not-h.false, c.if-not-l.false) (c.no_range-then-high-low.ensures ∙ range_less c.args.bound c.args.high c.args.low c.if-low-lt2147483648.false c.if-high-low.true)
+returns-then-low-lt2147483648 c = rw (c.in-Some.is, c.in-Some-low.is) (
+    c.no_range-then-low-lt2147483648.ensures
+    ∙ elim c.then-low-lt2147483648.branch [
+        | then-low-lt2147483648-via-then-low-lt2147483648 w ↦ range_low c.args.bound c.in-Some.high c.in-Some-low.low w.if-low-lt2147483648.true
+        | then-low-lt2147483648-via-else-low-lt2147483648+then-high-low w ↦ range_less c.args.bound c.in-Some.high c.in-Some-low.low w.if-low-lt2147483648.false w.if-high-low.true
+      ]
+  )
 
 pub returns : goal.returns
-returns c = rw (c.if-not-h.false, c.if-not-l.false) (range_fits c.args.bound c.args.high c.args.low c.if-low-lt2147483648.false c.if-high-low.false)
+returns c = rw (c.in-Some.is, c.in-Some-low.is) (range_fits c.args.bound c.in-Some.high c.in-Some-low.low c.if-low-lt2147483648.false c.if-high-low.false)
