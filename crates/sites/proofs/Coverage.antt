@@ -8,7 +8,7 @@ use lib.IntN.{ℤ, pos, negsuc}
 use lib.Dec.{ltb}
 use lib.ListN.{get_or}
 use borrow.Author.Tests.{eq-eqb, ne_eqb, lt-ltb, le-ltb, ltb-true, ltb-false, lt-leb, le-leb}
-use Rattle.spec.specs.Value.{known, missing}
+use Rattle.spec.specs.Value.{known}
 use Rattle.spec.specs.Site.{Extent, Whole, Range, Dynamic, Unknown, Site, no_range, bit_extent, range_extent, sites_of, only_ranges}
 use Rattle.spec.specs.Block.{Pair, block_count}
 use Rattle.sites.specs.declared.Cover.{Cover}
@@ -34,16 +34,9 @@ pub bit_high : (b : Bool) (v : ℕ) → 2147483648 ≤ v → Range (v - 21474836
 bit_high b v h = ap (λ (z : ℤ). bit_extent b (known z)) (sym (unbiased_high v h))
 
 -- the extent of bits from high to low
-no_low : (b : Bool) (z : ℤ) → no_range b ≡ range_extent b (known z) missing
-no_low b (pos n) = refl
-no_low b (negsuc n) = refl
-
 low_below : (b : Bool) (z : ℤ) (n : ℕ) → no_range b ≡ range_extent b (known z) (known (negsuc n))
 low_below b (pos m) n = refl
 low_below b (negsuc m) n = refl
-
-pub range_no_low : (b : Bool) (h : ℕ) → no_range b ≡ range_extent b (known (unbiased h)) missing
-range_no_low b h = no_low b (unbiased h)
 
 pub range_low : (b : Bool) (h l : ℕ) → l < 2147483648 → no_range b ≡ range_extent b (known (unbiased h)) (known (unbiased l))
 range_low b h l p = low_below b (unbiased h) (2147483647 - l) ∙ ap (λ (z : ℤ). range_extent b (known (unbiased h)) (known z)) (sym (unbiased_low l p))

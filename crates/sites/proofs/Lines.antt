@@ -4,7 +4,6 @@ use mathlib.Core.List.{List, []}
 use Prim.Native.Nat.{ℕ, ◌+◌, ◌*◌, ◌<◌}
 use native.Mathlib.Omega.{arith}
 use lib.ListN.{get_or}
-use borrow.Author.Tests.{eq-eqb, ne_eqb}
 use Rattle.spec.specs.Site.{Misused}
 use Rattle.spec.specs.Block.{Storage}
 use Rattle.sites.specs.declared.Misuse.{Misuse}
@@ -33,22 +32,6 @@ misused_read own i m e =
     let b = row_at misuse_table own i 1 (omega arith) in
     let c = row_at misuse_table own i 2 (omega arith) in
     λ k. record { name = sym a k; start = sym b k; misuse = (e ∙ ap misuse_from (sym c)) k }
-
-pub misuse_wire : {c : ℕ} → c ≡ 0 → misuse_of misuse.Wire ≡ misuse_from c
-unfolding misuse_from
-misuse_wire e = sym (rw (eq-eqb _ _ e, misuse_from))
-
-pub misuse_reg : {c : ℕ} → ¬ (c ≡ 0) → c ≡ 1 → misuse_of misuse.Reg ≡ misuse_from c
-unfolding misuse_from
-misuse_reg z e = sym (rw (ne_eqb _ _ z, eq-eqb _ _ e, misuse_from))
-
-pub misuse_mem : {c : ℕ} → ¬ (c ≡ 0) → ¬ (c ≡ 1) → c ≡ 2 → misuse_of misuse.Mem ≡ misuse_from c
-unfolding misuse_from
-misuse_mem z y e = sym (rw (ne_eqb _ _ z, ne_eqb _ _ y, eq-eqb _ _ e, misuse_from))
-
-pub misuse_arrow : {c : ℕ} → ¬ (c ≡ 0) → ¬ (c ≡ 1) → ¬ (c ≡ 2) → misuse_of misuse.Arrow ≡ misuse_from c
-unfolding misuse_from
-misuse_arrow z y x = sym (rw (ne_eqb _ _ z, ne_eqb _ _ y, ne_eqb _ _ x, misuse_from))
 
 -- the row that is not there
 pub zero_row : ◌≡◌ {A = Misused} (record { name = 0; start = 0; misuse = misuse_of misuse.Wire }) (misused_from [])

@@ -179,37 +179,74 @@ struct Coded {
     high: u32,
 }
 
-fn extent_code(e: Extent) -> Coded
-    ensures { (result.code ∷ result.low ∷ result.high ∷ []) ≡ extent_numbers e }
-{
-    match e {
-        Extent::Whole => Coded {
-            code: 0,
-            low: 0,
-            high: 0,
-        },
-        Extent::Range { low, high } => Coded { code: 1, low, high },
-        Extent::Dynamic => Coded {
-            code: 2,
-            low: 0,
-            high: 0,
-        },
-        Extent::Unknown => Coded {
-            code: 3,
-            low: 0,
-            high: 0,
-        },
+impl From<Extent> for Coded {
+    ghost from_gives = { λ e x. (x.code ∷ x.low ∷ x.high ∷ []) ≡ extent_numbers e };
+
+    fn from(e: Extent) -> Coded {
+        match e {
+            Extent::Whole => Coded {
+                code: 0,
+                low: 0,
+                high: 0,
+            },
+            Extent::Range { low, high } => Coded { code: 1, low, high },
+            Extent::Dynamic => Coded {
+                code: 2,
+                low: 0,
+                high: 0,
+            },
+            Extent::Unknown => Coded {
+                code: 3,
+                low: 0,
+                high: 0,
+            },
+        }
     }
 }
 
-fn misuse_code(m: Misuse) -> u32
-    ensures { result ≡ misuse_number m }
-{
-    match m {
-        Misuse::Wire => 0,
-        Misuse::Reg => 1,
-        Misuse::Mem => 2,
-        Misuse::Arrow => 3,
+// A code past the others stands for Unknown.
+impl From<Coded> for Extent {
+    ghost from_gives = { λ x e. extent_of e ≡ extent_from x.code x.low x.high };
+
+    #[tactic(auto, unfolding(crate::specs::Own::extent_from))]
+    fn from(x: Coded) -> Extent {
+        match x.code {
+            0 => Extent::Whole,
+            1 => Extent::Range {
+                low: x.low,
+                high: x.high,
+            },
+            2 => Extent::Dynamic,
+            _ => Extent::Unknown,
+        }
+    }
+}
+
+impl From<Misuse> for u32 {
+    ghost from_gives = { λ m code. code ≡ misuse_number m };
+
+    fn from(m: Misuse) -> u32 {
+        match m {
+            Misuse::Wire => 0,
+            Misuse::Reg => 1,
+            Misuse::Mem => 2,
+            Misuse::Arrow => 3,
+        }
+    }
+}
+
+// A number past the others stands for Arrow.
+impl From<u32> for Misuse {
+    ghost from_gives = { λ code m. misuse_of m ≡ misuse_from code };
+
+    #[tactic(auto, unfolding(crate::specs::Own::misuse_from))]
+    fn from(code: u32) -> Misuse {
+        match code {
+            0 => Misuse::Wire,
+            1 => Misuse::Reg,
+            2 => Misuse::Mem,
+            _ => Misuse::Arrow,
+        }
     }
 }
 
@@ -222,8 +259,7 @@ pub fn add_site(own: &mut [u32], s: Site) -> Result<(), Full>
     if own.len() != OWN {
         return Err(Full);
     }
-    let e = s.extent;
-    let x = extent_code(e);
+    let x = Coded::from(s.extent);
     push(own, SITES, &[s.name, x.code, x.low, x.high, s.start])
 }
 
@@ -274,8 +310,7 @@ pub fn add_misuse(own: &mut [u32], name: u32, start: u32, kind: Misuse)
     if own.len() != OWN {
         return;
     }
-    let code = misuse_code(kind);
-    push_first(own, MISUSES, &[name, start, code]);
+    push_first(own, MISUSES, &[name, start, u32::from(kind)]);
 }
 
 // Whether a pair of name and block is there.
@@ -307,31 +342,20 @@ pub fn add_pair(own: &mut [u32], name: u32, block: u32) -> Result<(), Full>
     push(own, PAIRS, &[name, block])
 }
 
-fn extent_from(code: u32, low: u32, high: u32) -> Extent
-    ensures { extent_of result ≡ extent_from code low high }
-{
-    if code == 0 {
-        return Extent::Whole;
-    }
-    if code == 1 {
-        return Extent::Range { low, high };
-    }
-    if code == 2 {
-        return Extent::Dynamic;
-    }
-    Extent::Unknown
-}
-
 // The site in row i.
 fn site_at(own: &[u32], i: usize) -> Site
     requires { (length own.now ≡ places) × (i < 1024) }
     ensures { site_of result ≡ site_from (row site_table own.now i) }
 {
     let at = SITES.base + 5 * i;
-    let extent = extent_from(own[at + 1], own[at + 2], own[at + 3]);
+    let extent = Coded {
+        code: own[at + 1],
+        low: own[at + 2],
+        high: own[at + 3],
+    };
     Site {
         name: own[at],
-        extent,
+        extent: Extent::from(extent),
         start: own[at + 4],
     }
 }
@@ -356,11 +380,7 @@ fn meets(a: Extent, b: Extent) -> bool
 fn ranges_meet(low: u32, high: u32, from: u32, to: u32) -> bool
     ensures { result ≡ (leb low to && leb from high) }
 {
-    if high < from {
-        return false;
-    }
-    let end = to as usize + 1;
-    (low as usize) < end
+    from <= high && low <= to
 }
 
 // The site in row i; where there is no such row, an Unknown one.
@@ -881,21 +901,6 @@ pub fn output_at(own: &[u32], i: usize) -> OutputLine
     }
 }
 
-fn misuse_from(code: u32) -> Misuse
-    ensures { misuse_of result ≡ misuse_from code }
-{
-    if code == 0 {
-        return Misuse::Wire;
-    }
-    if code == 1 {
-        return Misuse::Reg;
-    }
-    if code == 2 {
-        return Misuse::Mem;
-    }
-    Misuse::Arrow
-}
-
 // The misuse in row i.
 pub fn misuse_at(own: &[u32], i: usize) -> MisusedLine
     ensures result_value { length own.now ≡ places → i < names → misused_of result ≡ misused_from (row misuse_table own.now i) }
@@ -910,10 +915,9 @@ pub fn misuse_at(own: &[u32], i: usize) -> MisusedLine
         };
     }
     let at = MISUSES.base + 3 * i;
-    let kind = misuse_from(own[at + 2]);
     MisusedLine {
         name: own[at],
         start: own[at + 1],
-        kind,
+        kind: Misuse::from(own[at + 2]),
     }
 }

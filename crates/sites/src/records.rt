@@ -4,7 +4,7 @@ ghost use Rattle.spec.specs.Site as site;
 ghost use Rattle.sites.specs.Own.{extent_of, site_of, found_of};
 ghost use Rattle.sites.specs.Run.{extent_in, site_in, sites_in, record_of, StoredBy, NameConflict};
 
-use crate::{Extent, Full, Site};
+use crate::{Coded, Extent, Full, Site};
 
 // A site in numbers. The code is 0 for Whole, 1 for Range, 2 for Dynamic; every other is Unknown.
 #[derive(Clone, Copy)]
@@ -19,8 +19,7 @@ pub(crate) struct Record {
 fn record_of(s: Site) -> Record
     ensures { result ≡ record_of s }
 {
-    let e = s.extent;
-    let x = crate::extent_code(e);
+    let x = Coded::from(s.extent);
     Record {
         name: s.name,
         code: x.code,
@@ -32,7 +31,7 @@ fn record_of(s: Site) -> Record
 
 // The extent of a record. Ranges stand first, since a pair of ranges is the common case; then what is past the other codes, so that the compiled loop
 // has no choice among three codes.
-#[tactic(auto, using(crate::proofs::Sites::extent_whole, crate::proofs::Sites::extent_range, crate::proofs::Sites::extent_dynamic, crate::proofs::Sites::extent_unknown))]
+#[tactic(auto, unfolding(crate::specs::Own::extent_from))]
 fn extent_in(r: Record) -> Extent
     ensures { extent_of result ≡ extent_in r }
 {

@@ -1,13 +1,8 @@
-use mathlib.Core.Path.{◌≡◌, sym, ap₂, ◌∙◌}
-use mathlib.Core.Bool.{Bool}
-use Prim.Native.Nat.{ℕ}
+use mathlib.Core.Path.{◌≡◌, sym, ◌∙◌}
 use native.Mathlib.Omega.{arith}
 use Rattle.std.proofs.Common.{rules, Err}
-use Rattle.spec.specs.Value.{Value}
-use Rattle.spec.specs.Site.{bit_extent, range_extent}
 use Rattle.consteval.specs.Worth.{names_of}
 use Rattle.lines.proofs.PartLaws.{follows_in}
-use Rattle.sites.specs.Own.{value_of}
 use Rattle.items.specs.Lines.{Extended}
 use Rattle.items.proofs.DriveLaws.{extent_whole, extent_out, extent_bit, extent_second_out, extent_range}
 use Rattle.items.proofs.lvalue_extent.Goals as goal

@@ -16,7 +16,7 @@ pub returns-then-own-ne-OWN-clause-result_value_3 : goal.returns-then-own-ne-OWN
 returns-then-own-ne-OWN-clause-result_value_3 c = λ _. zero_row
 
 pub returns-clause-result_value : goal.returns-clause-result_value
-returns-clause-result_value c = λ _ _. misused_read c.args.own.now c.args.i c.misuse_from-kind.result c.misuse_from-kind.ensures
+returns-clause-result_value c = λ _ _. misused_read c.args.own.now c.args.i c.from.result c.from.ensures
 
 pub returns-clause-result_value_2 : goal.returns-clause-result_value_2
 returns-clause-result_value_2 c = λ n. absurd (n c.if-own-ne-OWN.false)
