@@ -4,7 +4,7 @@
 
 mod records;
 
-ghost use Rattle.std.specs.Prelude.{None, ◌≡◌, ◌+◌, ◌-◌, ◌*◌, ◌≤◌, ◌<◌, [], ◌∷◌, ◌++◌, length, get_or, replicate, leb, false, ◌&&◌};
+ghost use Rattle.std.specs.Prelude.{None, ◌≡◌, ◌+◌, ◌-◌, ◌*◌, ◌≤◌, ◌<◌, [], ◌∷◌, ◌++◌, length, get_or, replicate, false};
 ghost use Rattle.std.proofs.lemmas.List.Edits.{sets};
 ghost use Rattle.spec.specs.Site as site;
 ghost use Rattle.sites.specs.declared.Blocks.TheVariants as blocks;
@@ -372,15 +372,9 @@ fn meets(a: Extent, b: Extent) -> bool
                 low: from,
                 high: to,
             },
-        ) => ranges_meet(low, high, from, to),
+        ) => from <= high && low <= to,
         _ => true,
     }
-}
-
-fn ranges_meet(low: u32, high: u32, from: u32, to: u32) -> bool
-    ensures { result ≡ (leb low to && leb from high) }
-{
-    from <= high && low <= to
 }
 
 // The site in row i; where there is no such row, an Unknown one.
