@@ -662,8 +662,7 @@ fn misused(own: &[u32], name: u32) -> bool
 }
 
 // Whether a name has a conflict in the table.
-fn conflicted(own: &[u32], name: u32) -> bool
-    requires { length own.now ≡ places }
+fn conflicted(own: &[u32; OWN], name: u32) -> bool
     ensures { result ≡ has_name name (row_names conflict_table own.now) }
 {
     let n = rows_in(own, CONFLICTS);
@@ -675,13 +674,10 @@ pub fn poisoned(own: &[u32], name: u32) -> bool
     ensures value { length own.now ≡ places → result ≡ has_name name (poisoned_names (own_of own.now)) }
     ensures value_2 { ¬ (length own.now ≡ places) → result ≡ false }
 {
-    if own.len() != OWN {
+    let Some(own) = own.as_array::<OWN>() else {
         return false;
-    }
-    if conflicted(own, name) {
-        return true;
-    }
-    misused(own, name)
+    };
+    conflicted(own, name) || misused(own, name)
 }
 
 // Whether a site before row k has the name, or a misuse.
