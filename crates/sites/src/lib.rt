@@ -314,8 +314,8 @@ pub fn add_misuse(own: &mut [u32], name: u32, start: u32, kind: Misuse)
 }
 
 // Whether a pair of name and block is there.
-fn has_pair(own: &[u32], n: usize, name: u32, block: u32) -> bool
-    requires { (length own.now ≡ places) × (n ≤ 512) }
+fn has_pair(own: &[u32; OWN], n: usize, name: u32, block: u32) -> bool
+    requires { n ≤ 512 }
     ensures { result ≡ has_pair (record { name = name; block = block }) (run (λ i. pair_from (row pair_table own.now i)) 0 n) }
 {
     for i in 0..n {
@@ -332,9 +332,9 @@ pub fn add_pair(own: &mut [u32], name: u32, block: u32) -> Result<(), Full>
     ensures own_after_2 { added result own.new ≡ pair_row_added (record { name = name; block = block }) own.old }
     ensures own_len_unchanged { length own.new ≡ length own.old }
 {
-    if own.len() != OWN {
+    let Some(own) = own.as_mut_array::<OWN>() else {
         return Err(Full);
-    }
+    };
     let n = rows_in(own, PAIRS);
     if has_pair(own, n, name, block) {
         return Ok(());
@@ -343,8 +343,8 @@ pub fn add_pair(own: &mut [u32], name: u32, block: u32) -> Result<(), Full>
 }
 
 // The site in row i.
-fn site_at(own: &[u32], i: usize) -> Site
-    requires { (length own.now ≡ places) × (i < 1024) }
+fn site_at(own: &[u32; OWN], i: usize) -> Site
+    requires { i < 1024 }
     ensures { site_of result ≡ site_from (row site_table own.now i) }
 {
     let at = SITES.base + 5 * i;
@@ -381,14 +381,14 @@ fn meets(a: Extent, b: Extent) -> bool
 fn listed(own: &[u32], i: usize) -> Site
     ensures { length own.now ≡ places → i < 1024 → site_of result ≡ site_row own.now i }
 {
-    if own.len() != OWN || SITE_LIMIT <= i {
-        return Site {
+    match own.as_array::<OWN>() {
+        Some(own) if i < SITE_LIMIT => site_at(own, i),
+        _ => Site {
             name: 0,
             extent: Extent::Unknown,
             start: 0,
-        };
+        },
     }
-    site_at(own, i)
 }
 
 // The first row from `from` on that has a site of the name; 1,024 where there is none.
@@ -459,8 +459,7 @@ pub enum Blocks {
 }
 
 // How many blocks set a name.
-fn block_count(own: &[u32], name: u32) -> usize
-    requires { length own.now ≡ places }
+fn block_count(own: &[u32; OWN], name: u32) -> usize
     ensures { result ≡ block_count name (own_of own.now).pairs }
 {
     let n = rows_in(own, PAIRS);
@@ -478,17 +477,14 @@ pub fn blocks_of(own: &[u32], name: u32) -> Blocks
     ensures value { length own.now ≡ places → result ≡ blocks_by (block_count name (own_of own.now).pairs) }
     ensures value_2 { ¬ (length own.now ≡ places) → result ≡ blocks.None }
 {
-    if own.len() != OWN {
+    let Some(own) = own.as_array::<OWN>() else {
         return Blocks::None;
+    };
+    match block_count(own, name) {
+        0 => Blocks::None,
+        1 => Blocks::One,
+        _ => Blocks::Several,
     }
-    let k = block_count(own, name);
-    if k == 0 {
-        return Blocks::None;
-    }
-    if k == 1 {
-        return Blocks::One;
-    }
-    Blocks::Several
 }
 
 // What decides an output's coverage.
@@ -510,9 +506,9 @@ pub fn cover_of(own: &[u32], name: u32) -> Cover
     ensures value { length own.now ≡ places → result ≡ cover_by (site.sites_of name (own_of own.now).sites) }
     ensures value_2 { ¬ (length own.now ≡ places) → result ≡ cover.Never }
 {
-    if own.len() != OWN {
+    let Some(own) = own.as_array::<OWN>() else {
         return Cover::Never;
-    }
+    };
     let n = rows_in(own, SITES);
     let mut seen = false;
     for i in 0..n {
@@ -557,8 +553,8 @@ fn mark_extent(marks: &mut [u8], limit: usize, e: Extent)
 }
 
 // A mark at each place below the limit that a site of the name covers.
-fn mark_sites(own: &[u32], name: u32, marks: &mut [u8], limit: usize)
-    requires { (length own.now ≡ places) × (limit ≤ length marks.old) }
+fn mark_sites(own: &[u32; OWN], name: u32, marks: &mut [u8], limit: usize)
+    requires { limit ≤ length marks.old }
     ensures { Marked limit (site.covered (site.sites_of name (own_of own.now).sites)) marks.old marks.new }
 {
     let n = rows_in(own, SITES);
@@ -584,8 +580,8 @@ fn first_unmarked(marks: &[u8], limit: usize) -> Option<u32>
 }
 
 // The first bit below the limit that no site of the name covers; there are N marks.
-fn gap_below<const N: usize>(own: &[u32], name: u32, limit: usize) -> Option<u32>
-    requires { (length own.now ≡ places) × (limit ≤ N) × (N ≤ 4096) }
+fn gap_below<const N: usize>(own: &[u32; OWN], name: u32, limit: usize) -> Option<u32>
+    requires { (limit ≤ N) × (N ≤ 4096) }
     ensures { found_of result ≡ site.gap_from (site.sites_of name (own_of own.now).sites) 0 limit }
 {
     let mut marks = [0u8; N];
@@ -598,9 +594,7 @@ pub fn first_gap(own: &[u32], name: u32, width: u32) -> Option<u32>
     ensures result_value { length own.now ≡ places → found_of result ≡ site.first_gap (site.sites_of name (own_of own.now).sites) width }
     ensures value { ¬ (length own.now ≡ places) → result ≡ None }
 {
-    if own.len() != OWN {
-        return None;
-    }
+    let own = own.as_array::<OWN>()?;
     let limit = (width as usize).min(4096);
     if limit <= 64 {
         return gap_below::<64>(own, name, limit);
@@ -616,8 +610,8 @@ fn conflict_earlier(start: u32, name: u32, s: u32, n: u32) -> bool
 }
 
 // The place of a conflict among the first n.
-fn conflict_place(own: &[u32], n: usize, start: u32, name: u32) -> usize
-    requires { (length own.now ≡ places) × (n ≤ 1024) }
+fn conflict_place(own: &[u32; OWN], n: usize, start: u32, name: u32) -> usize
+    requires { n ≤ 1024 }
     ensures { (result ≤ n) × (run (conflict_row own.now) 0 result ++ (conflict_of start name ∷ run (conflict_row own.now) result (n - result))
         ≡ site.insert_conflict (conflict_of start name) (run (conflict_row own.now) 0 n)) }
 {
@@ -631,8 +625,8 @@ fn conflict_place(own: &[u32], n: usize, start: u32, name: u32) -> usize
 }
 
 // One conflict more, in its place.
-fn insert_conflict(own: &mut [u32], start: u32, name: u32)
-    requires { (length own.old ≡ places) × (rows_in conflict_table own.old < 1024) }
+fn insert_conflict(own: &mut [u32; OWN], start: u32, name: u32)
+    requires { rows_in conflict_table own.old < 1024 }
     ensures { Front own.old own.new
         × (conflict_rows own.new ≡ site.insert_conflict (conflict_of start name) (conflict_rows own.old))
         × Behind own.old own.new }
@@ -653,8 +647,7 @@ fn insert_conflict(own: &mut [u32], start: u32, name: u32)
 }
 
 // Whether a name has a misuse.
-fn misused(own: &[u32], name: u32) -> bool
-    requires { length own.now ≡ places }
+fn misused(own: &[u32; OWN], name: u32) -> bool
     ensures { result ≡ has_name name (misuse_poison own.now) }
 {
     let n = rows_in(own, MISUSES);
@@ -681,8 +674,8 @@ pub fn poisoned(own: &[u32], name: u32) -> bool
 }
 
 // Whether a site before row k has the name, or a misuse.
-fn seen_before(own: &[u32], k: usize, name: u32) -> bool
-    requires { (length own.now ≡ places) × (k ≤ 1024) }
+fn seen_before(own: &[u32; OWN], k: usize, name: u32) -> bool
+    requires { k ≤ 1024 }
     ensures { result ≡ has_name name (skip_at (misuse_poison own.now) (site_row own.now) k) }
 {
     for i in (0..k).rev() {
@@ -694,8 +687,7 @@ fn seen_before(own: &[u32], k: usize, name: u32) -> bool
 }
 
 // The START of the first later site of a name that meets an earlier one, by a run that has room for every site of the table.
-fn first_conflict(own: &[u32], name: u32) -> Option<u32>
-    requires { length own.now ≡ places }
+fn first_conflict(own: &[u32; OWN], name: u32) -> Option<u32>
     ensures { found_of result ≡ site.first_conflict [] (site.sites_of name (own_of own.now).sites) }
 {
     let n = rows_in(own, SITES);
@@ -706,8 +698,8 @@ fn first_conflict(own: &[u32], name: u32) -> Option<u32>
 }
 
 // The conflict of the name of row k, where that row is the name's first. A name with one site has none, and no run is filled for it.
-fn take_conflict(own: &mut [u32], k: usize)
-    requires { (length own.old ≡ places) × (k < 1024) × (rows_in conflict_table own.old < 1024) }
+fn take_conflict(own: &mut [u32; OWN], k: usize)
+    requires { (k < 1024) × (rows_in conflict_table own.old < 1024) }
     ensures { Front own.old own.new
         × (conflict_rows own.new ≡ conflict_step own.old k (conflict_rows own.old))
         × Behind own.old own.new }
@@ -733,9 +725,9 @@ pub fn find_conflicts(own: &mut [u32])
     ensures own_len_unchanged { length own.new ≡ length own.old }
     ensures own_after_2 { own.new ≡ conflicts_found own.old }
 {
-    if own.len() != OWN {
+    let Some(own) = own.as_mut_array::<OWN>() else {
         return;
-    }
+    };
     own[CONFLICTS.count] = 0;
     let n = rows_in(own, SITES);
     for k in (0..n).rev() {

@@ -13,7 +13,7 @@ unfolding own_of
 loop-i-init c = (omega arith, omega (arith, ap (block_count c.args.name) (run_all (pair_at c.args.own.now c.args.name) c.rows_in-n.result), ap (λ (k : ℕ). block_count c.args.name (run (pair_at c.args.own.now c.args.name) 0 k)) c.rows_in-n.ensures.0))
 
 pub bounds-own-i : goal.bounds-own-i
-bounds-own-i c = omega (arith, c.rows_in-n.ensures, c.requires)
+bounds-own-i c = omega (arith, c.rows_in-n.ensures)
 
 pub loop-i-preserved : goal.loop-i-preserved
 loop-i-preserved c = elim c.if-own-i.branch [

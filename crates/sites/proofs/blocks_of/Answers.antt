@@ -1,23 +1,14 @@
-use mathlib.Core.Path.{refl}
-use mathlib.Core.Path.{sym, ap, ◌∙◌}
-use Rattle.sites.specs.Own.{blocks_by}
+use mathlib.Core.Path.{ap, ◌∙◌}
+use mathlib.Core.List.{List}
+use Prim.Native.Nat.{ℕ}
+use native.Mathlib.Omega.{arith}
+use Rattle.spec.specs.Block.{block_count}
+use Rattle.sites.specs.Own.{blocks_by, own_of}
 use Rattle.sites.proofs.Coverage.{several}
 use Rattle.sites.proofs.blocks_of.Goals as goal
 
-pub returns-then-own-ne-OWN-clause-value : goal.returns-then-own-ne-OWN-clause-value
-returns-then-own-ne-OWN-clause-value c = λ h. absurd (c.if-own-ne-OWN.true h)
-
-pub returns-then-own-ne-OWN-clause-value_2 : goal.returns-then-own-ne-OWN-clause-value_2
-returns-then-own-ne-OWN-clause-value_2 c = λ _. refl
-
-pub returns-then-k-eq0 : goal.returns-then-k-eq0
-returns-then-k-eq0 c =
-    record { value = λ _. ap blocks_by (sym c.if-k-eq0.true) ∙ ap blocks_by c.block_count-k.ensures; value_2 = λ n. absurd (n c.if-own-ne-OWN.false) }
-
-pub returns-then-k-eq1 : goal.returns-then-k-eq1
-returns-then-k-eq1 c =
-    record { value = λ _. ap blocks_by (sym c.if-k-eq1.true) ∙ ap blocks_by c.block_count-k.ensures; value_2 = λ n. absurd (n c.if-own-ne-OWN.false) }
-
-pub returns : goal.returns
-returns c =
-    record { value = λ _. several c.block_count-k.result c.if-k-eq0.false c.if-k-eq1.false ∙ ap blocks_by c.block_count-k.ensures; value_2 = λ n. absurd (n c.if-own-ne-OWN.false) }
+pub returns-in_default-block_count-clause-value : goal.returns-in_default-block_count-clause-value
+returns-in_default-block_count-clause-value c = λ _.
+    several c.block_count.result (λ e. absurd (omega (arith, e))) (λ e. absurd (omega (arith, e)))
+    ∙ ap blocks_by c.block_count.ensures
+    ∙ ap (λ (l : List ℕ). blocks_by (block_count c.args.name (own_of l).pairs)) c.in-Some.ensures.cases.same

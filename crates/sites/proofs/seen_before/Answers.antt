@@ -19,8 +19,5 @@ returns-then-own-i c = sym (skip_hit (misuse_poison c.args.own.now) (site_row c.
 pub loop-i-preserved : goal.loop-i-preserved
 loop-i-preserved c = skip_miss (misuse_poison c.args.own.now) (site_row c.args.own.now) c.args.name c.loop-i.i c.loop-i-test.true (λ e. c.if-own-i.false (sym (row_name site_table c.args.own.now (c.loop-i.i - 1) (omega arith)) ∙ e)) ∙ c.loop-i.invariant
 
-pub misused-requires : goal.misused-requires
-misused-requires c = c.requires.0
-
 pub returns : goal.returns
 returns c = c.misused.ensures ∙ skip_end (misuse_poison c.args.own.now) (site_row c.args.own.now) c.args.name c.loop-i.i (omega (arith, c.loop-i-test.false)) ∙ c.loop-i.invariant

@@ -17,13 +17,10 @@ pub seen_before-requires : goal.seen_before-requires
 seen_before-requires c = omega (arith, c.requires)
 
 pub returns-then-seen_before : goal.returns-then-seen_before
-returns-then-seen_before c = (front_same c.args.own.now, step_seen c.args.own.now c.args.k (conflict_rows c.args.own.now) (ap (λ (t : site.Site). has_name t.name (skip_at (misuse_poison c.args.own.now) (site_row c.args.own.now) c.args.k)) (sym c.site_at-site.ensures) ∙ sym c.seen_before.ensures ∙ c.if-seen_before.true), behind_same c.args.own.now c.requires.2)
+returns-then-seen_before c = (front_same c.args.own.now, step_seen c.args.own.now c.args.k (conflict_rows c.args.own.now) (ap (λ (t : site.Site). has_name t.name (skip_at (misuse_poison c.args.own.now) (site_row c.args.own.now) c.args.k)) (sym c.site_at-site.ensures) ∙ sym c.seen_before.ensures ∙ c.if-seen_before.true), behind_same c.args.own.now c.requires.1)
 
 pub returns-then-next_site-ge-SITE_LIMIT : goal.returns-then-next_site-ge-SITE_LIMIT
-returns-then-next_site-ge-SITE_LIMIT c = (front_same c.args.own.now, alone c.site_at-site.result.name c.args.own.now c.args.k c.next_site.result (conflict_rows c.args.own.now) (ap (λ (t : site.Site). t.name) c.site_at-site.ensures) (sym c.seen_before.ensures ∙ c.if-seen_before.false) c.next_site.ensures (omega (arith, c.if-next_site-ge-SITE_LIMIT.true)) c.requires.0, behind_same c.args.own.now c.requires.2)
-
-pub insert_conflict-requires : goal.insert_conflict-requires
-insert_conflict-requires c = (c.requires.0, c.requires.2)
+returns-then-next_site-ge-SITE_LIMIT c = (front_same c.args.own.now, alone c.site_at-site.result.name c.args.own.now c.args.k c.next_site.result (conflict_rows c.args.own.now) (ap (λ (t : site.Site). t.name) c.site_at-site.ensures) (sym c.seen_before.ensures ∙ c.if-seen_before.false) c.next_site.ensures (omega (arith, c.if-next_site-ge-SITE_LIMIT.true)) (omega arith), behind_same c.args.own.now c.requires.1)
 
 pub returns-in-Some : goal.returns-in-Some
 unfolding own_of
@@ -36,4 +33,4 @@ returns-in-Some c = (
 
 pub returns-in_default : goal.returns-in_default
 unfolding own_of
-returns-in_default c = (front_same c.args.own.now, step_new c.args.own.now c.args.k (conflict_rows c.args.own.now) none (ap (λ (t : site.Site). has_name t.name (skip_at (misuse_poison c.args.own.now) (site_row c.args.own.now) c.args.k)) (sym c.site_at-site.ensures) ∙ sym c.seen_before.ensures ∙ c.if-seen_before.false) (ap found_of (sym c.in_default.is) ∙ c.first_conflict.ensures ∙ ap (λ (t : site.Site). site.first_conflict [] (site.sites_of t.name (own_of c.args.own.now).sites)) c.site_at-site.ensures), behind_same c.args.own.now c.requires.2)
+returns-in_default c = (front_same c.args.own.now, step_new c.args.own.now c.args.k (conflict_rows c.args.own.now) none (ap (λ (t : site.Site). has_name t.name (skip_at (misuse_poison c.args.own.now) (site_row c.args.own.now) c.args.k)) (sym c.site_at-site.ensures) ∙ sym c.seen_before.ensures ∙ c.if-seen_before.false) (ap found_of (sym c.in_default.is) ∙ c.first_conflict.ensures ∙ ap (λ (t : site.Site). site.first_conflict [] (site.sites_of t.name (own_of c.args.own.now).sites)) c.site_at-site.ensures), behind_same c.args.own.now c.requires.1)
