@@ -44,12 +44,6 @@ module _ (n : ℕ) (own : List ℕ) where
       no : 1024 < 1024 → ⊥
       no b = omega arith
 
-  pub next_other : (from : ℕ) → ¬ (length own ≡ places) → NextSite n own from 1024
-  next_other from d = record { here = λ b. absurd (no b); none = λ _ e. absurd (d e) }
-    where
-      no : 1024 < 1024 → ⊥
-      no b = omega arith
-
   pub skipped : (from i : ℕ) → i < m → ¬ ((f i).name ≡ n) → sites_from n own i ≡ sites_from n own from → sites_from n own (i + 1) ≡ sites_from n own from
   skipped from i h d s = sym (here_other n f i m h d) ∙ s
 
@@ -159,14 +153,14 @@ module _ (N : ℕ) (small : N ≤ 1024) (n : ℕ) (own : List ℕ) where
         ∙ ap (λ (l : List Site). sites_in (take count all) ++ l) (sym (w.next.here (below h)).3) ∙ w.told e
 
     -- a site more is stored, and the row that is next is another
-    pub more : (h : at < N) (s : declared.Site) → (length own ≡ places → at < 1024 → site_of s ≡ site_row own at) → (i : ℕ) → NextSite n own (at + 1) i → Filling N n own i (count + 1) (set all count (record_of s))
+    pub more : (h : at < N) (s : declared.Site) → site_of s ≡ site_row own at → (i : ℕ) → NextSite n own (at + 1) i → Filling N n own i (count + 1) (set all count (record_of s))
     more h s is i next = record {
       from = at + 1;
       size = length-set all count (record_of s) ∙ w.size;
       few = omega (arith, w.few, (w.next.here (below h)).1);
       within = omega (arith, h);
       next = next;
-      told = λ e. told_more h s (is e (below h)) e;
+      told = told_more h s is;
       empty = λ z. absurd (z (w.next.here (below h)).0);
     }
 

@@ -377,27 +377,10 @@ fn meets(a: Extent, b: Extent) -> bool
     }
 }
 
-// The site in row i; where there is no such row, an Unknown one.
-fn listed(own: &[u32], i: usize) -> Site
-    ensures { length own.now ≡ places → i < 1024 → site_of result ≡ site_row own.now i }
-{
-    match own.as_array::<OWN>() {
-        Some(own) if i < SITE_LIMIT => site_at(own, i),
-        _ => Site {
-            name: 0,
-            extent: Extent::Unknown,
-            start: 0,
-        },
-    }
-}
-
 // The first row from `from` on that has a site of the name; 1,024 where there is none.
-fn next_site(own: &[u32], from: usize, name: u32) -> usize
+fn next_site(own: &[u32; OWN], from: usize, name: u32) -> usize
     ensures { NextSite name own.now from result }
 {
-    if own.len() != OWN {
-        return SITE_LIMIT;
-    }
     let n = rows_in(own, SITES);
     for i in from..n {
         if own[SITES.base + 5 * i] == name {

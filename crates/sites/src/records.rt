@@ -4,7 +4,7 @@ ghost use Rattle.spec.specs.Site as site;
 ghost use Rattle.sites.specs.Own.{extent_of, site_of, found_of};
 ghost use Rattle.sites.specs.Run.{extent_in, site_in, sites_in, record_of, StoredBy, NameConflict};
 
-use crate::{Coded, Extent, Full, Site};
+use crate::{Coded, Extent, Full, OWN, Site};
 
 // A site in numbers. The code is 0 for Whole, 1 for Range, 2 for Dynamic; every other is Unknown.
 #[derive(Clone, Copy)]
@@ -101,8 +101,8 @@ pub(crate) fn first_conflict(records: &[Record]) -> Option<u32>
 }
 
 // The START of the first later site of a name that meets an earlier one, in a table of at most N sites: the name's sites are stored in a run of
-// N records, in order, and the search goes over those. Few records are sooner cleared. Of a slice of another length it finds nothing.
-pub(crate) fn conflict_of_name<const N: usize>(own: &[u32], name: u32) -> Option<u32>
+// N records, in order, and the search goes over those. Few records are sooner cleared.
+pub(crate) fn conflict_of_name<const N: usize>(own: &[u32; OWN], name: u32) -> Option<u32>
     requires { N ≤ 1024 }
     ensures { NameConflict N name own.now result }
 {
@@ -116,7 +116,7 @@ pub(crate) fn conflict_of_name<const N: usize>(own: &[u32], name: u32) -> Option
     let mut k: usize = 0;
     let mut i = crate::next_site(own, 0, name);
     while i < N {
-        let s = crate::listed(own, i);
+        let s = crate::site_at(own, i);
         let _ = store_site(&mut records, k, s);
         i = crate::next_site(own, i + 1, name);
         k += 1;
