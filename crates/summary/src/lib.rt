@@ -14,6 +14,7 @@ ghost use Rattle.edges.specs.Reads.{KindsOf};
 ghost use Rattle.summary.specs.Keeps.{state_of, first_of, count_of, Keeps, recorded, Made, emptied};
 ghost use Rattle.summary.specs.Pairs.{Grown, Added, OutputAdded, PortIs, pairs_written, OutputLeaves, port_of, Leaves};
 
+use graph::Full;
 use lines::{numbers, parts};
 
 // A module that no line asked for yet, one that is being summarised, one whose summary is kept.
@@ -23,10 +24,6 @@ pub enum State {
     Busy,
     Kept,
 }
-
-// A summary triple too many.
-#[derive(Clone, Copy, Debug, PartialEq, Eq)]
-pub struct Full;
 
 // The words of the table.
 pub const KEPT: usize = 2145;
