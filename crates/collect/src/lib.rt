@@ -189,8 +189,7 @@ fn repeat_items(
             Err(Stop)
         }
         Ok(Times::Never) => Ok(left),
-        Ok(Times::Once) => collect_items(source, s, base, deep, left, ks, names, own, g, k,
-        ),
+        Ok(Times::Once) => collect_items(source, s, base, deep, left, ks, names, own, g, k),
         Ok(Times::Rounds(n, low, rounds)) => {
             if left < rounds {
                 places::clear_tables(own, g, k);

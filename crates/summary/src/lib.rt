@@ -155,13 +155,7 @@ fn push_found(k: &mut [u32], w: &[u32], n: u32, o: u32) -> Result<(), Full>
 }
 
 // A pair of the output o with each input that it reaches.
-fn add_output(
-    kinds: &[u8],
-    g: &[u32],
-    w: &mut [u32],
-    k: &mut [u32],
-    o: u32,
-) -> Result<(), Full>
+fn add_output(kinds: &[u8], g: &[u32], w: &mut [u32], k: &mut [u32], o: u32) -> Result<(), Full>
     ensures output_added { (header : List Header) (heads : List Head) → KindsOf kinds.now header → Stands g.now heads → Clean w.old
         → (k₀ : List ℕ) (ps : Summary) → Grown k₀ k.old ps → OutputAdded (is_ok result) w.new k₀ k.new ps header heads o }
     ensures output_leaves { OutputLeaves (is_ok result) kinds.now g.now w.old w.new k.old o k.new }
