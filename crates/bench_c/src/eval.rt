@@ -5,7 +5,6 @@ ghost use Rattle.spec.specs.Value.{value};
 ghost use Rattle.consteval.specs.Worth.{names_of};
 ghost use Rattle.bench_c.specs.Eval.{allowed, code};
 
-
 // A depth that no bytes can turn into a full stack: 32, the brackets of the line format, for a greater one.
 fn bounded(depth: u32) -> u32
     ensures { result ≡ allowed depth }

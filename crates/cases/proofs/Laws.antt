@@ -1,15 +1,12 @@
 -- Laws of the definitions of specs/, one for each way through the code.
 -- Assumes nothing.
-use mathlib.Core.Path.{◌≡◌, refl, sym, ap}
+use mathlib.Core.Path.{◌≡◌, refl, sym}
 use mathlib.Core.Bool.{Bool, true, false, ◌&&◌}
 use mathlib.Core.List.{[], ◌∷◌}
-use Prim.Native.Nat.{ℕ, suc, ◌+◌, ◌-◌, ◌≤◌, ◌<◌}
-use native.Mathlib.Omega.{arith}
-use native.Mathlib.Numerals.{add-one}
+use Prim.Native.Nat.{ℕ, ◌+◌, ◌-◌, ◌≤◌, ◌<◌}
 use lib.Dec.{eqb}
 use lib.Pointwise.{pointwise}
-use lib.ListN.{length, drop, get_or, replicate, length-replicate, drop_of_length-le}
-use lib.Seq.{drop-cons}
+use lib.ListN.{length, get_or, replicate, length-replicate}
 use borrow.Author.Tests.{eq-eqb, ne_eqb, lt-ltb, le-ltb}
 use Rattle.spec.specs.Bytes.{Bytes, same_bytes}
 use Rattle.spec.specs.Check.{too_short, program_buffer}
@@ -19,7 +16,6 @@ use Rattle.lines.specs.Parts.{part_end}
 use Rattle.cases.specs.Answer.{answer_to}
 use Rattle.cases.specs.Stored.{case_key, sized, closed, named, record_of}
 use Rattle.std.specs.Prelude.{Some, None}
-use Rattle.cases.specs.declared.record.Record.{Record}
 
 -- ---- two runs of bytes
 

@@ -189,8 +189,7 @@ fn repeat_items(
             Err(Stop)
         }
         Ok(Times::Never) => Ok(left),
-        Ok(Times::Once) => collect_items(source, s, base, deep, left, ks, names, own, g, k,
-        ),
+        Ok(Times::Once) => collect_items(source, s, base, deep, left, ks, names, own, g, k),
         Ok(Times::Rounds(n, low, rounds)) => {
             if left < rounds {
                 places::clear_tables(own, g, k);
@@ -406,10 +405,8 @@ fn make_summary(source: Source<'_>, m: u32, pass: Pass, k: &mut [u32]) -> Result
         &mut g,
         k,
     )?;
-    match summary::summarise(run, ks, &g, k, m) {
-        Ok(()) => Ok(true),
-        Err(_) => Err(Stop),
-    }
+    summary::summarise(run, ks, &g, k, m)?;
+    Ok(true)
 }
 
 // Walks the items of module m in its own check, with 4,096 rounds. An accepted text has 32 modules at most.
@@ -472,28 +469,24 @@ pub fn collect_module(
     ensures lent_after { LentAfter result text.now mods.now count m names.old own.old g.old k.old
         names.new own.new g.new k.new }
 {
-    match modules::names_of_module(text, mods, m, names) {
-        Err(_) => {
+    let Ok(used) = modules::names_of_module(text, mods, m, names) else {
+        graph::clear(names);
+        places::clear_tables(own, g, k);
+        return Err(Stop);
+    };
+    items::reset(own);
+    graph::reset(g);
+    let source = Source {
+        text,
+        kinds,
+        mods,
+        count,
+    };
+    match walk_module(source, m, names, used, own, g, k) {
+        Ok(left) => Ok(Collected { used, left }),
+        Err(e) => {
             graph::clear(names);
-            places::clear_tables(own, g, k);
-            Err(Stop)
-        }
-        Ok(used) => {
-            items::reset(own);
-            graph::reset(g);
-            let source = Source {
-                text,
-                kinds,
-                mods,
-                count,
-            };
-            match walk_module(source, m, names, used, own, g, k) {
-                Ok(left) => Ok(Collected { used, left }),
-                Err(e) => {
-                    graph::clear(names);
-                    Err(e)
-                }
-            }
+            Err(e)
         }
     }
 }

@@ -55,11 +55,11 @@ module _ {text kinds mods : List ℕ} {count m : ℕ} {names own g w k : List �
   -- what the collection leaves
   module _ (names' own' g' k' : List ℕ) (a : Result Collected Stop) (collects : (j : Module) (kept' : Kept) → ModuleGiven text kinds mods count m names own g k j kept'
       → Collects a text names' own' g' k' j (own_walk (decode text) j kept')) where
-    pub one_full : {f : Stop} → a ≡ Err f → (write : Bool) (buf : Bytes) (p : Place) {e : Stop} → Tallied (Err e) write buf p buf k' (check_one (decode text) kept m x)
+    pub one_full : {f : Stop} → a ≡ Err f → (write : Bool) (buf : Bytes) (p : Place) (r : Result Checked Stop) → IsErr r → Tallied r write buf p buf k' (check_one (decode text) kept m x)
     one_full q write buf p =
         let o : own_walk (decode text) x kept ≡ full =
         subst (λ (b : Result Collected Stop). Collects b text names' own' g' k' x (own_walk (decode text) x kept)) q (collects x kept given) in
-        (one_is ∙ ap after o, λ _ _. refl)
+        handed_on (λ y. Tallied y write buf p buf k' (check_one (decode text) kept m x)) (λ _. (one_is ∙ ap after o, λ _ _. refl))
 
     module _ {r : Collected} (q : a ≡ Ok r) (b : Result Place Outside) (write : Bool) (buf : Bytes) (p : Place) (buf' : Bytes)
         (reported : (o : Own) (hs : List Head) → Held text own' o → Stands g' hs → Roomy w

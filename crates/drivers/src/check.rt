@@ -99,18 +99,7 @@ fn check_module_drivers(
         g,
         k,
     )?;
-    let next = groups::report_module(
-        source.text,
-        names,
-        c.used,
-        own,
-        g,
-        w,
-        m,
-        buf,
-        p,
-        write,
-    )?;
+    let next = groups::report_module(source.text, names, c.used, own, g, w, m, buf, p, write)?;
     Ok(Checked {
         next,
         rounds: 4096 - c.left,

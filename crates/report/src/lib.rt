@@ -102,11 +102,7 @@ pub fn count_walk_node(n: Node) -> usize
 {
     match n {
         Node::Signal(name) => 1 + count_number(name),
-        Node::Output {
-            inst,
-            index,
-            out,
-        } => {
+        Node::Output { inst, index, out } => {
             let a = count_number(inst);
             let b = count_index(index);
             let c = count_number(out);
@@ -270,11 +266,7 @@ fn write_walk_node(buf: &mut [u8], at: usize, n: Node) -> usize
 {
     match n {
         Node::Signal(name) => write_field(buf, at, name),
-        Node::Output {
-            inst,
-            index,
-            out,
-        } => write_output(buf, at, inst, index, out),
+        Node::Output { inst, index, out } => write_output(buf, at, inst, index, out),
     }
 }
 

@@ -14,6 +14,7 @@ ghost use Rattle.edges.specs.Reads.{KindsOf};
 ghost use Rattle.summary.specs.Keeps.{state_of, first_of, count_of, Keeps, recorded, Made, emptied};
 ghost use Rattle.summary.specs.Pairs.{Grown, Added, OutputAdded, PortIs, pairs_written, OutputLeaves, port_of, Leaves};
 
+use graph::Full;
 use lines::{numbers, parts};
 
 // A module that no line asked for yet, one that is being summarised, one whose summary is kept.
@@ -23,10 +24,6 @@ pub enum State {
     Busy,
     Kept,
 }
-
-// A summary triple too many.
-#[derive(Clone, Copy, Debug, PartialEq, Eq)]
-pub struct Full;
 
 // The words of the table.
 pub const KEPT: usize = 2145;
@@ -158,13 +155,7 @@ fn push_found(k: &mut [u32], w: &[u32], n: u32, o: u32) -> Result<(), Full>
 }
 
 // A pair of the output o with each input that it reaches.
-fn add_output(
-    kinds: &[u8],
-    g: &[u32],
-    w: &mut [u32],
-    k: &mut [u32],
-    o: u32,
-) -> Result<(), Full>
+fn add_output(kinds: &[u8], g: &[u32], w: &mut [u32], k: &mut [u32], o: u32) -> Result<(), Full>
     ensures output_added { (header : List Header) (heads : List Head) → KindsOf kinds.now header → Stands g.now heads → Clean w.old
         → (k₀ : List ℕ) (ps : Summary) → Grown k₀ k.old ps → OutputAdded (is_ok result) w.new k₀ k.new ps header heads o }
     ensures output_leaves { OutputLeaves (is_ok result) kinds.now g.now w.old w.new k.old o k.new }

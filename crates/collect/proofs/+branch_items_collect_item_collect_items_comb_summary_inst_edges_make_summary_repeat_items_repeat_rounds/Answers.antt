@@ -257,17 +257,17 @@ make_summary-returns-in_err-collect_items-clause-asked_for t c = rw (err_from_is
 pub make_summary-returns-in_err-collect_items-clause-ask_leaves : goal.make_summary-returns-in_err-collect_items-clause-ask_leaves
 make_summary-returns-in_err-collect_items-clause-ask_leaves t c = rw (err_from_is_err_and c.from_residual.result c.from_residual.ensures.1).1 ((walk_cleared c.collect_items.result false _ _ _ _ _ _ c.in_err-collect_items.was c.collect_items.ensures.walk_leaves).2)
 
-pub make_summary-returns-in-Ok-clause-asked_for : goal.make_summary-returns-in-Ok-clause-asked_for
-make_summary-returns-in-Ok-clause-asked_for t c = λ kept busy t h small new free. make_kept c.args.source.text.now c.args.source.kinds.now c.args.source.mods.now c.args.source.count c.args.m c.args.k.now kept busy t h c.args.pass.fuel small new free c.names_of_module.result c.names_of_module.new.names (λ x M. c.names_of_module.ensures.names_are x M (omega (arith, length-replicate {A = ℕ} 6616 0))) _ c.in-Ok.is _ _ c.begin.new.k (stands_empty 16898 (omega arith)) c.begin.ensures c.items_of_module-run.result.now c.items_of_module-run.ensures c.run_at.result c.run_at.ensures c.module_kinds-ks.result.now c.module_kinds-ks.ensures c.collect_items.result c.collect_items.new.own c.collect_items.new.g c.collect_items.new.k c.collect_items.ensures.ends _ c.in_ok-collect_items.was (is_ok c.summarise.result) c.summarise.new.k c.summarise.ensures.by_index (ap is_ok c.in-Ok.is)
+pub make_summary-returns-clause-asked_for : goal.make_summary-returns-clause-asked_for
+make_summary-returns-clause-asked_for t c = λ kept busy t h small new free. make_kept c.args.source.text.now c.args.source.kinds.now c.args.source.mods.now c.args.source.count c.args.m c.args.k.now kept busy t h c.args.pass.fuel small new free c.names_of_module.result c.names_of_module.new.names (λ x M. c.names_of_module.ensures.names_are x M (omega (arith, length-replicate {A = ℕ} 6616 0))) _ c.in-Ok.is _ _ c.begin.new.k (stands_empty 16898 (omega arith)) c.begin.ensures c.items_of_module-run.result.now c.items_of_module-run.ensures c.run_at.result c.run_at.ensures c.module_kinds-ks.result.now c.module_kinds-ks.ensures c.collect_items.result c.collect_items.new.own c.collect_items.new.g c.collect_items.new.k c.collect_items.ensures.ends _ c.in_ok-collect_items.was (is_ok c.summarise.result) c.summarise.new.k c.summarise.ensures.by_index (ap is_ok c.in_ok-summarise.was)
 
-pub make_summary-returns-in-Ok-clause-ask_leaves : goal.make_summary-returns-in-Ok-clause-ask_leaves
-make_summary-returns-in-Ok-clause-ask_leaves t c = made_left c.args.k.now c.begin.new.k c.collect_items.new.g c.collect_items.new.k c.summarise.new.k c.args.m c.items_of_module-run.result.now c.module_kinds-ks.result.now (is_ok c.summarise.result) c.begin.ensures (walk_kept c.collect_items.result false _ _ _ _ _ _ c.in_ok-collect_items.was c.collect_items.ensures.walk_leaves).1 (ap is_ok c.in-Ok.is) c.summarise.ensures.leaves
+pub make_summary-returns-clause-ask_leaves : goal.make_summary-returns-clause-ask_leaves
+make_summary-returns-clause-ask_leaves t c = made_left c.args.k.now c.begin.new.k c.collect_items.new.g c.collect_items.new.k c.summarise.new.k c.args.m c.items_of_module-run.result.now c.module_kinds-ks.result.now (is_ok c.summarise.result) c.begin.ensures (walk_kept c.collect_items.result false _ _ _ _ _ _ c.in_ok-collect_items.was c.collect_items.ensures.walk_leaves).1 (ap is_ok c.in_ok-summarise.was) c.summarise.ensures.leaves
 
-pub make_summary-returns-in-Err-clause-asked_for : goal.make_summary-returns-in-Err-clause-asked_for
-make_summary-returns-in-Err-clause-asked_for t c = λ kept busy t h small new free. make_over c.args.source.text.now c.args.source.kinds.now c.args.source.mods.now c.args.source.count c.args.m c.args.k.now kept busy t h c.args.pass.fuel small new free c.names_of_module.result c.names_of_module.new.names (λ x M. c.names_of_module.ensures.names_are x M (omega (arith, length-replicate {A = ℕ} 6616 0))) _ c.in-Ok.is _ _ c.begin.new.k (stands_empty 16898 (omega arith)) c.begin.ensures c.items_of_module-run.result.now c.items_of_module-run.ensures c.run_at.result c.run_at.ensures c.module_kinds-ks.result.now c.module_kinds-ks.ensures c.collect_items.result c.collect_items.new.own c.collect_items.new.g c.collect_items.new.k c.collect_items.ensures.ends _ c.in_ok-collect_items.was (is_ok c.summarise.result) c.summarise.new.k c.summarise.ensures.by_index (ap is_ok c.in-Err.is)
+pub make_summary-returns-in_err-summarise-clause-asked_for : goal.make_summary-returns-in_err-summarise-clause-asked_for
+make_summary-returns-in_err-summarise-clause-asked_for t c = rw (err_from_is_err_and c.from_residual-in_err-summarise.result c.from_residual-in_err-summarise.ensures.1).1 (λ kept busy t h small new free. make_over c.args.source.text.now c.args.source.kinds.now c.args.source.mods.now c.args.source.count c.args.m c.args.k.now kept busy t h c.args.pass.fuel small new free c.names_of_module.result c.names_of_module.new.names (λ x M. c.names_of_module.ensures.names_are x M (omega (arith, length-replicate {A = ℕ} 6616 0))) _ c.in-Ok.is _ _ c.begin.new.k (stands_empty 16898 (omega arith)) c.begin.ensures c.items_of_module-run.result.now c.items_of_module-run.ensures c.run_at.result c.run_at.ensures c.module_kinds-ks.result.now c.module_kinds-ks.ensures c.collect_items.result c.collect_items.new.own c.collect_items.new.g c.collect_items.new.k c.collect_items.ensures.ends _ c.in_ok-collect_items.was (is_ok c.summarise.result) c.summarise.new.k c.summarise.ensures.by_index (ap is_ok c.in_err-summarise.was))
 
-pub make_summary-returns-in-Err-clause-ask_leaves : goal.make_summary-returns-in-Err-clause-ask_leaves
-make_summary-returns-in-Err-clause-ask_leaves t c = leaves_zero (is_ok c.summarise.result) _ _ _ c.collect_items.new.k c.args.m c.summarise.new.k (ap is_ok c.in-Err.is) c.summarise.ensures.leaves
+pub make_summary-returns-in_err-summarise-clause-ask_leaves : goal.make_summary-returns-in_err-summarise-clause-ask_leaves
+make_summary-returns-in_err-summarise-clause-ask_leaves t c = rw (err_from_is_err_and c.from_residual-in_err-summarise.result c.from_residual-in_err-summarise.ensures.1).1 (leaves_zero (is_ok c.summarise.result) _ _ _ c.collect_items.new.k c.args.m c.summarise.new.k (ap is_ok c.in_err-summarise.was) c.summarise.ensures.leaves)
 
 pub repeat_items-returns-then-pass-eq0-clause-ends : goal.repeat_items-returns-then-pass-eq0-clause-ends
 repeat_items-returns-then-pass-eq0-clause-ends t c = not_shallow c.args.pass.fuel (mode c.args.pass.checking c.args.pass.bound) c.args.source.text.now c.args.source.kinds.now c.args.source.mods.now c.args.source.count c.args.x.now c.args.from c.args.pass.depth c.args.ks.now c.args.names.now c.args.pass.used c.args.left c.args.own.now c.args.g.now c.args.k.now c.if-pass-eq0.true
