@@ -179,22 +179,18 @@ fn drive_output(
     ensures own_leaves { OwnLeaves (is_ok result) (output_driven lv.now l bound depth (names_of names.now used) own.old) own.new }
 {
     let end = l.end;
-    match lvalue_extent(lv, end, bound, depth, names, used) {
-        Ok(e) => match sites::add_site(
-            own,
-            Site {
-                name: l.name,
-                extent: e,
-                start: l.start,
-            },
-        ) {
-            Ok(()) => Ok(()),
-            Err(Full) => {
-                sites::clear(own);
-                Err(Stop)
-            }
-        },
-        Err(_) => {
+    let Ok(extent) = lvalue_extent(lv, end, bound, depth, names, used) else {
+        sites::clear(own);
+        return Err(Stop);
+    };
+    let site = Site {
+        name: l.name,
+        extent,
+        start: l.start,
+    };
+    match sites::add_site(own, site) {
+        Ok(()) => Ok(()),
+        Err(Full) => {
             sites::clear(own);
             Err(Stop)
         }
