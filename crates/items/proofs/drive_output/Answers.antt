@@ -1,4 +1,3 @@
-use mathlib.Core.Path.{◌∙◌}
 use lib.ListN.{length}
 use Rattle.consteval.specs.Worth.{names_of}
 use Rattle.items.proofs.AddedLaws.{driven_done, driven_full, driven_outside}
