@@ -55,6 +55,20 @@ module _ (b : ℕ) {o : Option Kind} (q : o ≡ kind_by b) where
     reg_or_mem (inl e) = let h = byte_is Reg e in (omega arith, omega arith)
     reg_or_mem (inr e) = let h = byte_is Mem e in (omega arith, omega arith)
 
+    pub signals : (k ≡ In) ⊎ ((k ≡ Out) ⊎ (k ≡ Wire)) → (b ≡ 0 → ⊥) × (b ≤ 3)
+    signals (inl e) = let h = byte_is In e in (λ z. omega arith, omega arith)
+    signals (inr (inl e)) = let h = byte_is Out e in (λ z. omega arith, omega arith)
+    signals (inr (inr e)) = let h = byte_is Wire e in (λ z. omega arith, omega arith)
+
+    pub no_signals : (k ≡ Reg) ⊎ ((k ≡ Mem) ⊎ (k ≡ Inst)) → 3 < b
+    no_signals (inl e) = let h = byte_is Reg e in omega arith
+    no_signals (inr (inl e)) = let h = byte_is Mem e in omega arith
+    no_signals (inr (inr e)) = let h = byte_is Inst e in omega arith
+
+    pub undriven : (k ≡ In) ⊎ ((k ≡ Reg) ⊎ ((k ≡ Mem) ⊎ (k ≡ Inst))) → (b < 2) ⊎ (3 < b)
+    undriven (inl e) = let h = byte_is In e in inl (omega arith)
+    undriven (inr e) = inr (no_signals e)
+
 -- ---- a kind compared with one kind
 
 abbrev pub same : Option Kind → Option Kind → Bool
