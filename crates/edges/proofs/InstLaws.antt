@@ -4,13 +4,17 @@ use mathlib.Core.Path.{◌≡◌, refl, sym, ◌∙◌, ap}
 use mathlib.Core.Bool.{Bool, true, false}
 use mathlib.Core.List.{List, []}
 use mathlib.Core.Option.{some}
-use Prim.Native.Nat.{ℕ, zero, suc, ◌-◌, ◌≤◌, ◌<◌}
+use Prim.Native.Nat.{ℕ, zero, suc, ◌-◌}
 use native.Mathlib.Omega.{arith}
 use lib.ListN.{get_or}
 use lib.Dec.{ltb}
 use lib.IntN.{ℤ, negsuc}
 use borrow.Author.Tests.{ltb-true}
-use Rattle.std.specs.Prelude.{Result, Some, None, Ok, Err}
+use Rattle.lines.specs.Kinds.{kind_by}
+use Rattle.lines.specs.declared.kinds.Kind.{Kind}
+use Rattle.lines.specs.declared.kinds.Kind.TheVariants.{Inst}
+use Rattle.lines.proofs.KindLaws.{same}
+use Rattle.std.specs.Prelude.{Result, Option, Some, None, Ok, Err}
 use Rattle.spec.specs.Value.{Value}
 use Rattle.spec.specs.Edge.{Node, inst_out, no_reads, Head, is_inst, indexed_reads}
 use Rattle.graph.specs.Table.{unbiased}
@@ -30,30 +34,17 @@ same_word x = go (ltb x 2147483648) refl
     go true e = let l = ltb-true x 2147483648 e in let h : 2147483648 - suc x ≡ 2147483647 - x = omega arith in rw (e, unbiased) (ap negsuc h)
     go false e = rw (e, unbiased)
 
-small_kind : (k : ℕ) → k < 6 → is_inst (kind_word k) ≡ false
-small_kind zero h = refl
-small_kind (suc zero) h = refl
-small_kind (suc (suc zero)) h = refl
-small_kind (suc (suc (suc zero))) h = refl
-small_kind (suc (suc (suc (suc zero)))) h = refl
-small_kind (suc (suc (suc (suc (suc zero))))) h = refl
-small_kind (suc (suc (suc (suc (suc (suc k)))))) h = absurd (omega arith)
+inst_by_byte : (b : ℕ) → same (kind_by b) (Some Inst) ≡ is_inst (kind_word b)
+inst_by_byte zero = refl
+inst_by_byte (suc zero) = refl
+inst_by_byte (suc (suc zero)) = refl
+inst_by_byte (suc (suc (suc zero))) = refl
+inst_by_byte (suc (suc (suc (suc zero)))) = refl
+inst_by_byte (suc (suc (suc (suc (suc zero))))) = refl
+inst_by_byte (suc (suc (suc (suc (suc (suc b)))))) = refl
 
-large_kind : (k : ℕ) → 6 ≤ k → is_inst (kind_word k) ≡ true
-large_kind zero h = absurd (omega arith)
-large_kind (suc zero) h = absurd (omega arith)
-large_kind (suc (suc zero)) h = absurd (omega arith)
-large_kind (suc (suc (suc zero))) h = absurd (omega arith)
-large_kind (suc (suc (suc (suc zero)))) h = absurd (omega arith)
-large_kind (suc (suc (suc (suc (suc zero))))) h = absurd (omega arith)
-large_kind (suc (suc (suc (suc (suc (suc k)))))) h = refl
-
-module _ (kinds : List ℕ) (i : ℕ) {k : ℕ} (q : k ≡ get_or kinds i 0) where
-  pub inst_not : k < 6 → false ≡ inst_by kinds i
-  inst_not l = sym (small_kind k l) ∙ ap (λ (z : ℕ). is_inst (kind_word z)) q
-
-  pub inst_here : 6 ≤ k → true ≡ inst_by kinds i
-  inst_here l = sym (large_kind k l) ∙ ap (λ (z : ℕ). is_inst (kind_word z)) q
+pub inst_same : (kinds : List ℕ) (i : ℕ) {o : Option Kind} → o ≡ kind_by (get_or kinds i 0) → same o (Some Inst) ≡ inst_by kinds i
+inst_same kinds i q = ap (λ (o : Option Kind). same o (Some Inst)) q ∙ inst_by_byte (get_or kinds i 0)
 
 -- what an index reads, by its value
 module _ (i p : ℕ) {v : Answer} {z : Value} (qv : worth v ≡ z) where

@@ -146,9 +146,6 @@ module _ (x : Bytes) {a : ℕ} (fa : EndsAt x 6 a) {u : Bytes} (qu : u ≡ piece
       no (inl z) l h = omega (arith, kind_here)
       no (inr z) l h = omega (arith, kind_here)
 
-  pub drive_past : 3 < k → DriveLeaves true x d kinds names g g
-  drive_past l = drive_stays (inr l)
-
   pub drive_leaves : 2 ≤ k → k ≤ 3 → {c : ℕ} → EndsAt u b c → {t : ℕ} → t ≡ number_at u b c → {q : Reads} → q ≡ drive_reads kinds names d x
       → (r : Bool) (g' : List ℕ) → HeadThenReads r q g (nodes.Signal m) t g' → DriveLeaves r x d kinds names g g'
   unfolding drive_start

@@ -1,6 +1,7 @@
 -- What `wire` and `drive` lines head, one law for each way of `wire_heads` and `drive_heads`.
 -- Assumes nothing.
 use mathlib.Core.Path.{◌≡◌, refl, sym, ◌∙◌, ap}
+use mathlib.Core.Logic.{◌⊎◌, inl, inr}
 use mathlib.Core.Bool.{Bool, true, false, ◌&&◌}
 use mathlib.Core.List.{List, [], ◌∷◌, ◌++◌}
 use mathlib.Core.Option.{Option}
@@ -182,11 +183,9 @@ module _ (x : Bytes) (d : ℕ) {a : ℕ} (fa : EndsAt x 6 a) {u : Bytes} (qu : u
       ap (λ (o : Option Kind). drive_heads (driving o) lv (drive_reads header lv e)) (kind_here lv e s header w) ∙ f lv (drive_reads header lv e) in
       rw z (heads_none hs g h)
 
-  pub drive_low : k < 2 → DriveHeads true x d kinds names g g
-  drive_low l = drive_none (λ lv q. drives_low k lv q l)
-
-  pub drive_high : 3 < k → DriveHeads true x d kinds names g g
-  drive_high l = drive_none (λ lv q. drives_high k lv q l)
+  pub drive_apart : (k < 2) ⊎ (3 < k) → DriveHeads true x d kinds names g g
+  drive_apart (inl l) = drive_none (λ lv q. drives_low k lv q l)
+  drive_apart (inr l) = drive_none (λ lv q. drives_high k lv q l)
 
   module _ (low : 2 ≤ k) (high : k ≤ 3) {c : ℕ} (fc : EndsAt u b c) {t : ℕ} (qt : t ≡ number_at u b c)
       (v : Result ℕ Full) (g₁ : List ℕ) (headed : (hs : List Head) → Stands g hs → Headed v g₁ hs (signal m) t) where

@@ -17,6 +17,7 @@ ghost use Rattle.edges.specs.Leaves.{ReadsOrCleared, WireLeaves, DriveLeaves, Ou
 use consteval::{Outside, Value};
 use graph::{Full, Node};
 use lines::bytes::{is_minus, is_open, is_space};
+use lines::kinds::{Kind, kind_at};
 use lines::{numbers, parts};
 
 // A limit is passed, or a constant is outside INT: the text is refused by the number 20.
@@ -60,15 +61,16 @@ fn name_read(kinds: &[u8], n: u32, g: &mut [u32], from: u32) -> Result<(), Stop>
     ensures name_read { NameRead (is_ok result) n kinds.now g.old g.new from }
     ensures reads_or_cleared { ReadsOrCleared (is_ok result) (name_reads (kind_word (get_or kinds.now n 0)) n) from g.old g.new }
 {
-    let k = parts::byte(kinds, n as usize);
-    if k == 0 {
+    let Some(kind) = kind_at(kinds, n as usize) else {
         return Ok(());
+    };
+    match kind {
+        Kind::In | Kind::Out | Kind::Wire => {
+            graph::read(g, from, Node::Signal(n))?;
+            Ok(())
+        }
+        Kind::Reg | Kind::Mem | Kind::Inst => Ok(()),
     }
-    if 3 < k {
-        return Ok(());
-    }
-    graph::read(g, from, Node::Signal(n))?;
-    Ok(())
 }
 
 // Does x begin with a bracket and then the letter a?
@@ -115,14 +117,10 @@ fn indexed_name(x: &[u8]) -> Option<u32>
 }
 
 // Is the name i an inst?
-#[tactic(auto, using(crate::proofs::InstLaws::inst_not, crate::proofs::InstLaws::inst_here))]
 fn is_inst(kinds: &[u8], i: u32) -> bool
     ensures { result ≡ inst_by kinds.now i }
 {
-    if parts::byte(kinds, i as usize) < 6 {
-        return false;
-    }
-    true
+    kind_at(kinds, i as usize) == Some(Kind::Inst)
 }
 
 // What an `f` is of: an inst, an inst with an index, or anything else.
@@ -304,9 +302,8 @@ pub fn wire_heads(x: &[u8], depth: u32, scope: Scope<'_>, g: &mut [u32]) -> Resu
     expr_reads(parts::between(x, a, b), under(depth, 1), scope, g, i)
 }
 
-// The `drive` line x heads its signal, an output or a wire by its kind (2, 3): it reads the expression, then the indexes. The LV stands
+// The `drive` line x heads its signal, an output or a wire by its kind: it reads the expression, then the indexes. The LV stands
 // behind the 6 bytes of `(drive`, its name behind the 3 of `(lv`. With an error the graph is cleared.
-#[tactic(auto, using(crate::proofs::LeaveLaws::drive_past))]
 pub fn drive_heads(x: &[u8], depth: u32, scope: Scope<'_>, g: &mut [u32]) -> Result<(), Stop>
     ensures drive_leaves { DriveLeaves (is_ok result) x.now depth scope.entry.kinds.now (names_in scope.entry) g.old g.new }
     ensures drive_heads { DriveHeads (is_ok result) x.now depth scope.entry.kinds.now (names_in scope.entry) g.old g.new }
@@ -316,12 +313,12 @@ pub fn drive_heads(x: &[u8], depth: u32, scope: Scope<'_>, g: &mut [u32]) -> Res
     let lv = parts::between(x, 6, a);
     let b = next_end(lv, 3);
     let n = number_at(lv, 3, b);
-    let kind = parts::byte(scope.kinds, n as usize);
-    if kind < 2 {
+    let Some(kind) = kind_at(scope.kinds, n as usize) else {
         return Ok(());
-    }
-    if 3 < kind {
-        return Ok(());
+    };
+    match kind {
+        Kind::Out | Kind::Wire => {}
+        Kind::In | Kind::Reg | Kind::Mem | Kind::Inst => return Ok(()),
     }
     let c = next_end(lv, b);
     let start = number_at(lv, b, c);

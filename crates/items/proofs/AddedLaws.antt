@@ -1,5 +1,6 @@
 -- What any bytes add to any words: one law for each way of the functions that add. Assumes nothing.
 use mathlib.Core.Path.{◌≡◌, refl, sym, ◌∙◌, ap, subst}
+use mathlib.Core.Logic.{◌⊎◌, inl, inr}
 use mathlib.Core.Bool.{Bool, true, false, ◌&&◌}
 use mathlib.Core.List.{List, [], ◌∷◌}
 use Prim.Native.Nat.{ℕ, zero, suc, ◌+◌, ◌-◌, ◌≤◌, ◌<◌}
@@ -238,12 +239,12 @@ module _ (s : Bytes) (block : ℕ) (kinds own : List ℕ) (l : Named) (ql : l �
     set_refused d own' c = leaves_by false own' (set_pair y z) (stored_full r own₁ own' e d c)
 
 -- a kind below 2 or above 5 drives nothing
-pub low_drives : (k : ℕ) → k < 2 → driving (kind_word k) ≡ nothing
+low_drives : (k : ℕ) → k < 2 → driving (kind_word k) ≡ nothing
 low_drives zero l = refl
 low_drives (suc zero) l = refl
 low_drives (suc (suc k)) l = absurd (omega arith)
 
-pub high_drives : (k : ℕ) → 5 < k → driving (kind_word k) ≡ nothing
+high_drives : (k : ℕ) → 5 < k → driving (kind_word k) ≡ nothing
 high_drives zero l = absurd (omega arith)
 high_drives (suc zero) l = absurd (omega arith)
 high_drives (suc (suc zero)) l = absurd (omega arith)
@@ -251,6 +252,10 @@ high_drives (suc (suc (suc zero))) l = absurd (omega arith)
 high_drives (suc (suc (suc (suc zero)))) l = absurd (omega arith)
 high_drives (suc (suc (suc (suc (suc zero))))) l = absurd (omega arith)
 high_drives (suc (suc (suc (suc (suc (suc k)))))) l = refl
+
+pub undriven : (k : ℕ) → (k < 2) ⊎ (5 < k) → driving (kind_word k) ≡ nothing
+undriven k (inl l) = low_drives k l
+undriven k (inr l) = high_drives k l
 
 -- ---- `default`
 

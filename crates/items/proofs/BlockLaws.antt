@@ -1,6 +1,7 @@
 -- The statements of a block: one law for each way of `set_stmt`, `default_stmt`, `block_stmt`, `block_stmts` and `on_block`.
 -- Assumes nothing.
 use mathlib.Core.Path.{◌≡◌, refl, sym, ◌∙◌, ap}
+use mathlib.Core.Logic.{◌⊎◌, inl, inr}
 use mathlib.Core.Bool.{Bool, true, false, ◌&&◌, ◌||◌, or-true}
 use mathlib.Core.List.{List, [], ◌∷◌, ◌++◌, append-nil}
 use mathlib.Core.Option.{Option}
@@ -170,7 +171,7 @@ module _ (x : Bytes) (block : ℕ) (kinds : List ℕ) (own : List ℕ) (l : Name
       (h text o held n start d p)
 
   -- an input, an inst, or a name without kind
-  pub set_low : k < 2 → SetAfter true x block kinds own own
+  set_low : k < 2 → SetAfter true x block kinds own own
   set_low z = go k refl z
     where
       go : (j : ℕ) → k ≡ j → j < 2 → SetAfter true x block kinds own own
@@ -178,7 +179,7 @@ module _ (x : Bytes) (block : ℕ) (kinds : List ℕ) (own : List ℕ) (l : Name
       go (suc zero) e z = set_by true own (λ n b. []) (λ n s. []) (λ n. ap (λ (i : ℕ). pair_if (is_reg (kind_word i) || is_mem (kind_word i)) n block) e) (λ n s. ap (λ (i : ℕ). set_misuse (driving (kind_word i)) n s) e) (λ text o h n s d p. block_none text own o h)
       go (suc (suc j)) e z = absurd (omega arith)
 
-  pub set_high : 5 < k → SetAfter true x block kinds own own
+  set_high : 5 < k → SetAfter true x block kinds own own
   set_high z = go k refl z
     where
       go : (j : ℕ) → k ≡ j → 5 < j → SetAfter true x block kinds own own
@@ -189,6 +190,10 @@ module _ (x : Bytes) (block : ℕ) (kinds : List ℕ) (own : List ℕ) (l : Name
       go (suc (suc (suc (suc zero)))) e z = absurd (omega arith)
       go (suc (suc (suc (suc (suc zero))))) e z = absurd (omega arith)
       go (suc (suc (suc (suc (suc (suc j)))))) e z = set_by true own (λ n b. []) (λ n s. []) (λ n. ap (λ (i : ℕ). pair_if (is_reg (kind_word i) || is_mem (kind_word i)) n block) e) (λ n s. ap (λ (i : ℕ). set_misuse (driving (kind_word i)) n s) e) (λ text o h n s d p. block_none text own o h)
+
+  pub set_apart : (k < 2) ⊎ (5 < k) → SetAfter true x block kinds own own
+  set_apart (inl l) = set_low l
+  set_apart (inr l) = set_high l
 
   -- an output or a wire
   module _ (own' : List ℕ) (size : length own' ≡ length own)

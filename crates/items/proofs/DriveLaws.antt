@@ -288,15 +288,6 @@ module _ (y : Bytes) (l : Named) (bound : Bool) (d : ℕ) (names : Names) (x : E
 
 -- ---- a drive line, by the kind of its name
 
-pub other_driving : (k : ℕ) → (k ≡ 2 → ⊥) → (k ≡ 3 → ⊥) → (k ≡ 4 → ⊥) → (k ≡ 5 → ⊥) → driving (kind_word k) ≡ nothing
-other_driving zero a b c e = refl
-other_driving (suc zero) a b c e = refl
-other_driving (suc (suc zero)) a b c e = absurd (a refl)
-other_driving (suc (suc (suc zero))) a b c e = absurd (b refl)
-other_driving (suc (suc (suc (suc zero)))) a b c e = absurd (c refl)
-other_driving (suc (suc (suc (suc (suc zero))))) a b c e = absurd (e refl)
-other_driving (suc (suc (suc (suc (suc (suc k)))))) a b c e = refl
-
 module _ (x : Bytes) (bound : Bool) (d : ℕ) (kinds : List ℕ) (names : Names) (own : List ℕ) {a : ℕ} (qa : a ≡ part_end x 7) {y : Bytes} (qy : y ≡ piece x 6 a)
     (l : Named) (nl : NamedAt l y 3) {k : ℕ} (qk : k ≡ get_or kinds l.name 0) where
   line_named : (lv : LValue) (e : Expr) → ShowsItem x d (drive lv e) → NamedIs l y lv.name lv.start (show_index lv.index)

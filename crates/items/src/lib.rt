@@ -17,6 +17,7 @@ ghost use Rattle.items.specs.Lines.{emptied, number_at, named_at, index_at, Exte
 
 use consteval::{Outside, Value};
 use edges::{Scope, Stop};
+use lines::kinds::{Kind, kind_at};
 use lines::{numbers, parts};
 use sites::{Extent, Full, Misuse, Site};
 
@@ -199,21 +200,15 @@ fn drive(x: &[u8], bound: bool, depth: u32, scope: Scope<'_>, own: &mut [u32]) -
 {
     let lv = parts::between(x, 6, parts::part_end(x, 7));
     let l = named_at(lv, 3);
-    let k = parts::byte(scope.kinds, l.name as usize);
-    if k == 2 {
-        return drive_output(lv, l, bound, depth, scope.names, scope.used, own);
-    }
-    if k == 3 {
-        sites::add_misuse(own, l.name, l.start, Misuse::Wire);
+    let Some(kind) = kind_at(scope.kinds, l.name as usize) else {
         return Ok(());
-    }
-    if k == 4 {
-        sites::add_misuse(own, l.name, l.start, Misuse::Reg);
-        return Ok(());
-    }
-    if k == 5 {
-        sites::add_misuse(own, l.name, l.start, Misuse::Mem);
-        return Ok(());
+    };
+    match kind {
+        Kind::Out => return drive_output(lv, l, bound, depth, scope.names, scope.used, own),
+        Kind::Wire => sites::add_misuse(own, l.name, l.start, Misuse::Wire),
+        Kind::Reg => sites::add_misuse(own, l.name, l.start, Misuse::Reg),
+        Kind::Mem => sites::add_misuse(own, l.name, l.start, Misuse::Mem),
+        Kind::In | Kind::Inst => {}
     }
     Ok(())
 }
@@ -225,23 +220,22 @@ fn set_stmt(s: &[u8], block: u32, kinds: &[u8], own: &mut [u32]) -> Result<(), S
     ensures own_leaves { OwnLeaves (is_ok result) (set_added block kinds.now s.now own.old) own.new }
 {
     let l = named_at(s, 4);
-    let k = parts::byte(kinds, l.name as usize);
-    if k < 2 {
+    let Some(kind) = kind_at(kinds, l.name as usize) else {
         return Ok(());
-    }
-    if k < 4 {
-        sites::add_misuse(own, l.name, l.start, Misuse::Arrow);
-        return Ok(());
-    }
-    if 5 < k {
-        return Ok(());
-    }
-    match sites::add_pair(own, l.name, block) {
-        Ok(()) => Ok(()),
-        Err(Full) => {
-            sites::clear(own);
-            Err(Stop)
+    };
+    match kind {
+        Kind::Out | Kind::Wire => {
+            sites::add_misuse(own, l.name, l.start, Misuse::Arrow);
+            Ok(())
         }
+        Kind::Reg | Kind::Mem => match sites::add_pair(own, l.name, block) {
+            Ok(()) => Ok(()),
+            Err(Full) => {
+                sites::clear(own);
+                Err(Stop)
+            }
+        },
+        Kind::In | Kind::Inst => Ok(()),
     }
 }
 
@@ -252,7 +246,7 @@ fn default_stmt(s: &[u8], block: u32, kinds: &[u8], own: &mut [u32]) -> Result<(
     ensures own_leaves { OwnLeaves (is_ok result) (default_added block kinds.now s.now own.old) own.new }
 {
     let n = number(s, 8, parts::part_end(s, 9));
-    if parts::byte(kinds, n as usize) != 4 {
+    if kind_at(kinds, n as usize) != Some(Kind::Reg) {
         return Ok(());
     }
     match sites::add_pair(own, n, block) {
@@ -374,7 +368,7 @@ pub fn drive_outside(x: &[u8], depth: u32, scope: Scope<'_>) -> bool
     }
     let lv = parts::between(x, 6, parts::part_end(x, 7));
     let l = named_at(lv, 3);
-    if parts::byte(scope.kinds, l.name as usize) != 2 {
+    if kind_at(scope.kinds, l.name as usize) != Some(Kind::Out) {
         return false;
     }
     let end = l.end;

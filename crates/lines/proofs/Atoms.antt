@@ -1,7 +1,7 @@
 -- Parts with no brackets: what is read at a position is one of the category, and one of the category is read.
 -- Assumes nothing.
 use mathlib.Core.Path.{◌≡◌, refl, sym, ap, ap₂, ◌∙◌}
-use mathlib.Core.Bool.{Bool, true, false, not as opposite}
+use mathlib.Core.Bool.{Bool, true, false}
 use mathlib.Core.Logic.{◌⊎◌, inl, inr}
 use mathlib.Core.List.{[], ◌∷◌, ◌++◌}
 use Prim.Native.Nat.{ℕ, zero, suc, ◌+◌, ◌≤◌}
@@ -17,8 +17,8 @@ use Rattle.spec.specs.Show.{show_truth, show_kind, show_dir, show_bound, show_ex
 use Rattle.spec.specs.Refusal.{expr_in_range, width_in_range, place_in_range, in_int, expr_depth, width_depth, place_depth}
 use Rattle.spec.proofs.Numbers.{Digits, number_digits}
 use Rattle.lines.specs.Bytes.{class_of, is_digit}
-use Rattle.std.specs.Prelude.{Option, Some, None}
-use Rattle.lines.specs.Parse.{valued, good, key, code_after, word_at, number_at, numbered, counted, int_at, kind_numbers, kind_of, lookup_key, either, worded, literal, atom}
+use Rattle.std.specs.Prelude.{Option, Some, None, is_some}
+use Rattle.lines.specs.Parse.{valued, good, key, code_after, word_at, number_at, numbered, counted, int_at, named_kinds, kind_of, lookup_key, either, worded, literal, atom}
 use Rattle.lines.specs.declared.parse.Cat.{Cat}
 use Rattle.lines.specs.declared.parse.Cat.TheVariants.{Name, Start, Mod, Count, Int, Kind, Dir, Bound, E, X, T, Lv, C, S, I, ThenS, ElseS, ThenI, ElseI, L, Nothing}
 use Rattle.lines.specs.declared.parse.Number.{Number}
@@ -116,10 +116,10 @@ module _ (t : Bytes) (i j : ℕ) (r : Bool) where
       go (inl e) = (true, word_sound (bytes "true") refl e g.1)
       go (inr e) = (false, word_sound (bytes "false") refl e g.1)
 
-  kind_sound : (opposite (eqb (kind_of (word_at t i).key) 0) ≡ true) × ((word_at t i).next ≡ j) × (true ≡ r) → Found 0 Kind t i j r
-  unfolding kind_of kind_numbers all_wordly class_of
+  kind_sound : (is_some (kind_of (word_at t i).key) ≡ true) × ((word_at t i).next ≡ j) × (true ≡ r) → Found 0 Kind t i j r
+  unfolding kind_of named_kinds all_wordly class_of
   kind_sound g =
-      lookup_case (λ v. opposite (eqb v 0) ≡ true → Found 0 Kind t i j r) kind_numbers 0 (word_at t i).key
+      lookup_case (λ v. is_some v ≡ true → Found 0 Kind t i j r) named_kinds None (word_at t i).key
       (λ e _. is in_kind refl e, (λ e _. is out_kind refl e, (λ e _. is wire_kind refl e, (λ e _. is reg_kind refl e, (λ e _. is mem_kind refl e, (λ e _. is inst_kind refl e, tt))))))
       (λ q. let z : ◌≡◌ {A = ℕ} 0 1 = ap (λ (x : Bool). elim x as (λ _. ℕ) [ true ↦ 1 | false ↦ 0 ]) q in absurd (omega arith)) g.0
     where
@@ -273,7 +273,7 @@ module _ (t : Bytes) (i : ℕ) (r : Bytes) where
   either_there w a b f h e s = rw (word_there w t i r f e s, h)
 
   kind_there : (k : Syntax.Kind) → drop i t ≡ show_kind k ++ r → Stops r → atom Kind t i ≡ good (i + length (show_kind k)) true
-  unfolding all_wordly class_of kind_of kind_numbers lookup_key key code_after
+  unfolding all_wordly class_of kind_of named_kinds lookup_key key code_after
   kind_there in_kind e s = rw (word_there (bytes "in") t i r refl e s)
   kind_there out_kind e s = rw (word_there (bytes "out") t i r refl e s)
   kind_there wire_kind e s = rw (word_there (bytes "wire") t i r refl e s)

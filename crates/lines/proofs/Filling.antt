@@ -12,6 +12,7 @@ use Rattle.spec.specs.Bytes.{Bytes}
 use Rattle.spec.specs.Syntax.{name_bound}
 use Rattle.spec.specs.Refusal.{Verdict, lines, Before, has_name}
 use Rattle.spec.proofs.Numbers.{if_case}
+use Rattle.lines.specs.Kinds.{byte_of}
 use Rattle.lines.specs.Parse.{kind_of}
 use Rattle.lines.specs.Read.{fault_code, step_number, line_step}
 use Rattle.lines.specs.Verdict.{modules_in, refused_as, told}
@@ -160,7 +161,7 @@ module _ (t : Bytes) (at row modules : ℕ) (items : Bool) (first : ℕ) (seen k
         }
 
     filling_kind : (n : ℕ) → Ok (Kind feed n) ≡ line_step t at modules items seen
-        → Filling t (feed + 1) (row + 1) modules items (feed + 1) (set seen n 1) kinds₀ mods₀ (set kinds ((modules - 1) * name_bound + n) (kind_of (second_key t at))) (marked mods (modules - 1) (feed + 1) (feed + 1))
+        → Filling t (feed + 1) (row + 1) modules items (feed + 1) (set seen n 1) kinds₀ mods₀ (set kinds ((modules - 1) * name_bound + n) (byte_of (kind_of (second_key t at)))) (marked mods (modules - 1) (feed + 1) (feed + 1))
     filling_kind n e =
         let r = right (Ok (Kind feed n)) e in
         let z = second_kind t at feed here n r.0 r.1 in
@@ -223,7 +224,7 @@ module _ (t : Bytes) (kinds₀ mods₀ : List ℕ) (fit : Fitting t kinds₀ mod
     })
     turn (Ok (Kind feed n)) e q z = rw (one_step z) (record {
       places = length-set seen n 1 ∙ w.places;
-      kinds_kept = length-set kinds ((p.modules - 1) * name_bound + n) (kind_of (second_key t p.next)) ∙ w.kinds_kept;
+      kinds_kept = length-set kinds ((p.modules - 1) * name_bound + n) (byte_of (kind_of (second_key t p.next))) ∙ w.kinds_kept;
       mods_kept = marked_long mods (p.modules - 1) (feed + 1) (feed + 1) ∙ w.mods_kept;
       goes_on = filling_kind t p.next p.row p.modules p.items p.first seen kinds₀ mods₀ kinds mods w.goes_on h feed n e;
     })

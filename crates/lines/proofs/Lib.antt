@@ -6,6 +6,7 @@ pub mod Filled
 pub mod Filling
 pub mod Formed
 pub mod Going
+pub mod KindLaws
 pub mod Laws
 pub mod Made
 pub mod MadeItems

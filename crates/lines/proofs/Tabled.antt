@@ -18,7 +18,8 @@ use Rattle.spec.specs.Show.{show_kind, show_bound, show_header, show_line, show_
 use Rattle.spec.specs.Refusal.{lines, Before, in_place, line_in_range, tree_fault, decode_lines, gather, Gathered, decode}
 use Rattle.lines.specs.Bytes.{class_of}
 use Rattle.std.specs.Prelude.{Option, Some}
-use Rattle.lines.specs.Parse.{valued, key, code_after, word_at, kind_of, kind_numbers, lookup_key}
+use Rattle.lines.specs.Kinds.{byte_of}
+use Rattle.lines.specs.Parse.{valued, key, code_after, word_at, kind_of, named_kinds, lookup_key}
 use Rattle.lines.specs.Read.{number_after}
 use Rattle.lines.specs.Tables.{kind_number, flag, put_header, put_kinds, entries, marked, header_size, items_size, header_at, put_mods, second_behind, second_key, flag_of}
 use Rattle.lines.proofs.Filled.{mark_if, header_if, rest_at, rest_of, Filled}
@@ -123,17 +124,17 @@ module _ (t : Bytes) (at : ℕ) where
       let num : number_after t (word_at t (at + 1)).next ≡ Some (valued x.value j) = ap (λ (u : Word). number_after t u.next) h.0 ∙ sym (after_some t (at + 1 + length w) c) ∙ x.is in
       rw (o, second_key) (ap (λ (u : Option Number). second_behind u t) num ∙ second_here t x.value j l ∙ ap (λ (u : Word). u.key) y)
 
-  pub second_kind : (feed : ℕ) (b : Before) (n : ℕ) (k : Kind) → Passed t at feed b (header_line (kind n k)) → kind_of (second_key t at) ≡ kind_number k
+  pub second_kind : (feed : ℕ) (b : Before) (n : ℕ) (k : Kind) → Passed t at feed b (header_line (kind n k)) → byte_of (kind_of (second_key t at)) ≡ kind_number k
   unfolding show_line show_header
-  second_kind feed b n k p = ap kind_of (second_word (bytes "kind") n (show_kind k) (10 ∷ drop (feed + 1) t) (unfold all_wordly class_of in refl) (kind_fine k).0 p.span) ∙ (kind_fine k).1
+  second_kind feed b n k p = ap (λ (z : ℕ). byte_of (kind_of z)) (second_word (bytes "kind") n (show_kind k) (10 ∷ drop (feed + 1) t) (unfold all_wordly class_of in refl) (kind_fine k).0 p.span) ∙ (kind_fine k).1
     where
-      kind_fine : (k : Kind) → (word_fine (show_kind k) ≡ true) × (kind_of (key (show_kind k)) ≡ kind_number k)
-      kind_fine in_kind = unfold all_wordly class_of kind_of kind_numbers lookup_key key code_after in (refl, refl)
-      kind_fine out_kind = unfold all_wordly class_of kind_of kind_numbers lookup_key key code_after in (refl, refl)
-      kind_fine wire_kind = unfold all_wordly class_of kind_of kind_numbers lookup_key key code_after in (refl, refl)
-      kind_fine reg_kind = unfold all_wordly class_of kind_of kind_numbers lookup_key key code_after in (refl, refl)
-      kind_fine mem_kind = unfold all_wordly class_of kind_of kind_numbers lookup_key key code_after in (refl, refl)
-      kind_fine inst_kind = unfold all_wordly class_of kind_of kind_numbers lookup_key key code_after in (refl, refl)
+      kind_fine : (k : Kind) → (word_fine (show_kind k) ≡ true) × (byte_of (kind_of (key (show_kind k))) ≡ kind_number k)
+      kind_fine in_kind = unfold all_wordly class_of kind_of named_kinds lookup_key key code_after in (refl, refl)
+      kind_fine out_kind = unfold all_wordly class_of kind_of named_kinds lookup_key key code_after in (refl, refl)
+      kind_fine wire_kind = unfold all_wordly class_of kind_of named_kinds lookup_key key code_after in (refl, refl)
+      kind_fine reg_kind = unfold all_wordly class_of kind_of named_kinds lookup_key key code_after in (refl, refl)
+      kind_fine mem_kind = unfold all_wordly class_of kind_of named_kinds lookup_key key code_after in (refl, refl)
+      kind_fine inst_kind = unfold all_wordly class_of kind_of named_kinds lookup_key key code_after in (refl, refl)
 
   pub second_bound : (feed : ℕ) (b : Before) (m : ℕ) (d : Bool) → Passed t at feed b (module_line m d) → flag_of (second_key t at) ≡ flag d
   unfolding show_line

@@ -1,4 +1,5 @@
 pub mod Bytes
+pub mod Kinds
 pub mod Parse
 pub mod Parts
 pub mod Pass

@@ -1,10 +1,12 @@
 -- What the code of src/parse.rt does, on the bytes of a text and a position in it. proofs/ ties it to the bytes that show a tree. 01: The line;
 -- Refused because of the text.
 -- To a reader: definitions that contracts of this and other crates cite; each such contract is proved; check_drivers' own promise cites none of them.
-use Rattle.std.specs.Prelude.{Bool, true, false, ◌&&◌, not, List, [], ◌∷◌, Option, Some, None, ℕ, zero, suc, ◌+◌, ◌*◌, ◌-◌, eqb, ltb, length, get_or, drop}
+use Rattle.std.specs.Prelude.{Bool, true, false, ◌&&◌, is_some, List, [], ◌∷◌, Option, Some, None, ℕ, zero, suc, ◌+◌, ◌*◌, ◌-◌, eqb, ltb, length, get_or, drop}
 use Rattle.spec.specs.Bytes.{Bytes, bytes}
 use Rattle.spec.specs.Syntax.{name_bound, module_bound, number_bound}
 use Rattle.lines.specs.Bytes.{class_of, is_digit, is_word}
+use Rattle.lines.specs.declared.kinds.Kind.{Kind as NameKind}
+use Rattle.lines.specs.declared.kinds.Kind.TheVariants.{In, Out, Wire, Reg, Mem, Inst}
 use Rattle.lines.specs.declared.parse.Cat.{Cat}
 use Rattle.lines.specs.declared.parse.Cat.TheVariants.{Name, Start, Mod, Count, Int, Kind, Dir, Bound, E, X, T, Lv, C, S, I, ThenS, ElseS, ThenI, ElseI, L, Nothing}
 use Rattle.lines.specs.declared.parse.Shape.{Shape}
@@ -104,15 +106,15 @@ ops =
 unfoldable pub op_of : ℕ → Op
 op_of k = lookup_key ops Op.Other k
 
--- 01, The line: the words of K by their keys, in, out, wire, reg, mem and inst being 1 to 6
-unfoldable pub kind_numbers : List (ℕ × ℕ)
-kind_numbers =
-    (key (bytes "in"), 1) ∷ (key (bytes "out"), 2) ∷ (key (bytes "wire"), 3) ∷ (key (bytes "reg"), 4) ∷ (key (bytes "mem"), 5)
-    ∷ (key (bytes "inst"), 6) ∷ []
+-- 01, The line: the words of K by their keys
+unfoldable pub named_kinds : List (ℕ × Option NameKind)
+named_kinds =
+    (key (bytes "in"), Some In) ∷ (key (bytes "out"), Some Out) ∷ (key (bytes "wire"), Some Wire) ∷ (key (bytes "reg"), Some Reg)
+    ∷ (key (bytes "mem"), Some Mem) ∷ (key (bytes "inst"), Some Inst) ∷ []
 
--- 01, The line: the number of the kind with that key, and 0 for no kind
-unfoldable pub kind_of : ℕ → ℕ
-kind_of k = lookup_key kind_numbers 0 k
+-- 01, The line: the kind with that key, if there is one
+unfoldable pub kind_of : ℕ → Option NameKind
+kind_of k = lookup_key named_kinds None k
 
 -- 01, The line: whether a key is one of two
 unfoldable pub either : ℕ → ℕ → ℕ → Bool
@@ -241,7 +243,7 @@ atom Start t at = numbered (number_at t at) number_bound
 atom Mod t at = numbered (number_at t at) module_bound
 atom Count t at = counted (number_at t at)
 atom Int t at = int_at t at
-atom Kind t at = worded (not (eqb (kind_of (word_at t at).key) 0)) (word_at t at).next
+atom Kind t at = worded (is_some (kind_of (word_at t at).key)) (word_at t at).next
 atom Dir t at = worded (either (word_at t at).key (key (bytes "in")) (key (bytes "out"))) (word_at t at).next
 atom Bound t at = worded (either (word_at t at).key (key (bytes "bound")) (key (bytes "unbound"))) (word_at t at).next
 atom E t at = literal t at

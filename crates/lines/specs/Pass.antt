@@ -5,6 +5,7 @@ use Rattle.std.specs.Prelude.{◌≡◌, Bool, true, false, Result, Ok, Err, Lis
 use Rattle.spec.specs.Bytes.{Bytes}
 use Rattle.spec.specs.Syntax.{name_bound}
 use Rattle.spec.specs.Refusal.{well_formed, lines, ends_in_feed, at_start, lines_fault, decode}
+use Rattle.lines.specs.Kinds.{byte_of}
 use Rattle.lines.specs.Parse.{kind_of}
 use Rattle.lines.specs.Read.{fault_code, line_step}
 use Rattle.lines.specs.Tables.{entries, marked, put_kinds, put_mods, second_key, flag_of}
@@ -59,7 +60,7 @@ seen_behind (Ok (Item feed)) seen = seen
 abbrev pub kinds_behind : Result Step Fault → Bytes → ℕ → Progress → List ℕ → List ℕ
 kinds_behind (Err f) t at p kinds = kinds
 kinds_behind (Ok (Module feed)) t at p kinds = kinds
-kinds_behind (Ok (Kind feed n)) t at p kinds = set kinds ((p.modules - 1) * name_bound + n) (kind_of (second_key t at))
+kinds_behind (Ok (Kind feed n)) t at p kinds = set kinds ((p.modules - 1) * name_bound + n) (byte_of (kind_of (second_key t at)))
 kinds_behind (Ok (Val feed)) t at p kinds = kinds
 kinds_behind (Ok (Item feed)) t at p kinds = kinds
 

@@ -1,8 +1,9 @@
-// The line format: character classes, parts of a form, head words, numbers, the grammar of a line, and the reader.
+// The line format: character classes, kinds of names, parts of a form, head words, numbers, the grammar of a line, and the reader.
 #![tactic(auto)]
 
 pub mod bytes;
 mod keys;
+pub mod kinds;
 pub mod numbers;
 pub mod parse;
 pub mod parts;

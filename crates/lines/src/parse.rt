@@ -5,6 +5,7 @@ ghost use Rattle.lines.specs.Parse.{word_at, more_digit, digits_from, number_at,
 
 use crate::bytes::{Class, class_of, is_digit, is_minus, is_open, is_word};
 use crate::keys;
+use crate::kinds::Kind;
 use crate::parts::byte;
 
 // Names and MOD are below 256; START and literals below 2,147,483,648.
@@ -221,18 +222,18 @@ fn op_of(key: u64) -> Op
     }
 }
 
-// The number of a kind, and 0 for no kind.
-pub(crate) fn kind_of(key: u64) -> u8
+// The kind of a word, if it is one.
+pub(crate) fn kind_of(key: u64) -> Option<Kind>
     ensures { result ≡ kind_of key }
 {
     match key {
-        keys::IN => 1,
-        keys::OUT => 2,
-        keys::WIRE => 3,
-        keys::REG => 4,
-        keys::MEM => 5,
-        keys::INST => 6,
-        _ => 0,
+        keys::IN => Some(Kind::In),
+        keys::OUT => Some(Kind::Out),
+        keys::WIRE => Some(Kind::Wire),
+        keys::REG => Some(Kind::Reg),
+        keys::MEM => Some(Kind::Mem),
+        keys::INST => Some(Kind::Inst),
+        _ => None,
     }
 }
 
@@ -475,7 +476,7 @@ fn atom(s: &[u8], at: usize, cat: Cat) -> Option<Parsed>
         Cat::Int => int(s, at),
         Cat::Kind => {
             let w = word_at(s, at);
-            worded(kind_of(w.key) != 0, w.next)
+            worded(kind_of(w.key).is_some(), w.next)
         }
         Cat::Dir => {
             let w = word_at(s, at);

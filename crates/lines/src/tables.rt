@@ -6,6 +6,7 @@ ghost use Rattle.lines.specs.Read.{step_number};
 
 use crate::bytes::{is_open, is_space};
 use crate::keys;
+use crate::kinds::byte_of;
 use crate::parse::{EACH_NAME, Number, kind_of, word_at};
 use crate::parts::byte;
 use crate::read::{Fault, Refusal, Step, line_step, number_after};
@@ -142,7 +143,7 @@ pub(crate) fn enter_line(
             Ok(behind_module(p, feed + 1, first))
         }
         Step::Kind(feed, name) => {
-            let k = kind_of(second_key(text, at));
+            let k = byte_of(kind_of(second_key(text, at)));
             let m = (p.modules - 1) as usize;
             let first = (feed + 1) as u32;
             kinds[m * EACH_NAME + name] = k;

@@ -1,13 +1,10 @@
-use Rattle.std.specs.Prelude.{Option}
+use Rattle.std.specs.Prelude.{Option, is_some}
 use Rattle.lines.proofs.Laws.{inside, no_atom, place_single, place_at}
 use Rattle.spec.specs.Bytes.{bytes}
 use Rattle.spec.specs.Syntax.{name_bound}
 use Rattle.lines.specs.Parse.{key, code_after, numbered, counted, kind_of, either, worded}
 use Rattle.lines.specs.declared.parse.Number.{Number}
 use Rattle.lines.specs.declared.parse.Word.{Word}
-use mathlib.Core.Bool.{not}
-use lib.Dec.{eqb}
-use Prim.Native.Nat.{ℕ}
 use mathlib.Core.Path.{ap, ap₂, ◌∙◌}
 use native.Mathlib.Omega.{arith}
 use Rattle.lines.proofs.Laws.{byte_is, byte_not}
@@ -32,7 +29,7 @@ pub returns-in-Int : goal.returns-in-Int
 returns-in-Int c = rw c.in-Int.is c.int.ensures
 
 pub returns-in-Kind : goal.returns-in-Kind
-returns-in-Kind c = rw c.in-Kind.is (c.worded.ensures ∙ ap₂ worded (ap (λ (k : ℕ). not (eqb k 0)) (c.kind_of.ensures ∙ ap (λ (w : Word). kind_of w.key) c.word_at-w.ensures)) (ap (λ (w : Word). w.next) c.word_at-w.ensures))
+returns-in-Kind c = rw c.in-Kind.is (c.worded.ensures ∙ ap₂ worded (c.is_some.ensures ∙ ap is_some (c.kind_of.ensures ∙ ap (λ (w : Word). kind_of w.key) c.word_at-w.ensures)) (ap (λ (w : Word). w.next) c.word_at-w.ensures))
 
 pub returns-in-Dir : goal.returns-in-Dir
 unfolding key code_after

@@ -4,6 +4,7 @@ use Prim.Native.Nat.{ℕ, ◌+◌, ◌*◌, ◌-◌}
 use native.Mathlib.Omega.{arith}
 use lib.ListN.{set}
 use Rattle.spec.specs.Syntax.{name_bound}
+use Rattle.lines.specs.Kinds.{byte_of}
 use Rattle.lines.specs.Parse.{kind_of}
 use Rattle.lines.specs.Tables.{entries, flag_of}
 use Rattle.lines.specs.declared.read.Step.TheVariants.{Module, Kind, Val, Item}
@@ -99,7 +100,7 @@ pub returns-in-Module : goal.returns-in-Module
 returns-in-Module c = behind_by c.args.text.now c.args.at c.args.p c.args.seen.now c.args.kinds.now c.args.mods.now (Ok (Module c.in-Module.feed)) (sym (c.in_ok-step.was ∙ ap Ok c.in-Module.is) ∙ c.line_step.ensures) _ _ _ _ (ap Ok c.behind_module.ensures) (c.fill.ensures.after (λ y e. e)) refl (c.enter.ensures ∙ ap (λ (f : ℕ). entries c.args.mods.now c.args.p.modules f (c.in-Module.feed + 1) (c.in-Module.feed + 1) (c.in-Module.feed + 1)) (c.flag_of-flag.ensures ∙ ap flag_of c.second_key.ensures))
 
 pub returns-in-Kind : goal.returns-in-Kind
-returns-in-Kind c = behind_by c.args.text.now c.args.at c.args.p c.args.seen.now c.args.kinds.now c.args.mods.now (Ok (Kind c.in-Kind.feed c.in-Kind.name)) (sym (c.in_ok-step.was ∙ ap Ok c.in-Kind.is) ∙ c.line_step.ensures) _ _ _ _ (ap Ok c.behind_line.ensures) refl (ap (λ (k : ℕ). set c.args.kinds.now ((c.args.p.modules - 1) * name_bound + c.in-Kind.name) k) (c.kind_of-k.ensures ∙ ap kind_of c.second_key-in-Kind.ensures)) c.mark.ensures
+returns-in-Kind c = behind_by c.args.text.now c.args.at c.args.p c.args.seen.now c.args.kinds.now c.args.mods.now (Ok (Kind c.in-Kind.feed c.in-Kind.name)) (sym (c.in_ok-step.was ∙ ap Ok c.in-Kind.is) ∙ c.line_step.ensures) _ _ _ _ (ap Ok c.behind_line.ensures) refl (ap (λ (k : ℕ). set c.args.kinds.now ((c.args.p.modules - 1) * name_bound + c.in-Kind.name) k) (c.byte_of-k.ensures ∙ ap byte_of (c.kind_of.ensures ∙ ap kind_of c.second_key-in-Kind.ensures))) c.mark.ensures
 
 pub returns-in-Val : goal.returns-in-Val
 returns-in-Val c = behind_by c.args.text.now c.args.at c.args.p c.args.seen.now c.args.kinds.now c.args.mods.now (Ok (Val c.in-Val.feed)) (sym (c.in_ok-step.was ∙ ap Ok c.in-Val.is) ∙ c.line_step.ensures) _ _ _ _ (ap Ok c.behind_line-in-Val.ensures) refl refl c.mark-in-Val.ensures
