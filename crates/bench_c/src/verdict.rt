@@ -9,7 +9,7 @@ pub extern "C" fn drivercheck_lines(text: &[u8]) -> u64
     ensures { result ≡ code (refusal text.now) }
 {
     match lines::reader::read(text) {
-        Err(r) => r.number as u64 * 4294967296 + r.line as u64,
+        Err(r) => u32::from(r.fault) as u64 * 4294967296 + r.line as u64,
         Ok(_) => 0,
     }
 }

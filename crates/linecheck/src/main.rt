@@ -14,7 +14,7 @@ fn print_refused(rt: &impl Print, number: u32, line: u32) -> io::Result<()> {
 
 fn print_verdict(rt: &impl Print, text: &[u8]) -> io::Result<()> {
     match lines::reader::read(text) {
-        Err(r) => print_refused(rt, r.number, r.line),
+        Err(r) => print_refused(rt, u32::from(r.fault), r.line),
         Ok(_) => Ok(()),
     }
 }

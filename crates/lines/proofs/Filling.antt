@@ -14,14 +14,15 @@ use Rattle.spec.specs.Refusal.{Verdict, lines, Before, has_name}
 use Rattle.spec.proofs.Numbers.{if_case}
 use Rattle.lines.specs.Kinds.{byte_of}
 use Rattle.lines.specs.Parse.{kind_of}
-use Rattle.lines.specs.Read.{fault_code, step_number, line_step}
-use Rattle.lines.specs.Verdict.{modules_in, refused_as, told}
+use Rattle.lines.specs.Read.{fault_code, fault_of, step_number, line_step}
+use Rattle.lines.specs.Verdict.{modules_in, told}
 use Rattle.lines.specs.Tables.{entries, marked, second_key, flag_of}
 use Rattle.lines.specs.Pass.{entered_number, at_first_line, step_at, behind, seen_behind, kinds_behind, mods_behind, Fitting, Standing, Fills}
 use Rattle.lines.proofs.Filled.{Filling, Reading}
 use Rattle.lines.specs.declared.read.Step.{Step}
 use Rattle.lines.specs.declared.read.Step.TheVariants.{Module, Kind, Val, Item}
 use Rattle.lines.specs.declared.read.Fault.{Fault}
+use Rattle.lines.specs.declared.read.Fault.TheVariants.{TooLong, OutsideSet, NotOneForm, BadlyWritten, OutOfRange, OutOfPlace, OneTooMany}
 use Rattle.lines.specs.declared.read.Refusal.{Refusal}
 use Rattle.std.specs.Prelude.{Result, Ok, Err}
 use Rattle.lines.specs.declared.tables.Progress.{Progress}
@@ -38,6 +39,15 @@ behind_fault (Ok (Module feed)) p = refl
 behind_fault (Ok (Kind feed n)) p = refl
 behind_fault (Ok (Val feed)) p = refl
 behind_fault (Ok (Item feed)) p = refl
+
+fault_is : (f : Fault) → fault_of (fault_code f) ≡ f
+fault_is TooLong = refl
+fault_is OutsideSet = refl
+fault_is NotOneForm = refl
+fault_is BadlyWritten = refl
+fault_is OutOfRange = refl
+fault_is OutOfPlace = refl
+fault_is OneTooMany = refl
 
 no_step : {q : Progress} {f : Fault} → ◌≡◌ {A = Result Progress Fault} (Ok q) (Err f) → ⊥
 no_step e = let z : ◌≡◌ {A = ℕ} 0 1 = cc e in omega arith
@@ -250,17 +260,17 @@ module _ (t : Bytes) (kinds₀ mods₀ : List ℕ) (fit : Fitting t kinds₀ mod
       reading_further = further t p.next p seen kinds mods standing q e
 
     -- a line with a fault ends the pass
-    pub reading_stops : (f : Fault) → Err f ≡ behind (step_at t p.next p seen) p → (r : Result ℕ Refusal) → r ≡ refused_as (fault_code f) p.row → (kinds' mods' : List ℕ) → Fills t kinds₀ mods₀ r kinds' mods'
-    reading_stops f e r y kinds' mods' = go (step_at t p.next p seen) refl e
+    pub reading_stops : (f : Fault) → Err f ≡ behind (step_at t p.next p seen) p → (kinds' mods' : List ℕ) → Fills t kinds₀ mods₀ (Err (record { fault = f; line = p.row })) kinds' mods'
+    reading_stops f e kinds' mods' = go (step_at t p.next p seen) refl e
       where
-        no : {k n m : ℕ} → refused_as k n ≡ Ok m → ⊥
+        no : {x : Refusal} {m : ℕ} → ◌≡◌ {A = Result ℕ Refusal} (Err x) (Ok m) → ⊥
         no e = let z : ◌≡◌ {A = ℕ} 0 1 = cc e in omega arith
 
-        go : (x : Result Step Fault) → x ≡ step_at t p.next p seen → Err f ≡ behind x p → Fills t kinds₀ mods₀ r kinds' mods'
+        go : (x : Result Step Fault) → x ≡ step_at t p.next p seen → Err f ≡ behind x p → Fills t kinds₀ mods₀ (Err (record { fault = f; line = p.row })) kinds' mods'
         go (Err k) e z =
             let a = right t p.next p.row p.modules p.items p.first seen kinds₀ mods₀ kinds mods w.goes_on h (Err k) e in
-            let u = ap (λ (g : Fault). refused_as (fault_code g) p.row) (one_fault z) ∙ going_fault t p.next p.row p.modules p.items seen w.goes_on.going (fault_code k) a in
-            (y ∙ u, λ v. absurd (no (u ∙ ap (λ (x : Verdict). told x (modules_in (lines t))) v)))
+            let u = ap (λ (g : Fault). Err (record { fault = g; line = p.row })) (one_fault z ∙ sym (fault_is k)) ∙ going_fault t p.next p.row p.modules p.items seen w.goes_on.going (fault_code k) a in
+            (u, λ v. absurd (no (u ∙ ap (λ (x : Verdict). told x (modules_in (lines t))) v)))
         go (Ok (Module feed)) e z = absurd (no_step (sym z))
         go (Ok (Kind feed n)) e z = absurd (no_step (sym z))
         go (Ok (Val feed)) e z = absurd (no_step (sym z))

@@ -108,17 +108,17 @@ open_lines c (d ∷ s) e = go (eqb c 10) (lines (d ∷ s)) (open_lines d s e)
     go false (x ∷ l) h = h
 
 module _ (t : Bytes) where
-  pub line_out : (n : ℕ) → byte_fault 1 t ≡ refused 2 n → n ≡ set_line t
+  pub line_out : (n : ℕ) → byte_fault 1 t ≡ refused 2 n → Some n ≡ set_line t
   unfolding set_line set_fault
   line_out n e = rw (e, set_fault)
 
-  pub line_none : byte_fault 1 t ≡ well_formed → ends_in_feed t ≡ true → 0 ≡ set_line t
+  pub line_none : byte_fault 1 t ≡ well_formed → ends_in_feed t ≡ true → None ≡ set_line t
   unfolding set_line set_fault
   line_none e f = rw (e, f, set_fault)
 
-  pub line_open : (n : ℕ) → byte_fault 1 t ≡ well_formed → ends_in_feed t ≡ false → suc (feeds t) ≡ n → (length t ≡ 0 → ⊥) → n ≡ set_line t
+  pub line_open : (n : ℕ) → byte_fault 1 t ≡ well_formed → ends_in_feed t ≡ false → suc (feeds t) ≡ n → (length t ≡ 0 → ⊥) → Some n ≡ set_line t
   unfolding set_line set_fault
-  line_open n e f g h = rw (e, f, set_fault) (go t f g h)
+  line_open n e f g h = rw (e, f, set_fault) (ap (λ (m : ℕ). Some m) (go t f g h))
     where
       go : (t : Bytes) → ends_in_feed t ≡ false → suc (feeds t) ≡ n → (length t ≡ 0 → ⊥) → n ≡ length (lines t)
       go [] f g h = absurd (h refl)

@@ -8,9 +8,8 @@ use native.Mathlib.Omega.{arith}
 use native.Mathlib.Numerals.{add-one}
 use lib.Dec.{eqb, ltb}
 use lib.IntN.{ℤ}
-use lib.ListN.{length, get_or, drop, set, length-append, length-drop, length-set, length-replicate, replicate, get_or-replicate, drop_of_length-le}
-use lib.Seq.{get_or-set_same, get_or-set_other, ext_get_or}
-use borrow.Author.Tests.{eqb-true, eqb-false, eq-eqb, ne_eqb, ltb-true, not-true}
+use lib.ListN.{length, get_or, drop, set, length-append, length-drop, length-set, drop_of_length-le}
+use borrow.Author.Tests.{eq-eqb, ne_eqb, ltb-true, not-true}
 use Rattle.spec.specs.Bytes.{Bytes, bytes, show_number, show_rest, show_form}
 use Rattle.spec.specs.Syntax.{name_bound, Kind, in_kind, out_kind, wire_kind, reg_kind, mem_kind, inst_kind, Header, kind, val, Items, Design, Line, module_line, header_line, item_line}
 use Rattle.spec.specs.Syntax as Syntax
@@ -151,20 +150,6 @@ key_not t at f = rw (ne_eqb (get_or t at 0) 40 f, second_key)
 pub key_here : (t : Bytes) (at : ℕ) → get_or t at 0 ≡ 40 → second_behind (number_after t (word_at t (at + 1)).next) t ≡ second_key t at
 unfolding second_key
 key_here t at f = rw (eq-eqb (get_or t at 0) 40 f, second_key)
-
--- ---- cleared tables
-
-pub clear_step : (l : List ℕ) (i : ℕ) → i < length l → ((k : ℕ) → k < i → get_or l k 0 ≡ 0) → (k : ℕ) → k < i + 1 → get_or (set l i 0) k 0 ≡ 0
-clear_step l i h f k g = go (eqb k i) refl
-  where
-    go : (b : Bool) → eqb k i ≡ b → get_or (set l i 0) k 0 ≡ 0
-    go true e = ap (λ (m : ℕ). get_or (set l i 0) m 0) (eqb-true k i e) ∙ get_or-set_same l i 0 0 h
-    go false e = let n = eqb-false k i e in get_or-set_other l i k 0 0 n ∙ f k (omega arith)
-
-pub clear_end : (l l₀ : List ℕ) (i : ℕ) → length l ≡ length l₀ → i ≤ length l → length l ≤ i → ((k : ℕ) → k < i → get_or l k 0 ≡ 0) → l ≡ replicate (length l₀) 0
-clear_end l l₀ i e h g f =
-    ext_get_or 0 l (replicate (length l₀) 0) (e ∙ sym (length-replicate {A = ℕ} (length l₀) 0))
-    (λ k q. f k (omega arith) ∙ sym (get_or-replicate {A = ℕ} (length l₀) k 0 0 (omega arith)))
 
 -- ---- the turns
 

@@ -10,17 +10,17 @@ use lib.Dec.{eqb}
 use lib.ListN.{length, get_or, drop, set, replicate, length-append, length-drop, drop_of_length-le, get_or-replicate}
 use lib.Seq.{get_or-set_same, get_or-set_other}
 use borrow.Author.Tests.{eqb-true, eqb-false, lt-ltb, le-ltb}
-use Rattle.spec.specs.Bytes.{Bytes, onto}
+use Rattle.spec.specs.Bytes.{Bytes}
 use Rattle.spec.specs.Syntax.{name_bound, Line}
 use Rattle.spec.specs.Show.{show_line}
 use Rattle.spec.specs.Refusal.{Verdict, well_formed, refused, lines, ends_in_feed, Before, at_start, after_line, has_name, line_fault, lines_fault, decode_lines, gather, in_set, byte_fault, set_fault, refusal, decode}
 use Rattle.spec.proofs.Shown.{decode_show_line, show_line_set}
-use Rattle.lines.specs.Read.{fault_line, set_line, line_step}
+use Rattle.lines.specs.Read.{line_named, set_line, line_step}
 use Rattle.lines.specs.Verdict.{refused_as, told, Ended, modules_in}
 use Rattle.lines.proofs.Going.{Going}
 use Rattle.lines.specs.declared.read.Step.{Step}
 use Rattle.lines.specs.declared.read.Step.TheVariants.{Module, Kind, Val, Item}
-use Rattle.std.specs.Prelude.{Result, Ok}
+use Rattle.std.specs.Prelude.{Option, Some, None, Result, Ok}
 use Rattle.lines.specs.declared.read.Fault.{Fault}
 use Rattle.lines.proofs.Laws.{if_case, inside}
 use Rattle.lines.proofs.Steps.{line_right, lines_feed, shown_fault, behind_feed, Passed, Failed, Right, Seen}
@@ -172,48 +172,39 @@ pub text_long : (t : Bytes) → 32768 < length t → refused_as 1 0 ≡ told (re
 unfolding refusal
 text_long t h = rw (lt-ltb 32768 (length t) h, refusal)
 
--- 2 has the number 2 and a line from 1 on
+-- 2 has the number 2
 abbrev Twos : Verdict → Type 0
 Twos well_formed = Unit {0}
-Twos (refused k n) = (k ≡ 2) × (0 < n)
+Twos (refused k n) = k ≡ 2
 
-bytes_two : (s : Bytes) (n : ℕ) → 0 < n → Twos (byte_fault n s)
+bytes_two : (s : Bytes) (n : ℕ) → Twos (byte_fault n s)
 unfolding byte_fault
-bytes_two [] n h = tt
-bytes_two (c ∷ s) n h = if_case Twos (in_set c) _ _ (λ e. bytes_two s _ (if_case (λ (m : ℕ). 0 < m) (eqb c 10) (suc n) n (λ _. omega arith) (λ _. h))) (λ e. (refl, h))
-
-some_line : (t : Bytes) → ends_in_feed t ≡ false → 0 < length (lines t)
-unfolding ends_in_feed lines onto
-some_line [] e = let z : ◌≡◌ {A = ℕ} 1 0 = ap (λ (x : Bool). elim x as (λ _. ℕ) [ true ↦ 1 | false ↦ 0 ]) e in absurd (omega arith)
-some_line (c ∷ s) e = if_case (λ (l : List Bytes). 0 < length l) (eqb c 10) ([] ∷ lines s) (onto c (lines s)) (λ _. omega arith) (λ _. go (lines s))
-  where
-    go : (l : List Bytes) → 0 < length (onto c l)
-    go [] = omega arith
-    go (x ∷ l) = omega arith
+bytes_two [] n = tt
+bytes_two (c ∷ s) n = if_case Twos (in_set c) _ _ (λ e. bytes_two s _) (λ e. refl)
 
 set_two : (t : Bytes) → Twos (set_fault t)
 unfolding set_fault
-set_two t = go (byte_fault 1 t) (bytes_two t 1 (omega arith))
+set_two t = go (byte_fault 1 t) (bytes_two t 1)
   where
     go : (v : Verdict) → Twos v → Twos (elim v as (λ _. Verdict) [ refused k n ↦ refused k n | well_formed ↦ elim (ends_in_feed t) as (λ _. Verdict) [ true ↦ well_formed | false ↦ refused 2 (length (lines t)) ] ])
     go (refused k n) w = w
-    go well_formed w = if_case Twos (ends_in_feed t) well_formed (refused 2 (length (lines t))) (λ _. tt) (λ e. (refl, some_line t e))
+    go well_formed w = if_case Twos (ends_in_feed t) well_formed (refused 2 (length (lines t))) (λ _. tt) (λ e. refl)
 
-pub text_set : (t : Bytes) (n : ℕ) → length t ≤ 32768 → n ≡ set_line t → (n ≡ 0 → ⊥) → refused_as 2 n ≡ told (refusal t) (length (decode t))
+pub text_set : (t : Bytes) (n : ℕ) → length t ≤ 32768 → Some n ≡ set_line t → refused_as 2 n ≡ told (refusal t) (length (decode t))
 unfolding refusal set_line
-text_set t n h e f = go (set_fault t) refl (set_two t)
+text_set t n h e = go (set_fault t) refl (set_two t)
   where
     go : (v : Verdict) → set_fault t ≡ v → Twos v → refused_as 2 n ≡ told (refusal t) (length (decode t))
-    go well_formed q w = absurd (f (e ∙ ap fault_line q))
-    go (refused k m) q w = rw (le-ltb 32768 (length t) h, q, refusal) (ap₂ refused_as (sym w.0) (e ∙ ap fault_line q))
+    go well_formed q w = let z : ◌≡◌ {A = Option ℕ} (Some n) None = e ∙ ap line_named q in let y : ◌≡◌ {A = ℕ} 0 1 = cc z in absurd (omega arith)
+    go (refused k m) q w = let z : ◌≡◌ {A = Option ℕ} (Some n) (Some m) = e ∙ ap line_named q in rw (le-ltb 32768 (length t) h, q, refusal) (ap₂ refused_as (sym w) (cc z))
 
-fine_set : (t : Bytes) (n : ℕ) → n ≡ set_line t → n ≡ 0 → set_fault t ≡ well_formed
+fine_set : (t : Bytes) → None ≡ set_line t → set_fault t ≡ well_formed
 unfolding set_line
-fine_set t n e z = go (set_fault t) refl (set_two t)
+fine_set t e = go (set_fault t) refl
   where
-    go : (v : Verdict) → set_fault t ≡ v → Twos v → set_fault t ≡ well_formed
-    go well_formed q w = q
-    go (refused k m) q w = let u : 0 ≡ m = sym z ∙ e ∙ ap fault_line q in let y = w.1 in absurd (omega arith)
+    go : (v : Verdict) → set_fault t ≡ v → set_fault t ≡ well_formed
+    go well_formed q = q
+    go (refused k m) q = let z : ◌≡◌ {A = Option ℕ} None (Some m) = e ∙ ap line_named q in let y : ◌≡◌ {A = ℕ} 0 1 = cc z in absurd (omega arith)
 
 pub ends_fine : (t : Bytes) → set_fault t ≡ well_formed → ends_in_feed t ≡ true
 unfolding set_fault
@@ -227,12 +218,12 @@ ends_fine t q = go (byte_fault 1 t) refl (ends_in_feed t) refl
     go well_formed e true f = f
     go well_formed e false f = absurd (clash (let u : refused 2 (length (lines t)) ≡ well_formed = rw (e, f, set_fault) at q in u))
 
-pub text_ended : (t : Bytes) (n : ℕ) → length t ≤ 32768 → n ≡ set_line t → n ≡ 0 → Ended t
-text_ended t n h e z = record { short = h; ends = ends_fine t (fine_set t n e z) }
+pub text_ended : (t : Bytes) → length t ≤ 32768 → None ≡ set_line t → Ended t
+text_ended t h e = record { short = h; ends = ends_fine t (fine_set t e) }
 
-pub text_lines : (t : Bytes) (n : ℕ) → length t ≤ 32768 → n ≡ set_line t → n ≡ 0 → told (lines_fault at_start 1 (lines t)) (modules_in (lines t)) ≡ told (refusal t) (length (decode t))
+pub text_lines : (t : Bytes) → length t ≤ 32768 → None ≡ set_line t → told (lines_fault at_start 1 (lines t)) (modules_in (lines t)) ≡ told (refusal t) (length (decode t))
 unfolding refusal modules_in decode
-text_lines t n h e z = rw (le-ltb 32768 (length t) h, fine_set t n e z, refusal)
+text_lines t h e = rw (le-ltb 32768 (length t) h, fine_set t e, refusal)
 
 -- what a step says of the line at which the reader stands
 pub going_right : (t : Bytes) (at n modules : ℕ) (items : Bool) (seen : List ℕ) (g : Going t at n modules items seen) → at < length t → (x : Result Step Fault) → x ≡ line_step t at modules items seen

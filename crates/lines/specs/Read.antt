@@ -13,15 +13,25 @@ use Rattle.lines.specs.declared.parse.Number.{Number}
 use Rattle.lines.specs.declared.read.Step.{Step}
 use Rattle.lines.specs.declared.read.Step.TheVariants.{Module, Kind, Val, Item}
 use Rattle.lines.specs.declared.read.Fault.{Fault}
-use Rattle.lines.specs.declared.read.Fault.TheVariants.{NotOneForm, BadlyWritten, OutOfRange, OutOfPlace, OneTooMany}
+use Rattle.lines.specs.declared.read.Fault.TheVariants.{TooLong, OutsideSet, NotOneForm, BadlyWritten, OutOfRange, OutOfPlace, OneTooMany}
 
--- 01, Refused because of the text: the number of a line's fault
+-- 01, Refused because of the text: the number of a fault
 abbrev pub fault_code : Fault → ℕ
+fault_code TooLong = 1
+fault_code OutsideSet = 2
 fault_code NotOneForm = 3
 fault_code BadlyWritten = 4
 fault_code OutOfRange = 5
 fault_code OutOfPlace = 6
 fault_code OneTooMany = 7
+
+-- 01, Refused because of the text: the faults, in the order of their numbers
+abbrev pub faults : List Fault
+faults = TooLong ∷ OutsideSet ∷ NotOneForm ∷ BadlyWritten ∷ OutOfRange ∷ OutOfPlace ∷ OneTooMany ∷ []
+
+-- 01, Refused because of the text: the fault with a number from 1 to 7, which each refusal of a text has
+abbrev pub fault_of : ℕ → Fault
+fault_of k = get_or faults (k - 1) OneTooMany
 
 -- 01, Refused because of the text: of 3: whether the first line of these bytes, in which k brackets are open, is closed by its last byte and not
 -- before, and is nowhere deeper than 32 brackets; k is 1 or more
@@ -53,20 +63,19 @@ abbrev pub fault_line : Verdict → ℕ
 fault_line well_formed = 0
 fault_line (refused k n) = n
 
--- 01, Forms for specific places; Refused because of the text: 01's number of a part as it was parsed, `at` being behind the line's opening
--- bracket: 3 or 4 where it is badly written, 5 where a number in it is out of range, else 0; a form behind which the line goes on is told by not_written
-abbrev pub parsed_number : Option Parsed → Bytes → ℕ → ℕ
-parsed_number None t at = fault_code (not_written t at)
-parsed_number (Some p) t at = elim p.range [ true ↦ 0 | false ↦ 5 ]
-
 -- 01, Forms for specific places; Refused because of the text: 01's number of what a line is: its fault, 3 to 7, and 0 where it adds something
 abbrev pub step_number : Result Step Fault → ℕ
 step_number (Err f) = fault_code f
 step_number (Ok x) = 0
 
--- 01, Refused because of the text: the line that 2 names, and 0 where the text does not have that fault
-unfoldable pub set_line : Bytes → ℕ
-set_line t = fault_line (set_fault t)
+-- 01, Refused because of the text: the line that a verdict names; none for no fault
+abbrev pub line_named : Verdict → Option ℕ
+line_named well_formed = None
+line_named (refused k n) = Some n
+
+-- 01, Refused because of the text: the line that 2 names; none where the text does not have that fault
+unfoldable pub set_line : Bytes → Option ℕ
+set_line t = line_named (set_fault t)
 
 -- 01, The line: the number behind a space that stands here; none where there is no space or no number
 unfoldable pub number_after : Bytes → ℕ → Option Number

@@ -6,6 +6,7 @@ use Rattle.std.specs.Prelude.{true, false, Result, Ok, Err, List, ℕ, ◌*◌, 
 use Rattle.spec.specs.Bytes.{Bytes}
 use Rattle.spec.specs.Syntax.{name_bound}
 use Rattle.spec.specs.Refusal.{Verdict, well_formed, refused, refusal, decode}
+use Rattle.lines.specs.Read.{fault_code, fault_of}
 use Rattle.lines.specs.Tables.{put_kinds, put_mods}
 use Rattle.lines.specs.declared.tables.ReadError.{ReadError}
 use Rattle.lines.specs.declared.tables.ReadError.TheVariants.{Short, Refused}
@@ -13,7 +14,7 @@ use Rattle.lines.specs.declared.tables.ReadError.TheVariants.{Short, Refused}
 -- 01, Forms for specific places; Refused because of the state: 01's number of each answer: a lent table that is too short gives 20, acceptance 0
 abbrev pub number_of : Result ℕ ReadError → ℕ
 number_of (Err Short) = 20
-number_of (Err (Refused r)) = r.number
+number_of (Err (Refused r)) = fault_code r.fault
 number_of (Ok m) = 0
 
 -- 01, Forms for specific places; Refused because of the state: 01's line of each answer: 0 for 20 and for acceptance
@@ -33,7 +34,7 @@ by_room short fits kinds mods = elim (ltb kinds (32 * name_bound)) [ true ↦ sh
 
 -- 01, Refused because of the text: the answer for a text that is refused with that number and line
 abbrev pub unread : ℕ → ℕ → Result ℕ ReadError
-unread k n = Err (Refused (record { number = k; line = n }))
+unread k n = Err (Refused (record { fault = fault_of k; line = n }))
 
 -- 01, Refused because of the state; Refused because of the text: the answer, by the places of the two tables and the text: one is too short, before
 -- 1; or the text is refused; or so many modules

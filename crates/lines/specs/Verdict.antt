@@ -4,11 +4,12 @@
 use Rattle.std.specs.Prelude.{◌≡◌, true, Result, Ok, Err, List, ℕ, ◌≤◌, length}
 use Rattle.spec.specs.Bytes.{Bytes}
 use Rattle.spec.specs.Refusal.{Verdict, well_formed, refused, ends_in_feed, decode_lines, gather}
+use Rattle.lines.specs.Read.{fault_code, fault_of}
 use Rattle.lines.specs.declared.read.Refusal.{Refusal}
 
 -- 01, Refused because of the text: the answer for a text that is refused with that number and line
 abbrev pub refused_as : ℕ → ℕ → Result ℕ Refusal
-refused_as k n = Err (record { number = k; line = n })
+refused_as k n = Err (record { fault = fault_of k; line = n })
 
 -- 01, Refused because of the text: the answer for a verdict, with the number of modules of a well formed text
 abbrev pub told : Verdict → ℕ → Result ℕ Refusal
@@ -17,7 +18,7 @@ told (refused k n) modules = refused_as k n
 
 -- 01, Forms for specific places; Refused because of the text: 01's number of each answer, 0 for a well formed text
 abbrev pub number_of : Result ℕ Refusal → ℕ
-number_of (Err r) = r.number
+number_of (Err r) = fault_code r.fault
 number_of (Ok m) = 0
 
 -- 01, Forms for specific places; Refused because of the text: 01's line of each answer, 0 for a well formed text

@@ -13,9 +13,11 @@ pub(crate) const MODULES: u32 = 32;
 
 pub(crate) const DEPTH: u32 = 32;
 
-// What is wrong with a line, the faults 3 to 7 in order.
+// What is wrong with a text, 1 and 2, or with one of its lines, 3 to 7, in order.
 #[derive(Clone, Copy, Debug, PartialEq, Eq)]
-pub(crate) enum Fault {
+pub enum Fault {
+    TooLong,
+    OutsideSet,
     NotOneForm,
     BadlyWritten,
     OutOfRange,
@@ -23,12 +25,14 @@ pub(crate) enum Fault {
     OneTooMany,
 }
 
-impl Fault {
-    // Its number in the specification.
-    pub(crate) fn number(self) -> u32
-        ensures { result ≡ fault_code self }
-    {
-        match self {
+// Its number in the specification.
+impl From<Fault> for u32 {
+    ghost from_gives = { λ f n. n ≡ fault_code f };
+
+    fn from(f: Fault) -> u32 {
+        match f {
+            Fault::TooLong => 1,
+            Fault::OutsideSet => 2,
             Fault::NotOneForm => 3,
             Fault::BadlyWritten => 4,
             Fault::OutOfRange => 5,
@@ -84,8 +88,8 @@ fn not_written(s: &[u8], at: usize) -> Fault
     }
 }
 
-// The line of the first byte outside the set, or of a text's end without a line feed; 0 where there is neither.
-pub(crate) fn set_line(s: &[u8]) -> u32
+// The line of the first byte outside the set, or of a text's end without a line feed.
+pub(crate) fn set_line(s: &[u8]) -> Option<u32>
     requires { length s.now ≤ 32768 }
     ensures { result ≡ set_line s.now }
 {
@@ -93,14 +97,14 @@ pub(crate) fn set_line(s: &[u8]) -> u32
     for &b in s {
         match class_of(b) {
             Class::Feed => n += 1,
-            Class::Refused => return n,
+            Class::Refused => return Some(n),
             _ => {}
         }
     }
     match s.last() {
-        None => 0,
-        Some(&b) if is_feed(b) => 0,
-        Some(_) => n,
+        None => None,
+        Some(&b) if is_feed(b) => None,
+        Some(_) => Some(n),
     }
 }
 
@@ -204,9 +208,9 @@ pub(crate) fn line_step(
     head_step(s, at + 1, p.next, modules, items, seen)
 }
 
-// The lowest fault of the text, 1 to 7, on its first faulty line: a text that is refused.
+// The lowest fault of the text on its first faulty line, 0 where it is too long: a text that is refused.
 #[derive(Clone, Copy, Debug, PartialEq, Eq)]
 pub struct Refusal {
-    pub number: u32,
+    pub fault: Fault,
     pub line: u32,
 }

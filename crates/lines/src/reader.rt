@@ -1,10 +1,10 @@
 // The reader holds the text and its position, and goes from line to line. What a line is and what it adds to the tables is told by
 // `enter_line` on the slice and the number.
-ghost use Rattle.std.specs.Prelude.{◌≡◌, Err, length, replicate};
+ghost use Rattle.std.specs.Prelude.{◌≡◌, length, replicate};
 ghost use Rattle.spec.specs.Syntax.{name_bound};
 ghost use Rattle.spec.specs.Refusal.{refusal, decode};
-ghost use Rattle.lines.specs.Read.{fault_code, fault_number, fault_line};
-ghost use Rattle.lines.specs.Verdict.{refused_as, told, number_of as verdict_number, line_of as verdict_line};
+ghost use Rattle.lines.specs.Read.{fault_number, fault_line};
+ghost use Rattle.lines.specs.Verdict.{told, number_of as verdict_number, line_of as verdict_line};
 ghost use Rattle.lines.specs.Reader.{number_of, line_of, by_room, read_as, kinds_after, mods_after};
 ghost use Rattle.lines.specs.Pass.{Fitting, Fills};
 
@@ -16,16 +16,6 @@ use crate::tables::{KINDS, MODS, ReadError, enter_line, start};
 struct Reader<'a> {
     text: &'a [u8],
     at: usize,
-}
-
-// A line with a fault refuses the text.
-fn refused(fault: Fault, line: u32) -> Refusal
-    ensures { Err result ≡ refused_as (fault_code fault) line }
-{
-    Refusal {
-        number: fault.number(),
-        line,
-    }
 }
 
 // 3 to 7, and the tables, line by line.
@@ -43,7 +33,7 @@ fn fill<'a, 's, 'k, 'm>(
     while here.at < here.text.len() {
         match enter_line(here.text, here.at, p, seen, kinds, mods) {
             Ok(q) => p = q,
-            Err(fault) => return Err(refused(fault, p.row)),
+            Err(fault) => return Err(Refusal { fault, line: p.row }),
         }
         here.at = p.next;
     }
@@ -68,13 +58,15 @@ pub fn read_text(text: &[u8], kinds: &mut [u8], mods: &mut [u32]) -> Result<u32,
     kinds.fill(0);
     mods.fill(0);
     if TEXT < text.len() {
-        return Err(ReadError::Refused(Refusal { number: 1, line: 0 }));
-    }
-    let bad = set_line(text);
-    if bad != 0 {
         return Err(ReadError::Refused(Refusal {
-            number: 2,
-            line: bad,
+            fault: Fault::TooLong,
+            line: 0,
+        }));
+    }
+    if let Some(line) = set_line(text) {
+        return Err(ReadError::Refused(Refusal {
+            fault: Fault::OutsideSet,
+            line,
         }));
     }
     let mut seen = [0u8; EACH_NAME];

@@ -20,7 +20,7 @@ returns-in-Err c =
     let w = c.loop-here.invariant in
     let below = rw (w.text_kept, w.there) at c.loop-here-test.true in
     let said = rw (w.text_kept, w.there) at c.enter_line.ensures in
-    reading_stops c.args.text.now c.args.kinds.now c.args.mods.now c.requires.1 c.loop-here.p c.loop-here.seen c.loop-here.kinds c.loop-here.mods w.reading below c.in-Err.fault (sym c.in-Err.is ∙ said.0) _ c.refused.ensures _ _
+    reading_stops c.args.text.now c.args.kinds.now c.args.mods.now c.requires.1 c.loop-here.p c.loop-here.seen c.loop-here.kinds c.loop-here.mods w.reading below c.in-Err.fault (sym c.in-Err.is ∙ said.0) _ _
 
 pub loop-here-smaller : goal.loop-here-smaller
 loop-here-smaller c =
