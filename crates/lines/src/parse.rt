@@ -87,12 +87,6 @@ pub(crate) enum Op {
     Other,
 }
 
-fn both(a: bool, b: bool) -> bool
-    ensures { result ≡ a && b }
-{
-    if a { b } else { false }
-}
-
 // The word at a position, of at most 7 letters.
 pub fn word_at(s: &[u8], at: usize) -> Word
     ensures { result ≡ word_at s.now at }
@@ -240,10 +234,7 @@ pub(crate) fn kind_of(key: u64) -> Option<Kind>
 fn either(key: u64, a: u64, b: u64) -> bool
     ensures { result ≡ either key a b }
 {
-    if key == a {
-        return true;
-    }
-    key == b
+    key == a || key == b
 }
 
 fn worded(ok: bool, next: usize) -> Option<Parsed>
@@ -528,7 +519,7 @@ pub(crate) fn part(s: &[u8], at: usize, cat: Cat, depth: u32) -> Option<Parsed>
             Class::Space => {
                 let p = part(s, i + 1, q.a, depth - 1)?;
                 i = p.next;
-                range = both(range, p.range);
+                range &= p.range;
                 q = shift(q);
             }
             _ => return None,

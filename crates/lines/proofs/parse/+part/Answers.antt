@@ -65,14 +65,11 @@ part-requires t c = (omega arith, tt)
 pub returns-in_err-p-in-Space : goal.returns-in_err-p-in-Space
 returns-in_err-p-in-Space t c = c.from_residual.ensures ∙ parts_bad (λ k j. scan (c.args.depth - 1) k c.args.s.now j) c.args.s.now c.loop.q c.loop.i c.loop.range (length c.args.s.now - c.loop.counter) (omega arith) (λ e. omega (arith, e, c.byte-in-loop.ensures, class_is _ _ Space c.class_of.ensures c.in-Space.is)) (sym c.byte-in-loop.ensures ∙ class_is _ _ Space c.class_of.ensures c.in-Space.is) (sym c.part.ensures ∙ c.in_err-p-in-Space.was) ∙ (sym c.loop.invariant ∙ form_start c.args.depth c.args.cat c.args.s.now c.args.at c.word_at-w.result c.shape_of-q.result (byte_is _ _ _ 40 c.is_open.ensures c.byte.ensures c.if-not-is_open.false) c.if-depth-eq0.false c.word_at-w.ensures c.shape_of-q.ensures)
 
-pub both-range-requires : goal.both-range-requires
-both-range-requires t c = tt
-
 pub shift-q-requires : goal.shift-q-requires
 shift-q-requires t c = tt
 
 pub loop-preserved : goal.loop-preserved
-loop-preserved t c = c.loop.invariant ∙ parts_more (λ k j. scan (c.args.depth - 1) k c.args.s.now j) c.args.s.now c.loop.q c.loop.i c.loop.range (length c.args.s.now - c.loop.counter) (length c.args.s.now - (c.loop.counter + 1)) (omega arith) (λ e. omega (arith, e, c.byte-in-loop.ensures, class_is _ _ Space c.class_of.ensures c.in-Space.is)) (sym c.byte-in-loop.ensures ∙ class_is _ _ Space c.class_of.ensures c.in-Space.is) c.in_ok-p-in-Space.p.next _ (sym c.part.ensures ∙ c.in_ok-p-in-Space.was) ∙ rw (c.shift-q.ensures, c.both-range.ensures)
+loop-preserved t c = c.loop.invariant ∙ parts_more (λ k j. scan (c.args.depth - 1) k c.args.s.now j) c.args.s.now c.loop.q c.loop.i c.loop.range (length c.args.s.now - c.loop.counter) (length c.args.s.now - (c.loop.counter + 1)) (omega arith) (λ e. omega (arith, e, c.byte-in-loop.ensures, class_is _ _ Space c.class_of.ensures c.in-Space.is)) (sym c.byte-in-loop.ensures ∙ class_is _ _ Space c.class_of.ensures c.in-Space.is) c.in_ok-p-in-Space.p.next _ (sym c.part.ensures ∙ c.in_ok-p-in-Space.was) ∙ rw c.shift-q.ensures
 
 pub returns-in_default : goal.returns-in_default
 returns-in_default t c = parts_junk (λ k j. scan (c.args.depth - 1) k c.args.s.now j) c.args.s.now c.loop.q c.loop.i c.loop.range (length c.args.s.now - c.loop.counter) (omega arith) (λ e. not_close (1 ∷ 3 ∷ 4 ∷ 5 ∷ 6 ∷ 7 ∷ 8 ∷ []) _ _ c.class_of.ensures c.in_default.in_default-own.keys3 tt (c.byte-in-loop.ensures ∙ e)) (λ e. not_space (1 ∷ 3 ∷ 4 ∷ 5 ∷ 6 ∷ 7 ∷ 8 ∷ []) _ _ c.class_of.ensures c.in_default.in_default-own.keys3 tt (c.byte-in-loop.ensures ∙ e)) ∙ (sym c.loop.invariant ∙ form_start c.args.depth c.args.cat c.args.s.now c.args.at c.word_at-w.result c.shape_of-q.result (byte_is _ _ _ 40 c.is_open.ensures c.byte.ensures c.if-not-is_open.false) c.if-depth-eq0.false c.word_at-w.ensures c.shape_of-q.ensures)

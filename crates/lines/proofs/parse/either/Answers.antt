@@ -6,6 +6,6 @@ pub returns-then-key-a : goal.returns-then-key-a
 unfolding either
 returns-then-key-a c = rw (eq-eqb _ _ c.if-key-a.true, either)
 
-pub returns : goal.returns
+pub returns-else-key-a : goal.returns-else-key-a
 unfolding either
-returns c = rw (ne_eqb _ _ c.if-key-a.false, either)
+returns-else-key-a c = rw (ne_eqb _ _ c.if-key-a.false, either)
