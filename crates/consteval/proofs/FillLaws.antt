@@ -97,12 +97,6 @@ bias_back x = go (ltb x 2147483648) refl
     go true e = let h = ltb-true x 2147483648 e in (let z : x ≡ 2147483648 - suc (2147483648 - suc x) = omega arith in z) ∙ sym (ap biased (signed_low x h))
     go false e = let h = ltb-false x 2147483648 e in (let z : x ≡ x - 2147483648 + 2147483648 = omega arith in z) ∙ sym (ap biased (signed_high x h))
 
-pub held_in : (n x : ℕ) → n < 4294967296 → Ok (Some (n, x)) ≡ held n (known (signed x))
-held_in n x h = ap (λ (y : ℕ). Ok (Some (n, y))) (bias_back x) ∙ sym (pick (ltb n 4294967296) (lt-ltb n 4294967296 h))
-  where
-    pick : (b : Bool) → b ≡ true → elim b as (λ _. Entry) [ true ↦ Ok (Some (n, biased (signed x))) | false ↦ Err Bad ] ≡ Ok (Some (n, biased (signed x)))
-    pick b e = rw e
-
 pub held_not : (n : ℕ) (z : ℤ) → 4294967296 ≤ n → Err Bad ≡ held n (known z)
 held_not n z h = sym (pick (ltb n 4294967296) (le-ltb n 4294967296 h))
   where

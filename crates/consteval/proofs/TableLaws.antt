@@ -285,9 +285,6 @@ answer_number (Ok (Some x)) = refl
 answer_number (Ok None) = refl
 answer_number (Err e) = refl
 
-pub held_by : (n : ℕ) (v : Answer) (r : Entry) → r ≡ held n (worth v) → (r ≡ held n (worth v)) × (n < 4294967296 → entry_number r ≡ number_of v)
-held_by n v r e = (e, λ h. ap entry_number e ∙ held_number n (worth v) h ∙ answer_number v)
-
 val_number : (l : Line) → line_in_range l ≡ true → entry_number (val_of_line l) ≡ 0
 unfolding line_in_range
 val_number (module_line m b) e = refl

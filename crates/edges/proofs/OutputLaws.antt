@@ -249,12 +249,6 @@ module _ (i o : ℕ) (v : Answer) where
   pub node_known : {y : ℕ} → v ≡ Ok (Some y) → inst_out i (some (unbiased y)) o ≡ inst_out i (index_of (worth v)) o
   node_known {y} e = sym (ap (λ (u : Answer). inst_out i (index_of (worth u)) o) e ∙ ap (λ (z : ℤ). inst_out i (some z) o) (same_word y))
 
-  pub node_missing : v ≡ Ok None → inst_out i none o ≡ inst_out i (index_of (worth v)) o
-  node_missing e = sym (ap (λ (u : Answer). inst_out i (index_of (worth u)) o) e)
-
-  pub node_outside : {f : Outside} → v ≡ Err f → inst_out i none o ≡ inst_out i (index_of (worth v)) o
-  node_outside e = sym (ap (λ (u : Answer). inst_out i (index_of (worth u)) o) e)
-
 -- ---- `output_head`
 
 module _ (o : ℕ) (z : Value) (s : Summary) (x : Bytes) (d : ℕ) (kinds : List ℕ) (names : Names) (g : List ℕ)
