@@ -20,7 +20,7 @@ use Rattle.lines.specs.Reader.{unread, number_of, line_of, by_verdict, read_as, 
 use Rattle.lines.specs.declared.tables.ReadError.{ReadError}
 use Rattle.lines.specs.declared.tables.ReadError.TheVariants as reads
 use Rattle.std.specs.Prelude.{Result, Ok, Err}
-use Rattle.lines.proofs.Answers.{room_fits}
+use Rattle.lines.proofs.Answers.{room_fits, code_back}
 use Rattle.walk.specs.Walk.{Got, Tally, check_all, check_fused}
 use Rattle.walk.specs.Fold.{tally_of}
 use Rattle.walk.proofs.Fused.{unless_going, fused}
@@ -30,12 +30,15 @@ use Rattle.collect.specs.Cycle.{Tabled}
 use Rattle.drivers.specs.Emits.{Within, Appended}
 use Rattle.graph.specs.Stands.{graph_places}
 use Rattle.graph.specs.Cycles.{work_places}
-use Rattle.drivers.specs.Check.{Enough, Tallied, first_place, answer_of, answer_for, accepted, lent_places, slices, exit_of}
+use Rattle.drivers.specs.Check.{Enough, Tallied, first_place, answer_of, answer_for, refusal_of, accepted, lent_places, slices, exit_of}
 use Rattle.drivers.specs.declared.emit.Place.{Place}
 use Rattle.drivers.specs.declared.check.Checked.{Checked}
 use Rattle.edges.specs.declared.Stop.{Stop}
 use Rattle.drivers.specs.declared.check.Accepted.{Accepted}
 use Rattle.drivers.specs.declared.check.Refusal.{Refusal}
+use Rattle.drivers.specs.declared.check.Refusal.TheVariants as refusals
+use Rattle.lines.specs.declared.read.Refusal as read
+use Rattle.lines.specs.Read.{fault_code}
 use Rattle.std.specs.Prelude.{Result, Ok, Err, IsErrAnd}
 use Rattle.drivers.specs.declared.check.Answer.{Answer}
 
@@ -171,9 +174,9 @@ module _ (d : Design) (buf buf' : Bytes) (k : List ℕ) (r : Result Checked Stop
             true≢false (sym ((fused.full_exactly d).0 t.0) ∙ known.0)
 
 -- the refusal where a limit is passed or a constant is outside INT
-pub stopped : (r : Result Accepted Refusal) → IsErrAnd r (λ e. e ≡ record { number = 20; line = 0 }) → (buf : Bytes) → answer_for r buf ≡ refuse 20 0 buf
+pub stopped : (r : Result Accepted Refusal) → IsErrAnd r (λ e. e ≡ refusals.Limit) → (buf : Bytes) → answer_for r buf ≡ refuse 20 0 buf
 stopped (Ok a) h buf = absurd h
-stopped (Err e) h buf = ap (λ (x : Refusal). refuse x.number x.line buf) h
+stopped (Err e) h buf = ap (λ (x : Refusal). answer_for (Err x) buf) h
 
 -- ---- of the slices' lengths and the text
 
@@ -255,9 +258,9 @@ read_short : (v : Verdict) (n : ℕ) → Err reads.Short ≡ by_verdict unread (
 read_short well_formed n e = let z : ◌≡◌ {A = ℕ} 0 1 = cc in omega arith
 read_short (refused a b) n e = let z : ◌≡◌ {A = ℕ} 0 1 = cc in omega arith
 
-read_refused : (v : Verdict) (n a b : ℕ) → unread a b ≡ by_verdict unread (Ok n) v → v ≡ refused a b
-read_refused well_formed n a b e = let z : ◌≡◌ {A = ℕ} 0 1 = cc in absurd (omega arith)
-read_refused (refused i j) n a b e = ap₂ refused (sym (ap number_of e)) (sym (ap line_of e))
+read_refused : (text : Bytes) (v : Verdict) (n : ℕ) (x : read.Refusal) → refusal text ≡ v → Err (reads.Refused x) ≡ by_verdict unread (Ok n) v → v ≡ refused (fault_code x.fault) x.line
+read_refused text well_formed n x q e = let z : ◌≡◌ {A = ℕ} 0 1 = cc in absurd (omega arith)
+read_refused text (refused i j) n x q e = ap₂ refused (sym (code_back text i j q) ∙ sym (ap number_of e)) (sym (ap line_of e))
 
 read_accepted : (v : Verdict) (n c : ℕ) → Ok c ≡ by_verdict unread (Ok n) v → (v ≡ well_formed) × (c ≡ n)
 read_accepted well_formed n c e = (refl, cc)
@@ -286,11 +289,12 @@ module _ (text buf : Bytes) (kinds mods names own g w k : List ℕ) {b : Bool}
       unfolding read_as
       verdict = q ∙ sym (room_fits _ _ (length kinds) (length mods) long.0 long.1)
 
-      pub text_unread : r ≡ Err reads.Short → {x : check.Answer} → x ≡ whole
-      text_unread z = absurd (read_short (refusal text) (length (decode text)) (sym z ∙ verdict))
-
-      pub text_refused : {n l : ℕ} → r ≡ unread n l → {x : check.Answer} → x ≡ refuse n l buf → x ≡ whole
-      text_refused {n} {l} z p = p ∙ by_text _ text buf (sym f ∙ e) (refused n l) (read_refused (refusal text) (length (decode text)) n l (sym z ∙ verdict))
+      pub text_refused : (x : ReadError) → r ≡ Err x → (y : Result Accepted Refusal) → IsErrAnd y (λ i. i ≡ refusal_of x) → answer_for y buf ≡ whole
+      text_refused reads.Short z y h = absurd (read_short (refusal text) (length (decode text)) (sym z ∙ verdict))
+      text_refused (reads.Refused x) z (Ok a) h = absurd h
+      text_refused (reads.Refused x) z (Err i) h =
+          ap (λ (u : Refusal). answer_for (Err u) buf) h
+          ∙ by_text _ text buf (sym f ∙ e) (refused (fault_code x.fault) x.line) (read_refused text (refusal text) (length (decode text)) x refl (sym z ∙ verdict))
 
       module _ {count : ℕ} (z : r ≡ Ok count) where
         formed : (refusal text ≡ well_formed) × (count ≡ length (decode text))

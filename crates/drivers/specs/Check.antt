@@ -10,6 +10,9 @@ use Rattle.spec.specs.Refusal.{decode}
 use Rattle.spec.specs.Summary.{Kept}
 use Rattle.spec.specs.Check.{Lent, Slice, Exit}
 use Rattle.spec.specs.Check as check
+use Rattle.lines.specs.Read.{fault_code}
+use Rattle.lines.specs.declared.tables.ReadError.{ReadError}
+use Rattle.lines.specs.declared.tables.ReadError.TheVariants.{Short, Refused}
 use Rattle.graph.specs.Stands.{graph_places}
 use Rattle.graph.specs.Cycles.{work_places, Roomy}
 use Rattle.sites.specs.Own.{places}
@@ -23,6 +26,7 @@ use Rattle.drivers.specs.declared.check.Checked.{Checked}
 use Rattle.edges.specs.declared.Stop.{Stop}
 use Rattle.drivers.specs.declared.check.Accepted.{Accepted}
 use Rattle.drivers.specs.declared.check.Refusal.{Refusal}
+use Rattle.drivers.specs.declared.check.Refusal.TheVariants.{Text, Limit, Room}
 use Rattle.drivers.specs.declared.check.Answer.{Answer}
 
 -- 01, Refused because of the state: what a module's check works on: `own` has just the places of its tables, the others theirs or more
@@ -66,10 +70,18 @@ answer_of a buffer = record { number = a.number; line = a.line; bytes_written = 
 abbrev pub accepted : ℕ → ℕ → ℕ → Bytes → check.Answer
 accepted written reports rounds buffer = record { number = 0; line = 0; bytes_written = written; reports = reports; rounds = rounds; buffer = buffer }
 
--- 01, Refused because of the state: what is answered of an accepted text, and a refusal with its number and its line
+-- 01, Refused because of the state: a lent table that is too short for its limit is refused as the limit is
+abbrev pub refusal_of : ReadError → Refusal
+refusal_of Short = Limit
+refusal_of (Refused r) = Text r
+
+-- 01, Refused because of the text; Refused because of the state: what is answered of an accepted text, and a refusal with its number and its line:
+-- those of the text's fault; 20; 21
 abbrev pub answer_for : Result Accepted Refusal → Bytes → check.Answer
 answer_for (Ok a) buffer = accepted a.bytes a.reports a.rounds buffer
-answer_for (Err e) buffer = check.refuse e.number e.line buffer
+answer_for (Err (Text r)) buffer = check.refuse (fault_code r.fault) r.line buffer
+answer_for (Err Limit) buffer = check.refuse 20 0 buffer
+answer_for (Err Room) buffer = check.refuse 21 0 buffer
 
 -- 01, Refused because of the state: the seven working slices, each with the places that its limits ask for: a byte for each of 256 names of 32
 -- modules; four words for each module; and what `steps`, `sites`, `graph` and `summary` say of theirs

@@ -1,5 +1,5 @@
 // The whole check: each module in order, its reports counted first and then written; the answer; the lent working slices zero.
-ghost use Rattle.std.specs.Prelude.{◌≡◌, [], length};
+ghost use Rattle.std.specs.Prelude.{◌≡◌, [], Err, length};
 ghost use Rattle.spec.specs.Bytes.{Bytes};
 ghost use Rattle.spec.specs.Syntax.{Module};
 ghost use Rattle.spec.specs.Refusal.{decode};
@@ -9,7 +9,8 @@ ghost use Rattle.spec.specs.Check as check;
 ghost use Rattle.walk.specs.Walk.{check_one, check_all};
 ghost use Rattle.summary.specs.Keeps.{Keeps};
 ghost use Rattle.collect.specs.Cycle.{Tabled};
-ghost use Rattle.drivers.specs.Check.{Enough, Checking, Tallied, FewRounds, first_place, answer_of, answer_for, lent_places, exit_of, slices};
+ghost use Rattle.drivers.specs.declared.check.Refusal.TheVariants.{Limit};
+ghost use Rattle.drivers.specs.Check.{Enough, Checking, Tallied, FewRounds, first_place, answer_of, answer_for, refusal_of, lent_places, exit_of, slices};
 
 use crate::emit::Place;
 use crate::groups;
@@ -42,20 +43,30 @@ struct Accepted {
     rounds: u32,
 }
 
-// A refusal: its number and its line.
+// Why nothing is reported: the text is refused, 1 to 7; a limit is passed or a constant is outside INT, 20; the buffer is too short, 21.
 #[derive(Clone, Copy, Debug, PartialEq, Eq)]
-struct Refusal {
-    number: u32,
-    line: u32,
+enum Refusal {
+    Text(lines::read::Refusal),
+    Limit,
+    Room,
 }
 
 impl From<Stop> for Refusal {
-    ghost from_gives = { λ _ e. e ≡ record { number = 20; line = 0 } };
+    ghost from_gives = { λ _ e. e ≡ Limit };
 
     fn from(_: Stop) -> Refusal {
-        Refusal {
-            number: 20,
-            line: 0,
+        Refusal::Limit
+    }
+}
+
+// A table that is too short for a limit is refused as the limit is.
+impl From<ReadError> for Refusal {
+    ghost from_gives = { λ r e. e ≡ refusal_of r };
+
+    fn from(r: ReadError) -> Refusal {
+        match r {
+            ReadError::Short => Refusal::Limit,
+            ReadError::Refused(text) => Refusal::Text(text),
         }
     }
 }
@@ -137,7 +148,31 @@ fn check_modules(
     Ok(Checked { next: q, rounds })
 }
 
-// The five numbers of an answer: those of a refusal are zeros behind its line.
+// Behind a refusal's line are zeros.
+fn refuse(number: u32, line: u32) -> Answer
+    ensures { (buffer : Bytes) → answer_of result buffer ≡ check.refuse number line buffer }
+{
+    Answer {
+        number,
+        line,
+        bytes: 0,
+        reports: 0,
+        rounds: 0,
+    }
+}
+
+// What a refusal answers.
+fn refused(r: Refusal) -> Answer
+    ensures { (buffer : Bytes) → answer_of result buffer ≡ answer_for (Err r) buffer }
+{
+    match r {
+        Refusal::Text(text) => refuse(u32::from(text.fault), text.line),
+        Refusal::Limit => refuse(20, 0),
+        Refusal::Room => refuse(21, 0),
+    }
+}
+
+// The five numbers of an answer.
 fn as_answer(r: Result<Accepted, Refusal>) -> Answer
     ensures { (buffer : Bytes) → answer_of result buffer ≡ answer_for r buffer }
 {
@@ -149,13 +184,7 @@ fn as_answer(r: Result<Accepted, Refusal>) -> Answer
             reports: a.reports,
             rounds: a.rounds,
         },
-        Err(e) => Answer {
-            number: e.number,
-            line: e.line,
-            bytes: 0,
-            reports: 0,
-            rounds: 0,
-        },
+        Err(e) => refused(e),
     }
 }
 
@@ -179,10 +208,7 @@ fn check_accepted(
     let reports = counted.next.reports;
     let rounds = counted.rounds;
     if report.len() < bytes {
-        return Err(Refusal {
-            number: 21,
-            line: 0,
-        });
+        return Err(Refusal::Room);
     }
     if reports == 0 {
         return Ok(Accepted {
@@ -258,30 +284,16 @@ fn check_text(
         w.len(),
         k.len(),
     ) {
-        return Err(Refusal {
-            number: 20,
-            line: 0,
-        });
+        return Err(Refusal::Limit);
     }
-    match reader::read_text(text, kinds, mods) {
-        Err(ReadError::Short) => Err(Refusal {
-            number: 20,
-            line: 0,
-        }),
-        Err(ReadError::Refused(r)) => Err(Refusal {
-            number: r.number,
-            line: r.line,
-        }),
-        Ok(count) => {
-            let source = Source {
-                text,
-                kinds,
-                mods,
-                count,
-            };
-            check_accepted(&source, names, &mut own[..sites::OWN], g, w, k, report)
-        }
-    }
+    let count = reader::read_text(text, kinds, mods)?;
+    let source = Source {
+        text,
+        kinds,
+        mods,
+        count,
+    };
+    check_accepted(&source, names, &mut own[..sites::OWN], g, w, k, report)
 }
 
 // The check of a text: its answer and its reports, by way of seven working slices, which may hold anything and are zero afterwards.
