@@ -199,6 +199,19 @@ module _ (f : Storage → ℕ → List Report) (poison : List ℕ) (ps : List Pa
   unfolding storage_reports
   storage_next p = rw (p, storage_reports)
 
+module _ (m : ℕ) (poison : List ℕ) (ps : List Pair) (r : Storage) (rs : List Storage) where
+  pub reg_next : (b : Blocks) → b ≡ blocks_by (block_count r.name ps) → has_name r.name poison ≡ false
+      → storage_reports (reg_report m) poison ps (r ∷ rs) ≡ reg_said m r b ++ storage_reports (reg_report m) poison ps rs
+  reg_next b e p =
+      storage_next (reg_report m) poison ps r rs p
+      ∙ ap (λ (l : List Report). l ++ storage_reports (reg_report m) poison ps rs) (reg_by_blocks m r (block_count r.name ps) ∙ ap (reg_said m r) (sym e))
+
+  pub mem_next : (b : Blocks) → b ≡ blocks_by (block_count r.name ps) → has_name r.name poison ≡ false
+      → storage_reports (mem_report m) poison ps (r ∷ rs) ≡ mem_said m r b ++ storage_reports (mem_report m) poison ps rs
+  mem_next b e p =
+      storage_next (mem_report m) poison ps r rs p
+      ∙ ap (λ (l : List Report). l ++ storage_reports (mem_report m) poison ps rs) (mem_by_blocks m r (block_count r.name ps) ∙ ap (mem_said m r) (sym e))
+
 -- ---- poison: after find_conflicts a name is poisoned where it has a conflict or a misuse
 
 -- the names that get no further report, from the sites and the misuses alone
