@@ -169,8 +169,9 @@ module _ (own : List ℕ) (ns : Names) (m : ℕ) (o : Output) where
         pub output_unknown : v ≡ missing → {write : Bool} {old : Bytes} {p : Place} → Reported (Ok p) write old p width_out output_said old
         output_unknown h = (out_by h, emits_nothing (said_by h))
 
-        pub output_outside : v ≡ outside → {e : Outside} {write : Bool} {old : Bytes} {p : Place} → Reported (Err e) write old p width_out output_said old
-        output_outside h = (out_by h, λ _ _. refl)
+        pub output_outside : v ≡ outside → (r : Result Place Outside) → IsErr r → (write : Bool) (old : Bytes) (p : Place) → Reported r write old p width_out output_said old
+        output_outside h (Ok q) g write old p = absurd (true≢false (sym g))
+        output_outside h (Err e) g write old p = (out_by h, λ _ _. refl)
 
         pub output_known : (y : ℕ) → v ≡ known (signed y) → {write : Bool} {old new : Bytes} {p q : Place}
             → Emits write old p (coverage_report m o (width_coverage (sites_of n (own_of own).sites) (known (signed y)))) new q

@@ -185,10 +185,9 @@ fn report_output(
     match sites::cover_of(t.own, name) {
         Cover::Never => Ok(say(buf, p, write, t.m, start, name, Detail::Never)),
         Cover::Open => Ok(p),
-        Cover::Ranges => match width_at(t, x.from as usize, x.to as usize) {
-            Ok(Some(v)) => Ok(report_gap(t, v, start, name, buf, p, write)),
-            Ok(None) => Ok(p),
-            Err(_) => Err(Outside),
+        Cover::Ranges => match width_at(t, x.from as usize, x.to as usize)? {
+            Some(v) => Ok(report_gap(t, v, start, name, buf, p, write)),
+            None => Ok(p),
         },
     }
 }

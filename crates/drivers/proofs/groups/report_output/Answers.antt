@@ -13,11 +13,11 @@ returns-in-Never c = λ l o k. output_undriven c.args.t.now.own.now (names_of c.
 pub returns-in-Open : goal.returns-in-Open
 returns-in-Open c = λ l o k. output_free c.args.t.now.own.now (names_of c.args.t.now.names.now c.args.t.now.used) c.args.t.now.m o k.name k.start (c.poisoned.ensures.value l) c.if-poisoned.false (c.cover_of.ensures.value l) c.in-Open.is
 
-pub returns-in-Ok-Some : goal.returns-in-Ok-Some
-returns-in-Ok-Some c = λ l o k. output_known c.args.t.now.own.now (names_of c.args.t.now.names.now c.args.t.now.used) c.args.t.now.m o k.name k.start (c.poisoned.ensures.value l) c.if-poisoned.false (c.cover_of.ensures.value l) c.in-Ranges.is (c.width_at.ensures o.width k.inside.0 k.inside.1 k.width k.deep) c.in-Ok-Some.v (ap worth (c.in-Ok-Some.is ∙ ap Ok c.in-Ok-Some.field-0-is)) (c.report_gap.ensures l o (sym k.name) (sym k.start))
+pub returns-in-Some : goal.returns-in-Some
+returns-in-Some c = λ l o k. output_known c.args.t.now.own.now (names_of c.args.t.now.names.now c.args.t.now.used) c.args.t.now.m o k.name k.start (c.poisoned.ensures.value l) c.if-poisoned.false (c.cover_of.ensures.value l) c.in-Ranges.is (c.width_at.ensures o.width k.inside.0 k.inside.1 k.width k.deep) c.in-Some.v (ap worth (c.in_ok-v-in-Ranges.was ∙ ap Ok c.in-Some.is)) (c.report_gap.ensures l o (sym k.name) (sym k.start))
 
-pub returns-in-Ok-None : goal.returns-in-Ok-None
-returns-in-Ok-None c = λ l o k. output_unknown c.args.t.now.own.now (names_of c.args.t.now.names.now c.args.t.now.used) c.args.t.now.m o k.name k.start (c.poisoned.ensures.value l) c.if-poisoned.false (c.cover_of.ensures.value l) c.in-Ranges.is (c.width_at.ensures o.width k.inside.0 k.inside.1 k.width k.deep) (ap worth (c.in-Ok-None.is ∙ ap Ok c.in-Ok-None.field-0-is))
+pub returns-in-None : goal.returns-in-None
+returns-in-None c = λ l o k. output_unknown c.args.t.now.own.now (names_of c.args.t.now.names.now c.args.t.now.used) c.args.t.now.m o k.name k.start (c.poisoned.ensures.value l) c.if-poisoned.false (c.cover_of.ensures.value l) c.in-Ranges.is (c.width_at.ensures o.width k.inside.0 k.inside.1 k.width k.deep) (ap worth (c.in_ok-v-in-Ranges.was ∙ ap Ok c.in-None.is))
 
-pub returns-in-Err : goal.returns-in-Err
-returns-in-Err c = λ l o k. output_outside c.args.t.now.own.now (names_of c.args.t.now.names.now c.args.t.now.used) c.args.t.now.m o k.name k.start (c.poisoned.ensures.value l) c.if-poisoned.false (c.cover_of.ensures.value l) c.in-Ranges.is (c.width_at.ensures o.width k.inside.0 k.inside.1 k.width k.deep) (ap worth c.in-Err.is)
+pub returns-in_err-v-in-Ranges : goal.returns-in_err-v-in-Ranges
+returns-in_err-v-in-Ranges c = λ l o k. output_outside c.args.t.now.own.now (names_of c.args.t.now.names.now c.args.t.now.used) c.args.t.now.m o k.name k.start (c.poisoned.ensures.value l) c.if-poisoned.false (c.cover_of.ensures.value l) c.in-Ranges.is (c.width_at.ensures o.width k.inside.0 k.inside.1 k.width k.deep) (ap worth c.in_err-v-in-Ranges.was) c.from_residual.result c.from_residual.ensures.0 _ _ _
