@@ -19,7 +19,9 @@ use Rattle.spec.proofs.Nodes.{and_parts}
 use Rattle.spec.proofs.Numbers.{Digits, number_digits}
 use Rattle.spec.proofs.Shown.{AllIn, decode_show_line, show_line_set}
 use Rattle.consteval.specs.Worth.{pairs, names_of, refused_if}
-use Rattle.std.specs.Prelude.{Ok, Err}
+use Rattle.std.specs.Prelude.{Ok, Err, IsErrAnd, MatchResult}
+use Rattle.consteval.specs.declared.Outside as bounds
+use Rattle.consteval.specs.declared.fill.FillError.{FillError}
 use Rattle.consteval.specs.Fill.{Filled, Filling, filling, fill_of, headers_of, items_of, module_of, all_in_range, Right}
 use Rattle.consteval.specs.declared.fill.FillError.TheVariants.{Outside, Short, Bad}
 use Rattle.consteval.proofs.TableLaws.{fills}
@@ -249,6 +251,12 @@ module _ (s : Bytes) (from to : ℕ) where
 
   pub stretch_none : to < from → take (length s - length s) (drop (length s) s) ≡ take (to - from) (drop from s)
   stretch_none h = none_left ∙ let z : 0 ≡ to - from = omega arith in ap (λ (n : ℕ). take n (drop from s)) z
+
+-- the other two answers count as outside INT too
+pub named_of : (x : Filled) (r : Named) (Q : FillError → bounds.Outside → Type 0) → MatchResult x (λ n. r ≡ Ok n) (λ e. IsErrAnd r (Q e)) → to_named x ≡ r
+named_of (Ok n) r Q m = sym m
+named_of (Err e) (Ok n) Q m = absurd m
+named_of (Err e) (Err o) Q m = refl
 
 module _ (text : Bytes) (mods : List ℕ) (m : ℕ) {i e : ℕ} (qi : i ≡ get_or mods (m * 4 + 2) 0) (qe : e ≡ get_or mods (m * 4 + 3) 0) where
   pub run_later : {s : Bytes} → s ≡ take (e - (i - 1)) (drop (i - 1) text) → s ≡ items_run text mods m

@@ -61,8 +61,5 @@ pub fn names_of_module(
     let h = place(mods, m, 1);
     let i = place(mods, m, 2);
     let e = place(mods, m, 3);
-    match fill::fill(stretch(text, h, i), stretch(text, i, e), names) {
-        Ok(used) => Ok(used),
-        Err(_) => Err(Outside),
-    }
+    fill::fill(stretch(text, h, i), stretch(text, i, e), names).map_err(|_| Outside)
 }
