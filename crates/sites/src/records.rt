@@ -16,16 +16,18 @@ pub(crate) struct Record {
     start: u32,
 }
 
-fn record_of(s: Site) -> Record
-    ensures { result ≡ record_of s }
-{
-    let x = Coded::from(s.extent);
-    Record {
-        name: s.name,
-        code: x.code,
-        low: x.low,
-        high: x.high,
-        start: s.start,
+impl From<Site> for Record {
+    ghost from_gives = { λ s r. r ≡ record_of s };
+
+    fn from(s: Site) -> Record {
+        let x = Coded::from(s.extent);
+        Record {
+            name: s.name,
+            code: x.code,
+            low: x.low,
+            high: x.high,
+            start: s.start,
+        }
     }
 }
 
@@ -51,14 +53,15 @@ fn extent_in(r: Record) -> Extent
 }
 
 // The site that a record stands for.
-fn site_of(r: Record) -> Site
-    ensures { site_of result ≡ site_in r }
-{
-    let extent = extent_in(r);
-    Site {
-        name: r.name,
-        extent,
-        start: r.start,
+impl From<Record> for Site {
+    ghost from_gives = { λ r s. site_of s ≡ site_in r };
+
+    fn from(r: Record) -> Site {
+        Site {
+            name: r.name,
+            extent: extent_in(r),
+            start: r.start,
+        }
     }
 }
 
@@ -77,7 +80,7 @@ pub(crate) fn store_site(records: &mut [Record], i: usize, s: Site) -> Result<()
         × (sites_in records.new ≡ set (sites_in records.old) i (site_of s))
         × StoredBy (ltb i (length records.old)) result }
 {
-    let r = record_of(s);
+    let r = Record::from(s);
     if i < records.len() {
         records[i] = r;
         return Ok(());
@@ -90,7 +93,7 @@ pub(crate) fn first_conflict(records: &[Record]) -> Option<u32>
     ensures { found_of result ≡ site.first_conflict [] (sites_in records.now) }
 {
     for later in 0..records.len() {
-        let s = site_of(records[later]);
+        let s = Site::from(records[later]);
         for earlier in (0..later).rev() {
             if clash(records[earlier], s) {
                 return Some(s.start);

@@ -22,7 +22,7 @@ pub loop-earlier-preserved : goal.loop-earlier-preserved
 loop-earlier-preserved c =
     let rs = c.args.records.now in
     inner_miss rs c.loop-later.later c.loop-earlier.earlier c.loop-earlier-test.true c.loop-earlier.invariant
-    (met (get_or rs (c.loop-earlier.earlier - 1) blank) (get_or rs c.loop-later.later blank) c.site_of-s.result c.clash.result false c.site_of-s.ensures c.clash.ensures c.if-clash.false)
+    (met (get_or rs (c.loop-earlier.earlier - 1) blank) (get_or rs c.loop-later.later blank) c.from-s.result c.clash.result false c.from-s.ensures c.clash.ensures c.if-clash.false)
 
 pub loop-later-preserved : goal.loop-later-preserved
 loop-later-preserved c = outer_next c.args.records.now c.loop-later.later c.loop-earlier.earlier c.loop-later-test.true (omega arith) c.loop-later.invariant c.loop-earlier.invariant
@@ -33,6 +33,6 @@ returns c = outer_end c.args.records.now c.loop-later.later (omega arith) c.loop
 pub returns-then-clash : goal.returns-then-clash
 returns-then-clash c =
     let rs = c.args.records.now in
-    ap {B = Option ℕ} (λ (x : site.Site). some x.start) c.site_of-s.ensures
+    ap {B = Option ℕ} (λ (x : site.Site). some x.start) c.from-s.ensures
     ∙ inner_hit rs c.loop-later.later c.loop-earlier.earlier c.loop-earlier-test.true c.loop-later-test.true c.loop-later.invariant c.loop-earlier.invariant
-    (met (get_or rs (c.loop-earlier.earlier - 1) blank) (get_or rs c.loop-later.later blank) c.site_of-s.result c.clash.result true c.site_of-s.ensures c.clash.ensures c.if-clash.true)
+    (met (get_or rs (c.loop-earlier.earlier - 1) blank) (get_or rs c.loop-later.later blank) c.from-s.result c.clash.result true c.from-s.ensures c.clash.ensures c.if-clash.true)
