@@ -449,7 +449,7 @@ fn walk_module(
 }
 
 // Collects module m in its own check: its name table; its own tables and its graph, both empty where the walk begins; and in k, which holds the
-// summaries kept so far, those that its instances ask for. Where it is full, every place that is lent to be written is 0 afterwards. `LentAfter`
+// summaries kept so far, those that its instances ask for. With an error every place that is lent to be written is 0 afterwards. `LentAfter`
 // says what holds whatever is lent, and what is free then.
 pub fn collect_module(
     text: &[u8],

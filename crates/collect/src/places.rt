@@ -1,5 +1,5 @@
 // A module of an accepted text by the tables that its reader leaves: its kinds, where the run of its items begins, whether it is bound.
-// `clear_tables` is for a walk that is full.
+// `clear_tables` is for a walk that stops: a limit is passed or a constant is outside INT.
 ghost use Rattle.std.specs.Prelude.{◌≡◌, ◌+◌, ◌-◌, ◌*◌, get_or, take, drop, ltb};
 ghost use Rattle.spec.specs.Cleared.{Cleared};
 

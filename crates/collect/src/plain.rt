@@ -1,4 +1,4 @@
-// What a collected line leaves in the tables, without the items that it holds and the summary that it asks for. Where a line is full, the tables
+// What a collected line leaves in the tables, without the items that it holds and the summary that it asks for. With an error the tables
 // that are lent to it to be written are cleared.
 ghost use Rattle.std.specs.Prelude.{is_ok};
 ghost use Rattle.consteval.specs.Worth.{worth};

@@ -117,7 +117,7 @@ fn check_module_drivers(
     })
 }
 
-// Every module of an accepted text in order, to the first that is full, from the summaries that are kept already.
+// Every module of an accepted text in order, to the first that gives an error, from the summaries that are kept already.
 fn check_modules(
     source: &Source,
     names: &mut [u32],

@@ -23,11 +23,6 @@ blank = record { name = 0; code = 0; low = 0; high = 0; start = 0 }
 abbrev pub site_at : List Record → ℕ → Site
 site_at rs i = site_in (get_or rs i blank)
 
--- the record of a site, by the three numbers of its extent
-pub record_made : (s : declared.Site) {code low high : ℕ} → code ∷ low ∷ high ∷ [] ≡ extent_numbers s.extent
-    → ◌≡◌ {A = Record} (record { name = s.name; code = code; low = low; high = high; start = s.start }) (record_of s)
-record_made s q = λ i. record { name = s.name; code = get_or (q i) 0 0; low = get_or (q i) 1 0; high = get_or (q i) 2 0; start = s.start }
-
 -- it stands for the site
 pub stands : (s : declared.Site) → site_in (record_of s) ≡ site_of s
 stands s = λ i. record { name = s.name; extent = extent_read s.extent i; start = s.start }
