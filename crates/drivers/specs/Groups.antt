@@ -22,22 +22,22 @@ abbrev pub Reported : Result Place Outside → Bool → Bytes → Place → Bool
 Reported (Ok q) write old p out rs new = (out ≡ false) × Emits write old p rs new q
 Reported (Err e) write old p out rs new = (out ≡ true) × (Within old p → write ≡ false → new ≡ old)
 
--- 01, The report: what is said of a register, of a memory
+-- 01, The block: what is said of a register, of a memory
 abbrev pub report_by : Storage → ℕ → spec.Storage → ℕ → List Report
 report_by storage.Reg = reg_report
 report_by storage.Mem = mem_report
 
--- 01, The collected item: the table of the registers, of the memories
+-- 01, The block: the table of the registers, of the memories
 abbrev pub table_by : Storage → Table
 table_by storage.Reg = reg_table
 table_by storage.Mem = mem_table
 
--- 01, The collected item: the registers, the memories
+-- 01, The block: the registers, the memories
 abbrev pub stored_by : Storage → Own → List spec.Storage
 stored_by storage.Reg o = o.regs
 stored_by storage.Mem o = o.mems
 
--- 01, The report: the detail said of a register or a memory with these blocks
+-- 01, The block: the detail said of a register or a memory with these blocks
 abbrev pub said_by : Storage → Blocks → Option Detail
 said_by storage.Reg blocks.None = Some details.NoBlock
 said_by storage.Reg blocks.One = None
