@@ -1,4 +1,4 @@
--- What reporting a module's own tables leaves. 01: Refused because of the state; The report.
+-- What reporting a module's own tables leaves. 01: The block; Refused because of the state; The report.
 -- To a reader: definitions that the contracts of this crate cite; each such contract is proved; check_drivers' own promise cites none of them.
 use Rattle.std.specs.Prelude.{◌≡◌, Bool, true, false, List, ℕ, Option, Some, None, Result, Ok, Err}
 use Rattle.spec.specs.Bytes.{Bytes}
