@@ -6,15 +6,12 @@ use Prim.Native.Nat.{ℕ, zero, suc, ◌+◌, ◌*◌, ◌-◌, ◌<◌, ◌≤�
 use native.Mathlib.Nat.{mul-le-mul_left, mul-suc}
 use native.Mathlib.Omega.{arith}
 use native.Mathlib.Numerals.{add-one}
-use Rattle.std.proofs.lemmas.Slice.{put_mid-paste}
-use Rattle.std.proofs.lemmas.List.Edits.{paste_all}
-use borrow.Rule.Slice.PartMut.{put_mid}
 use Rattle.spec.specs.Refusal.{has_name}
 use lib.Dec.{T, eqb, ltb, leb, ltb→lt, leb→le}
 use borrow.Author.Tests.{eq-eqb, ne_eqb, leb-true, lt-ltb, le-ltb, ltb-true, ltb-false}
 use Rattle.sites.specs.Stored as stored
-use lib.ListN.{length, get_or, set, take, drop, length-take, length-drop}
-use lib.Seq.{sets, sets-eq, length-sets, drop-set-lt, drop-set-add, take-set-le, drop_at, take_at, length-take-le, get_or-set_same, get_or-set_other, get_or-take, get_or-drop}
+use lib.ListN.{length, get_or, set, take, drop, length-take, length-drop, drop_of_length-le}
+use lib.Seq.{sets, drop-cons, sets-eq, length-sets, drop-set-lt, drop-set-add, take-set-le, drop_at, take_at, length-take-le, get_or-set_same, get_or-set_other, get_or-take, get_or-drop}
 use Rattle.sites.specs.Own.{Table, Shape, run, row, rows_in, items, stored_row, pushed, push_answer, row_names, first_row, entry_names, grown, room, first_kept, names, Own}
 
 -- runs
@@ -203,11 +200,18 @@ pub has_none : (n : ℕ) → has_name n [] ≡ false
 unfolding has_name
 has_none n = refl
 
--- a row's numbers written over a stretch
-pub row_put : (own ys vs : List ℕ) (at k : ℕ) → ys ≡ vs → k ≡ length vs → at + length vs ≤ length own → put_mid at k own ys ≡ sets own at vs
-row_put own ys vs at k e q h =
-    put_mid-paste at k own ys vs (length vs) e (sym q) refl ∙ paste_all own at vs (length vs) refl
-    ∙ sym (sets-eq vs own at h ∙ append_assoc (take at own) vs (drop (at + length vs) own))
+-- a row's numbers in order
+pub row_more : (own : List ℕ) (at k : ℕ) (r : List ℕ) → k < length r → sets (set own (at + k) (get_or r k 0)) (at + (k + 1)) (drop (k + 1) r) ≡ sets own (at + k) (drop k r)
+row_more own at k r h =
+    let e : at + (k + 1) ≡ suc (at + k) = omega arith in
+    let d : drop k r ≡ get_or r k 0 ∷ drop (k + 1) r = drop-cons r k 0 h ∙ ap (λ (j : ℕ). get_or r k 0 ∷ drop j r) (sym (add-one k)) in
+    ap (λ (j : ℕ). sets (set own (at + k) (get_or r k 0)) j (drop (k + 1) r)) e ∙ ap (λ l. sets own (at + k) l) (sym d)
+
+pub row_done : (own : List ℕ) (at k : ℕ) (r : List ℕ) → length r ≤ k → sets own (at + k) (drop k r) ≡ own
+row_done own at k r h = ap (λ l. sets own (at + k) l) (drop_of_length-le r h)
+
+pub row_start : (own : List ℕ) (at : ℕ) (vs : List ℕ) → sets own (at + 0) vs ≡ sets own at vs
+row_start own at vs = let z : at + 0 ≡ at = omega arith in ap (λ (k : ℕ). sets own k vs) z
 
 -- pushing a row
 pub push_room : (t : Table) (own vs : List ℕ) → rows_in t own < t.limit → pushed t own vs ≡ stored_row t own (rows_in t own) vs

@@ -122,7 +122,10 @@ fn put_row(own: &mut [u32], t: Table, i: usize, row: &[u32])
     ensures { own.new ≡ sets own.old (t.base + t.width * i) row.now }
 {
     let at = t.base + t.width * i;
-    own[at..at + t.width].copy_from_slice(row);
+    // A row has two to five words. For so few the library's copy is slower than to store them one by one.
+    for k in 0..t.width {
+        own[at + k] = row[k];
+    }
 }
 
 // Whether one of the first n rows of a table has a name. A row begins with its name.
