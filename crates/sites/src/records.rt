@@ -92,15 +92,17 @@ pub(crate) fn store_site(records: &mut [Record], i: usize, s: Site) -> Result<()
 pub(crate) fn first_conflict(records: &[Record]) -> Option<u32>
     ensures { found_of result ≡ site.first_conflict [] (sites_in records.now) }
 {
-    for later in 0..records.len() {
+    let mut found = None;
+    'search: for later in 0..records.len() {
         let s = Site::from(records[later]);
         for earlier in (0..later).rev() {
             if clash(records[earlier], s) {
-                return Some(s.start);
+                found = Some(s.start);
+                break 'search;
             }
         }
     }
-    None
+    found
 }
 
 // The START of the first later site of a name that meets an earlier one, in a table of at most N sites: the name's sites are stored in a run of
