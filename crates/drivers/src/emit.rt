@@ -50,6 +50,7 @@ fn more(reports: usize, k: usize, at: usize) -> usize
 }
 
 // How many bytes a piece has.
+#[inline(always)]
 fn count(x: Piece) -> usize
     ensures { result ≡ length (bytes_of x) }
 {
@@ -74,6 +75,7 @@ fn ended(x: Piece) -> usize
 }
 
 // Writes a piece at a place of the buffer, where it fits.
+#[inline(always)]
 fn put(buf: &mut [u8], at: usize, x: Piece)
     ensures { buf.new ≡ (placed buf.old at (bytes_of x)).buffer }
 {
@@ -85,7 +87,8 @@ fn put(buf: &mut [u8], at: usize, x: Piece)
     };
 }
 
-// A piece at the place p.
+// A piece at the place p. Inlined, with what it calls, since each caller has one kind of piece: its arms are then chosen when the code is compiled.
+#[inline(always)]
 pub(crate) fn emit(buf: &mut [u8], p: Place, write: bool, x: Piece) -> Place
     ensures { Appends write buf.old p (bytes_of x) (lines_in x) buf.new result }
 {
