@@ -10,7 +10,7 @@ ghost use Rattle.consteval.specs.Worth.{worth, number_of, refused_if, names_of};
 ghost use Rattle.consteval.specs.Fill.{line_end, role, held, entry_number, val_of_line, const_of_line, filling, entry_of, entries_of, fill_of, line_out, Fills};
 
 use crate::{Outside, Value, arith, names};
-use lines::bytes::is_minus;
+use lines::bytes::{is_feed, is_minus};
 use lines::words::Word;
 use lines::{numbers, parts, words};
 
@@ -50,7 +50,7 @@ fn end_of(s: &[u8], at: usize) -> usize
     ensures { result ≡ line_end s.now at }
 {
     for i in at..s.len() {
-        if s[i] == b'\n' {
+        if is_feed(s[i]) {
             return i;
         }
     }
