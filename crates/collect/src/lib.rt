@@ -62,7 +62,7 @@ struct Turn {
 // Walks a run of items: what stands behind the byte at 0 of s, which is at `base` in the text.
 #[cycle(branch_items_collect_item_collect_items_comb_summary_inst_edges_make_summary_repeat_items_repeat_rounds)]
 fn collect_items(
-    source: Source<'_>,
+    source: &Source,
     s: &[u8],
     base: u32,
     pass: Pass,
@@ -74,11 +74,11 @@ fn collect_items(
     k: &mut [u32],
 ) -> Result<u32, Stop>
     requires { base + length s.now ≤ 4294967295 }
-    ensures ends { (w : World) → Given (mode pass.checking pass.bound) source.entry.text.now source.entry.kinds.now source.entry.mods.now
-        source.entry.count s.now base pass.depth
+    ensures ends { (w : World) → Given (mode pass.checking pass.bound) source.now.text.now source.now.kinds.now source.now.mods.now
+        source.now.count s.now base pass.depth
         ks.now names.old pass.used own.old g.old k.old w
-        → Ends result (mode pass.checking pass.bound) source.entry.text.now own.new g.new k.new w.busy
-        (walk_of pass.fuel source.entry.text.now (mode pass.checking pass.bound) w (names_of names.old pass.used) left) }
+        → Ends result (mode pass.checking pass.bound) source.now.text.now own.new g.new k.new w.busy
+        (walk_of pass.fuel source.now.text.now (mode pass.checking pass.bound) w (names_of names.old pass.used) left) }
     ensures framed { Framed pass.used names.old names.new × RoundsWithin result left }
     ensures walk_leaves { WalkLeaves result pass.checking own.old own.new g.old g.new k.old k.new }
 {
@@ -97,7 +97,7 @@ fn collect_items(
 // Walks one item, which is at `from` in the text: its line, then what it holds.
 #[cycle(branch_items_collect_item_collect_items_comb_summary_inst_edges_make_summary_repeat_items_repeat_rounds)]
 fn collect_item(
-    source: Source<'_>,
+    source: &Source,
     x: &[u8],
     from: u32,
     pass: Pass,
@@ -109,11 +109,11 @@ fn collect_item(
     k: &mut [u32],
 ) -> Result<u32, Stop>
     requires { from + length x.now ≤ 4294967295 }
-    ensures ends { (h : heads.Head) (w : Single) → OneGiven h (mode pass.checking pass.bound) source.entry.text.now source.entry.kinds.now
-        source.entry.mods.now source.entry.count x.now from pass.depth
+    ensures ends { (h : heads.Head) (w : Single) → OneGiven h (mode pass.checking pass.bound) source.now.text.now source.now.kinds.now
+        source.now.mods.now source.now.count x.now from pass.depth
         ks.now names.old pass.used own.old g.old k.old w
-        → Ends result (mode pass.checking pass.bound) source.entry.text.now own.new g.new k.new w.busy
-        (one_of pass.fuel source.entry.text.now (mode pass.checking pass.bound) w (names_of names.old pass.used) left) }
+        → Ends result (mode pass.checking pass.bound) source.now.text.now own.new g.new k.new w.busy
+        (one_of pass.fuel source.now.text.now (mode pass.checking pass.bound) w (names_of names.old pass.used) left) }
     ensures framed { Framed pass.used names.old names.new × RoundsWithin result left }
     ensures walk_leaves { WalkLeaves result pass.checking own.old own.new g.old g.new k.old k.new }
 {
@@ -154,7 +154,7 @@ fn collect_item(
 // A `repeat` line: its body once, or as often as its bounds say; the rounds are spent before the body runs.
 #[cycle(branch_items_collect_item_collect_items_comb_summary_inst_edges_make_summary_repeat_items_repeat_rounds)]
 fn repeat_items(
-    source: Source<'_>,
+    source: &Source,
     x: &[u8],
     from: u32,
     pass: Pass,
@@ -166,11 +166,11 @@ fn repeat_items(
     k: &mut [u32],
 ) -> Result<u32, Stop>
     requires { from + length x.now ≤ 4294967295 }
-    ensures ends { (w : Single) → OneGiven head.Repeat (mode pass.checking pass.bound) source.entry.text.now source.entry.kinds.now
-        source.entry.mods.now source.entry.count x.now from pass.depth
+    ensures ends { (w : Single) → OneGiven head.Repeat (mode pass.checking pass.bound) source.now.text.now source.now.kinds.now
+        source.now.mods.now source.now.count x.now from pass.depth
         ks.now names.old pass.used own.old g.old k.old w
-        → Ends result (mode pass.checking pass.bound) source.entry.text.now own.new g.new k.new w.busy
-        (one_of pass.fuel source.entry.text.now (mode pass.checking pass.bound) w (names_of names.old pass.used) left) }
+        → Ends result (mode pass.checking pass.bound) source.now.text.now own.new g.new k.new w.busy
+        (one_of pass.fuel source.now.text.now (mode pass.checking pass.bound) w (names_of names.old pass.used) left) }
     ensures framed { Framed pass.used names.old names.new × RoundsWithin result left }
     ensures walk_leaves { WalkLeaves result pass.checking own.old own.new g.old g.new k.old k.new }
 {
@@ -213,7 +213,7 @@ fn repeat_items(
 // The rounds of a `repeat`: its body s once for each value of its variable, which is the newest name.
 #[cycle(branch_items_collect_item_collect_items_comb_summary_inst_edges_make_summary_repeat_items_repeat_rounds)]
 fn repeat_rounds(
-    source: Source<'_>,
+    source: &Source,
     s: &[u8],
     base: u32,
     pass: Pass,
@@ -226,11 +226,11 @@ fn repeat_rounds(
 ) -> Result<u32, Stop>
     requires s_bound { base + length s.now ≤ 4294967295 }
     requires rounds_bound { turn.low + turn.rounds ≤ 4294967295 }
-    ensures ends { (w : World) → Given (mode pass.checking pass.bound) source.entry.text.now source.entry.kinds.now source.entry.mods.now
-        source.entry.count s.now base pass.depth
+    ensures ends { (w : World) → Given (mode pass.checking pass.bound) source.now.text.now source.now.kinds.now source.now.mods.now
+        source.now.count s.now base pass.depth
         ks.now names.old (pass.used + 1) own.old g.old k.old w
-        → Ends result (mode pass.checking pass.bound) source.entry.text.now own.new g.new k.new w.busy
-        (turns_of pass.fuel source.entry.text.now (mode pass.checking pass.bound) w turn.name turn.low turn.rounds
+        → Ends result (mode pass.checking pass.bound) source.now.text.now own.new g.new k.new w.busy
+        (turns_of pass.fuel source.now.text.now (mode pass.checking pass.bound) w turn.name turn.low turn.rounds
         (names_of names.old pass.used) turn.left) }
     ensures framed { Framed pass.used names.old names.new × RoundsWithin result turn.left }
     ensures walk_leaves { WalkLeaves result pass.checking own.old own.new g.old g.new k.old k.new }
@@ -251,7 +251,7 @@ fn repeat_rounds(
 // A `constif` line: the items of the branch that its condition takes.
 #[cycle(branch_items_collect_item_collect_items_comb_summary_inst_edges_make_summary_repeat_items_repeat_rounds)]
 fn branch_items(
-    source: Source<'_>,
+    source: &Source,
     x: &[u8],
     from: u32,
     pass: Pass,
@@ -263,11 +263,11 @@ fn branch_items(
     k: &mut [u32],
 ) -> Result<u32, Stop>
     requires { from + length x.now ≤ 4294967295 }
-    ensures ends { (w : Single) → OneGiven head.ConstIf (mode pass.checking pass.bound) source.entry.text.now source.entry.kinds.now
-        source.entry.mods.now source.entry.count x.now from pass.depth
+    ensures ends { (w : Single) → OneGiven head.ConstIf (mode pass.checking pass.bound) source.now.text.now source.now.kinds.now
+        source.now.mods.now source.now.count x.now from pass.depth
         ks.now names.old pass.used own.old g.old k.old w
-        → Ends result (mode pass.checking pass.bound) source.entry.text.now own.new g.new k.new w.busy
-        (one_of pass.fuel source.entry.text.now (mode pass.checking pass.bound) w (names_of names.old pass.used) left) }
+        → Ends result (mode pass.checking pass.bound) source.now.text.now own.new g.new k.new w.busy
+        (one_of pass.fuel source.now.text.now (mode pass.checking pass.bound) w (names_of names.old pass.used) left) }
     ensures framed { Framed pass.used names.old names.new × RoundsWithin result left }
     ensures walk_leaves { WalkLeaves result pass.checking own.old own.new g.old g.new k.old k.new }
 {
@@ -297,7 +297,7 @@ fn branch_items(
 // An `inst` line: the index of the instance, the summary of its module, and what its outputs read.
 #[cycle(branch_items_collect_item_collect_items_comb_summary_inst_edges_make_summary_repeat_items_repeat_rounds)]
 fn inst_edges(
-    source: Source<'_>,
+    source: &Source,
     x: &[u8],
     pass: Pass,
     ks: &[u8],
@@ -306,10 +306,10 @@ fn inst_edges(
     k: &mut [u32],
 ) -> Result<(), Stop>
     ensures stepped { (mo : Mode) (own : List ℕ) (from : ℕ) (w : Single)
-        → OneGiven head.Inst mo source.entry.text.now source.entry.kinds.now source.entry.mods.now source.entry.count x.now from pass.depth
+        → OneGiven head.Inst mo source.now.text.now source.now.kinds.now source.now.mods.now source.now.count x.now from pass.depth
         ks.now names.now pass.used own g.old k.old w
-        → Stepped (is_ok result) mo source.entry.text.now own g.new k.new w.busy
-        (step_of pass.fuel source.entry.text.now mo w.header w.busy (names_of names.now pass.used) w.item w.state) }
+        → Stepped (is_ok result) mo source.now.text.now own g.new k.new w.busy
+        (step_of pass.fuel source.now.text.now mo w.header w.busy (names_of names.now pass.used) w.item w.state) }
     ensures edges_leave { EdgesLeave (is_ok result) g.old g.new k.old k.new }
 {
     let index = edges::inst_index(x, pass.depth, names, pass.used);
@@ -342,10 +342,10 @@ fn inst_edges(
 // The summary of module m, made when it is first asked for: true where its pairs stand in the table, false where nothing is known of it, since it is
 // missing or in progress.
 #[cycle(branch_items_collect_item_collect_items_comb_summary_inst_edges_make_summary_repeat_items_repeat_rounds)]
-fn comb_summary(source: Source<'_>, m: u32, pass: Pass, k: &mut [u32]) -> Result<bool, Stop>
-    ensures asked_for { (kept : Kept) (busy : List ℕ) → Tabled source.entry.text.now source.entry.kinds.now source.entry.mods.now source.entry.count
+fn comb_summary(source: &Source, m: u32, pass: Pass, k: &mut [u32]) -> Result<bool, Stop>
+    ensures asked_for { (kept : Kept) (busy : List ℕ) → Tabled source.now.text.now source.now.kinds.now source.now.mods.now source.now.count
         → Keeps k.old kept busy
-        → AskedFor result k.new m busy (ask_walk pass.fuel (decode source.entry.text.now) busy kept m) }
+        → AskedFor result k.new m busy (ask_walk pass.fuel (decode source.now.text.now) busy kept m) }
     ensures ask_leaves { AskLeaves result k.old k.new }
 {
     if pass.fuel == 0 {
@@ -367,11 +367,11 @@ fn comb_summary(source: Source<'_>, m: u32, pass: Pass, k: &mut [u32]) -> Result
 
 // Makes the summary of module m: walks its items with tables of their own, and keeps what its outputs reach.
 #[cycle(branch_items_collect_item_collect_items_comb_summary_inst_edges_make_summary_repeat_items_repeat_rounds)]
-fn make_summary(source: Source<'_>, m: u32, pass: Pass, k: &mut [u32]) -> Result<bool, Stop>
-    ensures asked_for { (kept : Kept) (busy : List ℕ) → Tabled source.entry.text.now source.entry.kinds.now source.entry.mods.now source.entry.count
+fn make_summary(source: &Source, m: u32, pass: Pass, k: &mut [u32]) -> Result<bool, Stop>
+    ensures asked_for { (kept : Kept) (busy : List ℕ) → Tabled source.now.text.now source.now.kinds.now source.now.mods.now source.now.count
         → Keeps k.old kept busy
-        → m < source.entry.count → kept_summary kept m ≡ none → has_name m busy ≡ false
-        → AskedFor result k.new m busy (ask_walk (suc pass.fuel) (decode source.entry.text.now) busy kept m) }
+        → m < source.now.count → kept_summary kept m ≡ none → has_name m busy ≡ false
+        → AskedFor result k.new m busy (ask_walk (suc pass.fuel) (decode source.now.text.now) busy kept m) }
     ensures ask_leaves { AskLeaves result k.old k.new }
 {
     if 32768 < source.text.len() {
@@ -411,7 +411,7 @@ fn make_summary(source: Source<'_>, m: u32, pass: Pass, k: &mut [u32]) -> Result
 
 // Walks the items of module m in its own check, with 4,096 rounds. An accepted text has 32 modules at most.
 fn walk_module(
-    source: Source<'_>,
+    source: &Source,
     m: u32,
     names: &mut [u32],
     used: usize,
@@ -419,12 +419,12 @@ fn walk_module(
     g: &mut [u32],
     k: &mut [u32],
 ) -> Result<u32, Stop>
-    ensures ends { (x : Module) (kept : Kept) → WalkGiven source.entry.text.now source.entry.kinds.now source.entry.mods.now source.entry.count m
+    ensures ends { (x : Module) (kept : Kept) → WalkGiven source.now.text.now source.now.kinds.now source.now.mods.now source.now.count m
         names.old used own.old g.old k.old x kept
-        → Ends result (mode true x.bound) source.entry.text.now own.new g.new k.new [] (own_walk (decode source.entry.text.now) x kept) }
+        → Ends result (mode true x.bound) source.now.text.now own.new g.new k.new [] (own_walk (decode source.now.text.now) x kept) }
     ensures framed { Framed used names.old names.new × RoundsWithin result 4096 }
     ensures walk_leaves { WalkLeaves result true own.old own.new g.old g.new k.old k.new }
-    ensures walkable { Walkable (walk_number result) source.entry.text.now source.entry.count }
+    ensures walkable { Walkable (walk_number result) source.now.text.now source.now.count }
 {
     if 32768 < source.text.len() {
         places::clear_tables(own, g, k);
@@ -482,7 +482,7 @@ pub fn collect_module(
         mods,
         count,
     };
-    match walk_module(source, m, names, used, own, g, k) {
+    match walk_module(&source, m, names, used, own, g, k) {
         Ok(left) => Ok(Collected { used, left }),
         Err(e) => {
             graph::clear(names);
